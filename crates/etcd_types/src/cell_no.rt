@@ -1,0 +1,57 @@
+//! The numbers of cells.
+ghost use Rattle.std.specs.Prelude.{◌≡◌, ◌+◌, ◌*◌, ◌/◌, ◌%◌, ◌<◌, ◌^◌};
+
+use std::marker::Model;
+
+/// A cell's number in its region: the slot of its segment times 64, and its place there.
+#[derive(Clone, Copy, Debug, PartialEq, Eq)]
+pub struct CellNo {
+    number: u32,
+}
+
+impl Model for CellNo {
+    ghost use Rattle.std.specs.Prelude.{ℕ, ◌<◌, ◌^◌};
+
+    ghost Value = { ℕ };
+
+    ghost view = { λ c. c.number };
+
+    ghost invariant = { λ c. c.number < 2 ^ 20 };
+
+    ghost inverse = { λ n. record { number = n } };
+}
+
+impl CellNo {
+    /// The cell at a place of 64 in the segment of a slot.
+    pub fn at(slot: u32, place: u32) -> CellNo
+        requires slot { slot < 2 ^ 14 }
+        requires place { place < 64 }
+        ensures { result ≡ slot * 64 + place }
+    {
+        CellNo {
+            number: slot * 64 + place,
+        }
+    }
+
+    /// The number, below 2^20.
+    pub fn number(self) -> u32
+        ensures number { result ≡ self }
+        ensures small { result < 2 ^ 20 }
+    {
+        self.number
+    }
+
+    /// The slot of the cell's segment.
+    pub fn slot(self) -> u32
+        ensures { result ≡ self / 64 }
+    {
+        self.number / 64
+    }
+
+    /// The cell's place in its segment.
+    pub fn place(self) -> u32
+        ensures { result ≡ self % 64 }
+    {
+        self.number % 64
+    }
+}

@@ -1,0 +1,59 @@
+//! Keys with their values, and what watches tell of them.
+use crate::copy::{CopyOf, Mem};
+use crate::list::List;
+use std::alloc::Global;
+
+/// A key with its value, as it stands at a revision.
+#[derive(Debug, PartialEq, Eq, Drop)]
+pub struct KeyValue {
+    pub key: List<u8>,
+    /// The revision of the first put since the key was last deleted.
+    pub create_revision: u64,
+    /// The revision of the last put.
+    pub mod_revision: u64,
+    /// How many puts there were since the key was last deleted.
+    pub version: u64,
+    pub value: List<u8>,
+    /// The ID of the lease that the key is attached to, or 0.
+    pub lease: i64,
+}
+
+impl CopyOf for KeyValue {
+    fn copy_of(&self, alloc: Global) -> Mem<KeyValue> {
+        Ok(KeyValue {
+            key: self.key.copy_of(alloc)?,
+            create_revision: self.create_revision,
+            mod_revision: self.mod_revision,
+            version: self.version,
+            value: self.value.copy_of(alloc)?,
+            lease: self.lease,
+        })
+    }
+}
+
+/// What an event tells of its key.
+#[derive(Clone, Copy, Debug, PartialEq, Eq)]
+pub enum EventKind {
+    Put,
+    Delete,
+}
+
+/// One change, as a watch tells of it.
+#[derive(Debug, PartialEq, Eq, Drop)]
+pub struct Event {
+    pub kind: EventKind,
+    /// The row of a put; of a delete the key and its revision alone.
+    pub kv: KeyValue,
+    /// The row before the change, where the watch asked for it and it is not compacted.
+    pub prev_kv: Option<KeyValue>,
+}
+
+impl CopyOf for Event {
+    fn copy_of(&self, alloc: Global) -> Mem<Event> {
+        Ok(Event {
+            kind: self.kind,
+            kv: self.kv.copy_of(alloc)?,
+            prev_kv: self.prev_kv.copy_of(alloc)?,
+        })
+    }
+}

@@ -1,0 +1,65 @@
+//! What a client, a clock or a watch's reader may ask of one tenant.
+use crate::alarm::AlarmReq;
+use crate::copy::{CopyOf, Mem};
+use crate::kv::{DeleteReq, PutReq, RangeReq};
+use crate::lease::GrantReq;
+use crate::txn::TxnReq;
+use crate::watch::WatchReq;
+use std::alloc::Global;
+
+/// One step of a tenant's machine.
+#[derive(Debug, PartialEq, Eq, Drop)]
+pub enum Step {
+    Range(RangeReq),
+    Put(PutReq),
+    Delete(DeleteReq),
+    Txn(TxnReq),
+    /// Forgets what reads below this revision need.
+    Compact(i64),
+    Watch(WatchReq),
+    /// Takes the next response of the watch in this slot.
+    Take(u8),
+    /// Ends the watch in this slot.
+    DropWatch(u8),
+    Grant(GrantReq),
+    Revoke(i64),
+    KeepAlive(i64),
+    /// Asks how long a lease has to live, and for the keys that are attached to it.
+    TimeToLive { id: i64, keys: bool },
+    Leases,
+    Alarm(AlarmReq),
+    Status,
+    Defragment,
+    /// The clock has come to this moment, in seconds.
+    Tick(u64),
+    /// Prepares watch responses, looking at no more than this many changes.
+    CatchUp(u32),
+}
+
+impl CopyOf for Step {
+    fn copy_of(&self, alloc: Global) -> Mem<Step> {
+        Ok(match self {
+            Step::Range(request) => Step::Range(request.copy_of(alloc)?),
+            Step::Put(request) => Step::Put(request.copy_of(alloc)?),
+            Step::Delete(request) => Step::Delete(request.copy_of(alloc)?),
+            Step::Txn(request) => Step::Txn(request.copy_of(alloc)?),
+            Step::Compact(revision) => Step::Compact(*revision),
+            Step::Watch(request) => Step::Watch(request.copy_of(alloc)?),
+            Step::Take(slot) => Step::Take(*slot),
+            Step::DropWatch(slot) => Step::DropWatch(*slot),
+            Step::Grant(request) => Step::Grant(*request),
+            Step::Revoke(id) => Step::Revoke(*id),
+            Step::KeepAlive(id) => Step::KeepAlive(*id),
+            Step::TimeToLive { id, keys } => Step::TimeToLive {
+                id: *id,
+                keys: *keys,
+            },
+            Step::Leases => Step::Leases,
+            Step::Alarm(request) => Step::Alarm(*request),
+            Step::Status => Step::Status,
+            Step::Defragment => Step::Defragment,
+            Step::Tick(moment) => Step::Tick(*moment),
+            Step::CatchUp(budget) => Step::CatchUp(*budget),
+        })
+    }
+}

@@ -1,0 +1,95 @@
+//! Transactions.
+use crate::copy::{CopyOf, Mem};
+use crate::kv::{DeleteReq, PutReq, RangeReq};
+use crate::list::List;
+use std::alloc::Global;
+
+/// How a row has to stand to the operand of a compare.
+#[derive(Clone, Copy, Debug, PartialEq, Eq)]
+pub enum CompareResult {
+    Equal,
+    Greater,
+    Less,
+    NotEqual,
+}
+
+/// The target of a compare, with what it is compared with.
+#[derive(Debug, PartialEq, Eq, Drop)]
+pub enum Operand {
+    Version(i64),
+    Create(i64),
+    Mod(i64),
+    Value(List<u8>),
+    Lease(i64),
+}
+
+impl CopyOf for Operand {
+    fn copy_of(&self, alloc: Global) -> Mem<Operand> {
+        Ok(match self {
+            Operand::Version(number) => Operand::Version(*number),
+            Operand::Create(revision) => Operand::Create(*revision),
+            Operand::Mod(revision) => Operand::Mod(*revision),
+            Operand::Value(value) => Operand::Value(value.copy_of(alloc)?),
+            Operand::Lease(id) => Operand::Lease(*id),
+        })
+    }
+}
+
+/// A condition on every live row of an interval.
+#[derive(Debug, PartialEq, Eq, Drop)]
+pub struct Compare {
+    pub key: List<u8>,
+    pub range_end: List<u8>,
+    pub wanted: CompareResult,
+    pub operand: Operand,
+}
+
+impl CopyOf for Compare {
+    fn copy_of(&self, alloc: Global) -> Mem<Compare> {
+        Ok(Compare {
+            key: self.key.copy_of(alloc)?,
+            range_end: self.range_end.copy_of(alloc)?,
+            wanted: self.wanted,
+            operand: self.operand.copy_of(alloc)?,
+        })
+    }
+}
+
+/// One operation of a branch.
+#[derive(Debug, PartialEq, Eq, Drop)]
+pub enum Op {
+    Range(RangeReq),
+    Put(PutReq),
+    Delete(DeleteReq),
+    /// A transaction inside one, which is not offered. What it holds is not looked at.
+    Nested,
+}
+
+impl CopyOf for Op {
+    fn copy_of(&self, alloc: Global) -> Mem<Op> {
+        Ok(match self {
+            Op::Range(request) => Op::Range(request.copy_of(alloc)?),
+            Op::Put(request) => Op::Put(request.copy_of(alloc)?),
+            Op::Delete(request) => Op::Delete(request.copy_of(alloc)?),
+            Op::Nested => Op::Nested,
+        })
+    }
+}
+
+/// Compares, and the operations to run where all of them hold, or where one does not.
+#[derive(Debug, PartialEq, Eq, Drop)]
+pub struct TxnReq {
+    pub compare: List<Compare>,
+    pub success: List<Op>,
+    pub failure: List<Op>,
+}
+
+impl CopyOf for TxnReq {
+    fn copy_of(&self, alloc: Global) -> Mem<TxnReq> {
+        Ok(TxnReq {
+            compare: self.compare.copy_of(alloc)?,
+            success: self.success.copy_of(alloc)?,
+            failure: self.failure.copy_of(alloc)?,
+        })
+    }
+}
