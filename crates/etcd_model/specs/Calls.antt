@@ -1,0 +1,170 @@
+-- What a call's method, target and body ask for.
+-- etcd: the JSON gateway, under a tenant's path.
+use Rattle.std.specs.Prelude.{◌≡◌, ℕ, ◌==◌, ◌&&◌, not, List, [], ◌∷◌, length, drop, Bool, true, false, nat_lt, nat_eq, if◌then◌else◌, Option, Some, None, option_and_then, is_some, Result, Ok, Err, codes}
+use Rattle.std.specs.List.{starts_with, before_first}
+use Rattle.std.specs.Str.{is_utf8, bytes_eq}
+use Rattle.serde_json.specs.Data.{Data, null, boolean, number, string, array, object}
+use Rattle.serde_json.specs.Read as serde_json
+use Rattle.serde_json.specs.View.{view}
+use Rattle.serde_json.specs.declared.value.Value.{Value}
+use Rattle.etcd_types.specs.Limits.{max_body}
+use Rattle.etcd_types.specs.declared.call.Call.{Call}
+use Rattle.etcd_types.specs.declared.call.Call.TheVariants as call
+use Rattle.etcd_types.specs.declared.call.MemberName.TheVariants as name
+use Rattle.etcd_types.specs.declared.refusal.Refusal.{Refusal}
+use Rattle.etcd_types.specs.declared.refusal.Refusal.TheVariants.{NoPath, NotPost, NotOffered, TooLarge}
+use Rattle.etcd_types.specs.declared.step.Step.{Step}
+use Rattle.etcd_types.specs.declared.step.Step.TheVariants as step
+use Rattle.etcd_types.specs.declared.kv.PutReq.{PutReq}
+use Rattle.etcd_types.specs.declared.kv.RangeReq.{RangeReq}
+use Rattle.etcd_model.specs.Fields.{fields, is_empty}
+use Rattle.etcd_model.specs.Members.{IsAnswer, and_then, or_bad, member_of, named, read_bytes, read_signed, read_flag, read_order, read_target}
+use Rattle.etcd_model.specs.Offered.{is_built, is_offered}
+
+-- ---- paths
+
+-- the calls by what follows `/v3/`
+abbrev pub calls : List (List ℕ × Call)
+calls =
+    (codes "kv/range", call.Range) ∷ (codes "kv/put", call.Put) ∷ (codes "kv/deleterange", call.DeleteRange) ∷ (codes "kv/txn", call.Txn)
+    ∷ (codes "kv/compaction", call.Compaction) ∷ (codes "watch", call.Watch) ∷ (codes "lease/grant", call.Grant)
+    ∷ (codes "lease/revoke", call.Revoke) ∷ (codes "kv/lease/revoke", call.Revoke) ∷ (codes "lease/keepalive", call.KeepAlive)
+    ∷ (codes "lease/timetolive", call.TimeToLive) ∷ (codes "kv/lease/timetolive", call.TimeToLive)
+    ∷ (codes "lease/leases", call.Leases) ∷ (codes "kv/lease/leases", call.Leases)
+    ∷ (codes "maintenance/alarm", call.Alarm) ∷ (codes "maintenance/status", call.Status) ∷ (codes "maintenance/defragment", call.Defragment) ∷ []
+
+unfoldable pub call_of : List ℕ → Option Call
+call_of path = named path calls
+
+-- a tenant's name, and what follows `/v3/`
+pub record Target : Type 0 where
+  pub tenant : List ℕ
+  pub path : List ℕ
+
+-- a target's part before its query
+abbrev pub path_of : List ℕ → List ℕ
+path_of target = before_first (λ c. c == 63) target
+
+-- the name is not empty, and `/v3/` follows it
+abbrev pub split_at : List ℕ → List ℕ → Option Target
+split_at name rest = if not (is_empty name) && starts_with nat_eq rest (codes "/v3/") then Some (record { tenant = name; path = drop 4 rest }) else None
+
+abbrev pub after_root : List ℕ → Option Target
+after_root rest = let name = before_first (λ c. c == 47) rest in split_at name (drop (length name) rest)
+
+-- `/t/<tenant>/v3/<path>`
+unfoldable pub target_of : List ℕ → Option Target
+target_of target = if starts_with nat_eq (path_of target) (codes "/t/") then after_root (drop 3 (path_of target)) else None
+
+-- ---- bodies
+
+-- the JSON value of a body
+abbrev pub body_value : List ℕ → Option Data
+body_value body = if length body == 0 then Some null else (if is_utf8 body then serde_json.read body else None)
+
+-- a null stands for an object with no members
+abbrev pub as_members : Data → Option Data
+as_members null = Some null
+as_members (boolean b) = None
+as_members (number n) = None
+as_members (string s) = None
+as_members (array ds) = None
+as_members (object ms) = Some (object ms)
+
+unfoldable pub read_body : List ℕ → Result Data Refusal
+read_body body = or_bad (option_and_then as_members (body_value body))
+
+abbrev pub result_map : {A B : Type 0} → (A → B) → Result A Refusal → Result B Refusal
+result_map f (Ok x) = Ok (f x)
+result_map f (Err e) = Err e
+
+-- the value of a body that can be read is what was wanted, or memory ran out
+abbrev pub IsBody : Result Value Refusal → List ℕ → Type 0
+IsBody r body = IsAnswer (result_map view r) (read_body body)
+
+-- ---- requests
+
+unfoldable pub read_put : Data → Result PutReq Refusal
+read_put d =
+    and_then (read_bytes (member_of name.Key d)) (λ key.
+    and_then (read_bytes (member_of name.Value d)) (λ value.
+    and_then (read_signed (member_of name.Lease d)) (λ lease.
+    and_then (read_flag (member_of name.PrevKv d)) (λ prev_kv.
+    and_then (read_flag (member_of name.IgnoreValue d)) (λ ignore_value.
+    and_then (read_flag (member_of name.IgnoreLease d)) (λ ignore_lease.
+    Ok (record { key = key; value = value; lease = lease; prev_kv = prev_kv; ignore_value = ignore_value; ignore_lease = ignore_lease })))))))
+
+unfoldable pub read_range : Data → Result RangeReq Refusal
+read_range d =
+    and_then (read_bytes (member_of name.Key d)) (λ key.
+    and_then (read_bytes (member_of name.RangeEnd d)) (λ range_end.
+    and_then (read_signed (member_of name.Limit d)) (λ limit.
+    and_then (read_signed (member_of name.Revision d)) (λ revision.
+    and_then (read_order (member_of name.SortOrder d)) (λ sort_order.
+    and_then (read_target (member_of name.SortTarget d)) (λ sort_target.
+    and_then (read_flag (member_of name.Serializable d)) (λ serializable.
+    and_then (read_flag (member_of name.KeysOnly d)) (λ keys_only.
+    and_then (read_flag (member_of name.CountOnly d)) (λ count_only.
+    and_then (read_signed (member_of name.MinModRevision d)) (λ min_mod_revision.
+    and_then (read_signed (member_of name.MaxModRevision d)) (λ max_mod_revision.
+    and_then (read_signed (member_of name.MinCreateRevision d)) (λ min_create_revision.
+    and_then (read_signed (member_of name.MaxCreateRevision d)) (λ max_create_revision.
+    Ok (record {
+      key = key;
+      range_end = range_end;
+      limit = limit;
+      revision = revision;
+      sort_order = sort_order;
+      sort_target = sort_target;
+      serializable = serializable;
+      keys_only = keys_only;
+      count_only = count_only;
+      min_mod_revision = min_mod_revision;
+      max_mod_revision = max_mod_revision;
+      min_create_revision = min_create_revision;
+      max_create_revision = max_create_revision;
+    }))))))))))))))
+
+-- the step that a call's members ask for. What the other calls read is written when they are
+unfoldable pub read_members : Call → Data → Result Step Refusal
+read_members call.Put d = and_then (read_put d) (λ p. Ok (step.Put p))
+read_members call.Range d = and_then (read_range d) (λ q. Ok (step.Range q))
+read_members c d = Err NotOffered
+
+-- ---- calls
+
+-- the fields of a step that was read
+abbrev pub checked : Step → Option Refusal → Result Step Refusal
+checked s None = Ok s
+checked s (Some r) = Err r
+
+abbrev pub check_fields : Step → Result Step Refusal
+check_fields s = checked s (fields s)
+
+-- the size goes before the body
+abbrev pub within_size : List ℕ → Result Step Refusal → Result Step Refusal
+within_size body r = if nat_lt max_body (length body) then Err TooLarge else r
+
+-- the step of a call, by its body; a fault of any member goes before the fields
+unfoldable pub read_step : Call → List ℕ → Result Step Refusal
+read_step c body = within_size body (and_then (and_then (read_body body) (read_members c)) check_fields)
+
+-- a step that is not offered is refused so
+abbrev pub offered_only : Step → Result Step Refusal
+offered_only s = if is_offered s then Ok s else Err NotOffered
+
+-- a call that is not built is refused after its size, and before its body is read
+unfoldable pub read_built : Call → List ℕ → Result Step Refusal
+read_built c body = if is_built c then and_then (read_step c body) offered_only else within_size body (Err NotOffered)
+
+abbrev pub for_call : Option Call → (Call → Result Step Refusal) → Result Step Refusal
+for_call None f = Err NoPath
+for_call (Some c) f = f c
+
+-- the step that a path, which follows `/v3/`, and a body ask for, or why they are refused
+unfoldable pub read_call : List ℕ → List ℕ → Result Step Refusal
+read_call path body = for_call (call_of path) (λ c. read_built c body)
+
+-- the same, with the method, which goes after the path and before the body
+abbrev pub read_posted : List ℕ → List ℕ → List ℕ → Result Step Refusal
+read_posted method path body = for_call (call_of path) (λ c. if bytes_eq method (codes "POST") then read_built c body else Err NotPost)
