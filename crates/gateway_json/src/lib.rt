@@ -1,0 +1,2 @@
+//! From a call's path and body to the step that they ask for.
+#![tactic(auto)]

@@ -1,0 +1,2 @@
+//! From a reply to its status and text.
+#![tactic(auto)]

@@ -1,0 +1,2 @@
+//! What a step is refused for by its own fields.
+#![tactic(auto)]

@@ -1,0 +1,2 @@
+//! One tenant: a step is planned, and a plan is committed.
+#![tactic(auto)]
