@@ -1,0 +1,10 @@
+pub mod Terms
+mod PutRuns
+mod RevisionRuns
+mod CompactionRuns
+mod QuotaRuns
+mod TransactionRuns
+mod LeaseRuns
+mod WatchRuns
+mod RangeRuns
+mod OfferedRuns
