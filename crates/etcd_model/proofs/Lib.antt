@@ -8,3 +8,7 @@ mod LeaseRuns
 mod WatchRuns
 mod RangeRuns
 mod OfferedRuns
+pub mod OrderLaws
+pub mod RowLaws
+pub mod HistoryLaws
+pub mod PutLaws

@@ -84,8 +84,8 @@ live_quota :
     let T = record S { quota = 4 } in
     IsRun T (Status ⇒ StatusReply (at 4) 192 384 ∷ delete foo ⇒ deleted 5 1 ∷ put foo bar ⇒ Refused NoSpace ∷ [])
     × IsRun (record (state_after T (delete foo ∷ put foo bar ∷ [])) { quota = 256 })
-      (put foo bar ⇒ Refused NoSpace
-      ∷ alarm Deactivate SpaceAlarm 0 ⇒ AlarmsReply (at 5) true
-      ∷ put foo bar ⇒ done 6
-      ∷ [])
+    (put foo bar ⇒ Refused NoSpace
+    ∷ alarm Deactivate SpaceAlarm 0 ⇒ AlarmsReply (at 5) true
+    ∷ put foo bar ⇒ done 6
+    ∷ [])
 live_quota = (refl, refl)

@@ -25,7 +25,6 @@ use Rattle.etcd_model.specs.Machine.{State, opening, replies_to}
 -- ---- runs
 
 infix 70 ◌⇒◌
-
 -- a step with its answer
 abbrev pub ◌⇒◌ : Step → Reply → Step × Reply
 step ⇒ reply = (step, reply)

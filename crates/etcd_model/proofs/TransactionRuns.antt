@@ -30,7 +30,7 @@ compare_of_an_interval = refl
 
 reads_its_writes : IsRun fresh
     (txn [] (PutOp (put_of a one) ∷ RangeOp (range_of a []) ∷ DeleteOp (delete_of b []) ∷ []) []
-      ⇒ TxnReply (at 2) true (PutAnswer (pos 2) None ∷ RangeAnswer (pos 2) 1 (row a 2 2 one 1 ∷ []) false ∷ DeleteAnswer (pos 2) 0 [] ∷ [])
+    ⇒ TxnReply (at 2) true (PutAnswer (pos 2) None ∷ RangeAnswer (pos 2) 1 (row a 2 2 one 1 ∷ []) false ∷ DeleteAnswer (pos 2) 0 [] ∷ [])
     ∷ txn [] (PutOp (put_of a one) ∷ DeleteOp (delete_of a b) ∷ []) [] ⇒ Refused DuplicateKey
     ∷ [])
 reads_its_writes = refl
