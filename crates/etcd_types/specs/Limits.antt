@@ -1,6 +1,6 @@
 -- The limits that definitions cite.
 use Rattle.std.specs.Prelude.{ℕ, ℤ}
-use Rattle.etcd_types.specs.declared.limits.TheConstants.{LAST_MOMENT, RESPONSE_REVISIONS, MAX_OPS, MAX_TTL, LAST_REVISION, LAST_LEASE_ID, CELL_BYTES, WATCH_SLOTS, MAX_BODY}
+use Rattle.etcd_types.specs.declared.limits.TheConstants.{LAST_MOMENT, RESPONSE_REVISIONS, MAX_OPS, MAX_TTL, LAST_REVISION, LAST_LEASE_ID, CELL_BYTES, WATCH_SLOTS, MAX_BODY, MAX_SCRIPT_LINE, MAX_NAME, MIN_QUOTA, MAX_QUOTA}
 
 abbrev pub max_ops : ℕ
 max_ops = MAX_OPS
@@ -28,3 +28,15 @@ response_revisions = RESPONSE_REVISIONS
 
 abbrev pub max_body : ℕ
 max_body = MAX_BODY
+
+abbrev pub max_script_line : ℕ
+max_script_line = MAX_SCRIPT_LINE
+
+abbrev pub max_name : ℕ
+max_name = MAX_NAME
+
+abbrev pub min_quota : ℕ
+min_quota = MIN_QUOTA
+
+abbrev pub max_quota : ℕ
+max_quota = MAX_QUOTA
