@@ -1,0 +1,5 @@
+pub mod BodyLemmas
+pub mod PathLemmas
+pub mod SpellingLemmas
+pub mod SignedLemmas
+pub mod TableLemmas

@@ -1,2 +1,17 @@
-//! From a call's path and body to the step that they ask for.
+//! From a request's method, target and body to the step that it asks for.
 #![tactic(auto)]
+
+mod body;
+mod call;
+mod choice;
+mod kv;
+mod member;
+mod names;
+mod paths;
+mod spelling;
+#[cfg(test)]
+mod tests;
+
+pub use call::{read_call, read_posted, read_step};
+pub use paths::{Target, call_of, target_of};
+pub use spelling::bytes_of_text;

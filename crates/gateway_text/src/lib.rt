@@ -1,2 +1,18 @@
 //! From a reply to its status and text.
 #![tactic(auto)]
+
+mod header;
+mod leases;
+mod list;
+mod member;
+mod refusal;
+mod replies;
+mod responses;
+mod rows;
+mod size;
+mod streams;
+#[cfg(test)]
+mod tests;
+
+pub use refusal::{MEMORY_TEXT, memory_text};
+pub use replies::write_reply;

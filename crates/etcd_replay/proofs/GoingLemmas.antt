@@ -1,0 +1,137 @@
+-- A replay goes on line by line.
+use Rattle.std.proofs.Common.{◌≡◌, ◌≢◌, ◌∙◌, sym, ap, subst, refl, ℕ, ◌+◌, ◌<◌, List, [], ◌∷◌, ◌++◌, append_assoc, append-nil, length, length-append, Option, None, Some, IfSome, arith, lt-ltb, eq-eqb, true, false, flat_map, map}
+use Rattle.std.proofs.lemmas.List.{map-append}
+use Rattle.std.proofs.lemmas.Grind.{flat_map-append}
+use Rattle.std.proofs.KnownBytes.{Appends-nil, Appends-trans}
+use Rattle.std.specs.Io.KnownBytes.{Appends}
+use Rattle.std.specs.Io.BufRead.{take_through, drop_through, strip_last, DropsThrough}
+use Rattle.etcd_types.specs.Limits.{max_script_line}
+use Rattle.etcd_replay.specs.declared.answer.LineAnswer.{LineAnswer}
+use Rattle.std.specs.Prelude.{Result, Ok, Err, IfErr, ◌==◌}
+use borrow.Author.Tests.{eqb-true}
+use Rattle.etcd_replay.specs.declared.lines.Taken.{Taken}
+use Rattle.etcd_replay.specs.declared.lines.Taken.TheVariants.{Line, TooLong}
+use Rattle.etcd_replay.specs.declared.replay.Tenant.{Tenant}
+use Rattle.etcd_replay.specs.Script.{Asked, lines_of, read_line}
+use Rattle.etcd_replay.specs.Answers.{line_of}
+use Rattle.etcd_replay.specs.Replaying.{LineTurn, Tells, IsReplayed}
+use Rattle.etcd_replay.specs.Written.{Wrote, StopsAt, StopsAmong}
+use Rattle.etcd_replay.specs.Going.{Going}
+use Rattle.etcd_replay.proofs.FirstLine.{first_line, at_end}
+use Rattle.etcd_replay.proofs.Replayed.{replayed_push}
+
+abbrev written : LineTurn → List ℕ
+written x = line_of x.answer
+
+abbrev asked_line : LineTurn → Option Asked
+asked_line x = Some x.asked
+
+pub going_first : (o old : Option (List ℕ)) → IfSome o (λ script. Going script o old old None 0)
+going_first None old = tt
+going_first (Some script) old = record { done = []; rest = script; remains = refl; lines = refl; number = refl; turns = []; read = refl; replayed = tt; text = Appends-nil old }
+
+-- what is taken is the first line of what is left
+module _ (script : List ℕ) (now old new : Option (List ℕ)) (tenant : Option Tenant) (n : ℕ) (going : Going script now old new tenant n) where
+  taken_is : (line : List ℕ) → IfSome now (λ xs. line ≡ take_through 10 xs) → line ≡ take_through 10 going.rest
+  taken_is line taken = subst (λ o. IfSome o (λ xs. line ≡ take_through 10 xs)) going.remains taken
+
+  first_is : (line : List ℕ) → IfSome now (λ xs. line ≡ take_through 10 xs) → line ≢ [] → lines_of going.rest ≡ strip_last 10 line ∷ lines_of (drop_through 10 going.rest)
+  first_is line taken some =
+      let is = taken_is line taken in
+      subst (λ l. lines_of going.rest ≡ strip_last 10 l ∷ lines_of (drop_through 10 going.rest)) (sym is) (first_line going.rest (λ e. some (is ∙ e)))
+
+  so_far : Wrote old new going.done
+  so_far = record { turns = going.turns; last = tenant; read = going.read; replayed = going.replayed; text = going.text }
+
+pub going_more : (o now next old mid new : Option (List ℕ)) (before after : Option Tenant) (n : ℕ) (line : List ℕ) (q : Asked) (a : LineAnswer)
+    → IfSome o (λ script. Going script now old mid before n) → IfSome now (λ xs. line ≡ take_through 10 xs) → DropsThrough now next 10 → line ≢ []
+    → read_line (strip_last 10 line) ≡ Some q → Tells before q a after → Appends mid new (line_of a)
+    → IfSome o (λ script. Going script next old new after (n + 1))
+going_more None now next old mid new before after n line q a going taken drops some is tells wrote = tt
+going_more (Some script) now next old mid new before after n line q a going taken drops some is tells wrote =
+    let g : Going script now old mid before n = going in
+    let x : LineTurn = record { asked = q; answer = a } in
+    let first = first_is script now old mid before n g line taken some in
+    record {
+      done = g.done ++ strip_last 10 line ∷ [];
+      rest = drop_through 10 g.rest;
+      remains = subst (λ o. DropsThrough o next 10) g.remains drops;
+      lines = g.lines ∙ ap (λ ls. g.done ++ ls) first ∙ sym (append_assoc g.done (strip_last 10 line ∷ []) (lines_of (drop_through 10 g.rest)));
+      number = omega (arith, length-append g.done (strip_last 10 line ∷ []), g.number);
+      turns = g.turns ++ x ∷ [];
+      read = map-append read_line g.done (strip_last 10 line ∷ []) ∙ (λ i. g.read i ++ is i ∷ []) ∙ sym (map-append asked_line g.turns (x ∷ []));
+      replayed = replayed_push g.turns before after q a g.replayed tells;
+      text = subst (Appends old new) (sym (flat_map-append written g.turns (x ∷ [])))
+          (Appends-trans old mid new (flat_map written g.turns) (flat_map written (x ∷ [])) g.text (subst (Appends mid new) (sym (append-nil (line_of a))) wrote));
+    }
+
+pub going_ends : (o now old new : Option (List ℕ)) (tenant : Option Tenant) (n : ℕ) (line : List ℕ) → IfSome o (λ script. Going script now old new tenant n)
+    → IfSome now (λ xs. line ≡ take_through 10 xs) → line ≡ [] → IfSome o (λ script. Wrote old new (lines_of script))
+going_ends None now old new tenant n line going taken none = tt
+going_ends (Some script) now old new tenant n line going taken none =
+    let g : Going script now old new tenant n = going in
+    let over = at_end g.rest (sym (taken_is script now old new tenant n g line taken) ∙ none) in
+    let all : lines_of script ≡ g.done = g.lines ∙ ap (λ xs. g.done ++ lines_of xs) over ∙ append-nil g.done in
+    subst (Wrote old new) (sym all) (so_far script now old new tenant n g)
+
+pub going_stops : (o now old new : Option (List ℕ)) (tenant : Option Tenant) (n m : ℕ) (line : List ℕ) → IfSome o (λ script. Going script now old new tenant n)
+    → IfSome now (λ xs. line ≡ take_through 10 xs) → line ≢ [] → read_line (strip_last 10 line) ≡ None → n + 1 ≡ m → IfSome o (λ script. StopsAt m script old new)
+going_stops None now old new tenant n m line going taken some unread number = tt
+going_stops (Some script) now old new tenant n m line going taken some unread number =
+    let g : Going script now old new tenant n = going in
+    record {
+      before = g.done;
+      line = strip_last 10 line;
+      rest = lines_of (drop_through 10 g.rest);
+      lines = g.lines ∙ ap (λ ls. g.done ++ ls) (first_is script now old new tenant n g line taken some);
+      number = omega (arith, g.number, number);
+      unread = unread;
+      wrote = so_far script now old new tenant n g;
+    }
+
+pub going_among : (o now old new : Option (List ℕ)) (tenant : Option Tenant) (n : ℕ) → IfSome o (λ script. Going script now old new tenant n) → IfSome o (λ script. StopsAmong script old new)
+going_among None now old new tenant n going = tt
+going_among (Some script) now old new tenant n going =
+    let g : Going script now old new tenant n = going in
+    record { before = g.done; rest = lines_of g.rest; lines = g.lines; wrote = so_far script now old new tenant n g }
+
+-- ---- a line that is too long
+
+too_long_unread : (text : List ℕ) → max_script_line < length text → read_line text ≡ None
+unfolding read_line
+too_long_unread text long = rw (lt-ltb max_script_line (length text) long) refl
+
+pub going_long : (o now old new : Option (List ℕ)) (tenant : Option Tenant) (n m : ℕ) → IfSome o (λ script. Going script now old new tenant n)
+    → IfSome now (λ xs. max_script_line < length (strip_last 10 (take_through 10 xs))) → n + 1 ≡ m → IfSome o (λ script. StopsAt m script old new)
+going_long None now old new tenant n m going long number = tt
+going_long (Some script) now old new tenant n m going long number =
+    let g : Going script now old new tenant n = going in
+    let line = take_through 10 g.rest in
+    let long_line : max_script_line < length (strip_last 10 line) = subst (λ o. IfSome o (λ xs. max_script_line < length (strip_last 10 (take_through 10 xs)))) g.remains long in
+    let taken : IfSome now (λ xs. line ≡ take_through 10 xs) = subst (λ o. IfSome o (λ xs. line ≡ take_through 10 xs)) (sym g.remains) refl in
+    let some : line ≢ [] = λ e. not_short (ap (λ l. length (strip_last 10 l)) e) long_line in
+    going_stops (Some script) now old new tenant n m line g taken some (too_long_unread (strip_last 10 line) long_line) number
+  where
+    not_short : {k : ℕ} → k ≡ 0 → max_script_line < k → ⊥
+    not_short e h = omega (arith, e, h)
+
+-- ---- facts of values
+
+pub if_err : {T E : Type 0} (r : Result T E) (P : E → Type 0) → ((e : E) → P e) → IfErr r P
+if_err (Ok x) P all = tt
+if_err (Err e) P all = all e
+
+pub line_taken : (t : Taken) → (t ≡ TooLong → ⊥) → t ≡ Line
+line_taken Line short = refl
+line_taken TooLong short = absurd (short refl)
+
+pub empty_is : (n : ℕ) (xs : List ℕ) → n ≡ length xs → (n == 0) ≡ true → xs ≡ []
+empty_is n [] len zero = refl
+empty_is n (x ∷ xs) len zero = let none : n ≡ 0 = eqb-true n 0 zero in absurd (omega (arith, len, none))
+
+pub full_is : (n : ℕ) (xs : List ℕ) → n ≡ length xs → (n == 0) ≡ false → xs ≢ []
+full_is n [] len some = λ _. true_is_not (sym (eq-eqb n 0 len) ∙ some)
+  where
+    true_is_not : true ≡ false → ⊥
+    true_is_not h = cc
+full_is n (x ∷ xs) len some = λ h. cc

@@ -1,0 +1,5 @@
+pub mod LineLemmas
+pub mod NumberLemmas
+pub mod FirstLine
+pub mod Replayed
+pub mod GoingLemmas

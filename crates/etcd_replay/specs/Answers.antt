@@ -1,0 +1,28 @@
+-- What is answered to a line, and the answer line that is written.
+use Rattle.std.specs.Prelude.{ℕ, List, [], ◌∷◌, ◌++◌, decimal, codes, if◌then◌else◌}
+use Rattle.std.specs.Io.BufRead.{ends_with_byte}
+use Rattle.etcd_model.specs.ReplyText.{Answer}
+use Rattle.etcd_replay.specs.declared.answer.AddFault.{AddFault}
+use Rattle.etcd_replay.specs.declared.answer.AddFault.TheVariants.{Name, Limits, Memory}
+use Rattle.etcd_replay.specs.declared.answer.LineAnswer.{LineAnswer}
+use Rattle.etcd_replay.specs.declared.answer.LineAnswer.TheVariants.{Done, No, Told}
+
+abbrev pub word_of : AddFault → List ℕ
+word_of Name = codes "name"
+word_of Limits = codes "limits"
+word_of Memory = codes "memory"
+
+-- a newline, unless the text ends with one
+abbrev pub ended : List ℕ → List ℕ
+ended text = if ends_with_byte 10 text then text else text ++ 10 ∷ []
+
+-- the rest of the line after a status: a space and the body, where there is one, and a newline unless the body ends with one
+abbrev pub body_line : List ℕ → List ℕ
+body_line [] = 10 ∷ []
+body_line (b ∷ bs) = 32 ∷ ended (b ∷ bs)
+
+-- the answer line
+abbrev pub line_of : LineAnswer → List ℕ
+line_of Done = codes "ok\n"
+line_of (No fault) = codes "no " ++ word_of fault ++ 10 ∷ []
+line_of (Told a) = decimal a.status ++ body_line a.body

@@ -1,0 +1,32 @@
+-- What a replay writes: one answer line for each line of its script, and nothing else.
+use Rattle.std.specs.Prelude.{◌≡◌, ℕ, ◌+◌, List, [], ◌∷◌, ◌++◌, length, map, flat_map, Option, None, Some}
+use Rattle.std.specs.Io.KnownBytes.{Appends}
+use Rattle.etcd_replay.specs.declared.replay.Tenant.{Tenant}
+use Rattle.etcd_replay.specs.Script.{lines_of, read_line}
+use Rattle.etcd_replay.specs.Answers.{line_of}
+use Rattle.etcd_replay.specs.Replaying.{LineTurn, IsReplayed}
+
+-- these lines can all be read, and what was written is their answers
+pub record Wrote (old new : Option (List ℕ)) (lines : List (List ℕ)) : Type 0 where
+  pub turns : List LineTurn
+  pub last : Option Tenant
+  pub read : map read_line lines ≡ map (λ x. Some x.asked) turns
+  pub replayed : IsReplayed turns last
+  pub text : Appends old new (flat_map (λ x. line_of x.answer) turns)
+
+-- the n-th line is the first that can't be read, and the lines before it are answered
+pub record StopsAt (n : ℕ) (script : List ℕ) (old new : Option (List ℕ)) : Type 0 where
+  pub before : List (List ℕ)
+  pub line : List ℕ
+  pub rest : List (List ℕ)
+  pub lines : lines_of script ≡ before ++ line ∷ rest
+  pub number : length before + 1 ≡ n
+  pub unread : read_line line ≡ None
+  pub wrote : Wrote old new before
+
+-- some lines are answered, and the others are not
+pub record StopsAmong (script : List ℕ) (old new : Option (List ℕ)) : Type 0 where
+  pub before : List (List ℕ)
+  pub rest : List (List ℕ)
+  pub lines : lines_of script ≡ before ++ rest
+  pub wrote : Wrote old new before

@@ -1,0 +1,188 @@
+//! The tenant of a script, and what it answers.
+ghost use Rattle.std.specs.Prelude.{◌≡◌, ◌≢◌, ◌↔◌, ◌≤◌, ◌+◌, ℕ, IsTrue, IfErr, IfOk, OnOk, OnErr, Some, None, Ok, false, is_some, length};
+ghost use Rattle.std.specs.List.{list_all};
+ghost use Rattle.etcd_model.specs.Machine.{opening};
+ghost use Rattle.etcd_model.specs.Alone.{Called, is_of, is_unanswered};
+ghost use Rattle.etcd_model.specs.Calls.{call_of, read_posted, target_of};
+ghost use Rattle.etcd_model.specs.ReplyText.{text};
+ghost use Rattle.tenant_machine.specs.Newest.{Newest, Holds};
+ghost use Rattle.etcd_replay.specs.Script.{asked_by};
+ghost use Rattle.etcd_replay.specs.Replaying.{add_fault, is_name, is_name_byte, within_limits, refused_call, nobody, IsAdded, IsCalled, IsServed, Opens, Serves, Tells};
+
+use crate::answer::{AddFault, Answer, Body, LineAnswer};
+use crate::script::Line;
+use etcd_types::limits::{LAST_REVISION, MAX_NAME, MAX_QUOTA, MIN_QUOTA};
+use etcd_types::{List, Refusal, Reply, Step};
+use gateway_json::{call_of, read_posted, target_of};
+use gateway_text::{memory_text, write_reply};
+use std::alloc::Global;
+use tenant_machine::Machine;
+
+/// A tenant, by its name.
+#[derive(Drop)]
+pub(crate) struct Tenant {
+    name: List<u8>,
+    machine: Machine,
+}
+
+/// A script's tenant, once it is added. There is one for now.
+#[derive(Drop)]
+pub(crate) struct Replay {
+    pub(crate) tenant: Option<Tenant>,
+}
+
+impl Replay {
+    pub(crate) fn new() -> Replay
+        ensures { result.tenant ≡ None }
+    {
+        Replay { tenant: None }
+    }
+
+    /// Answers one line.
+    pub(crate) fn answer(&mut self, alloc: Global, line: &Line<'_>) -> LineAnswer
+        ensures { Tells self.old.tenant (asked_by line.now) result self.new.tenant }
+    {
+        match *line {
+            Line::Add {
+                name,
+                cluster,
+                quota,
+                first,
+            } => match self.add(alloc, name, cluster, quota, first) {
+                Ok(()) => LineAnswer::Done,
+                Err(fault) => LineAnswer::No(fault),
+            },
+            Line::Call {
+                method,
+                target,
+                body,
+            } => LineAnswer::Told(self.call(alloc, method, target, body)),
+        }
+    }
+
+    /// Adds the tenant. After a fault nothing changed.
+    fn add(
+        &mut self,
+        alloc: Global,
+        name: &[u8],
+        cluster: u64,
+        quota: u64,
+        first: u64,
+    ) -> Result<(), AddFault>
+        ensures free { OnOk result (add_fault (is_some self.old.tenant) name.now cluster quota first ≡ None) }
+        ensures opens { OnOk result (Opens name.now cluster quota first self.new.tenant) }
+        ensures fault { IfErr result (λ f. f ≢ AddFault.Memory → add_fault (is_some self.old.tenant) name.now cluster quota first ≡ Some f) }
+        ensures err { OnErr result (self.new ≡ self.old) }
+    {
+        if !is_name(name) {
+            return Err(AddFault::Name);
+        }
+        if !within_limits(cluster, quota, first) || self.tenant.is_some() {
+            return Err(AddFault::Limits);
+        }
+        let Ok(name) = List::from_slice(alloc, name) else {
+            return Err(AddFault::Memory);
+        };
+        let Ok(machine) = Machine::new(alloc, cluster, quota as u32, first as i64) else {
+            return Err(AddFault::Memory);
+        };
+        self.tenant = Some(Tenant { name, machine });
+        Ok(())
+    }
+
+    /// Answers a call: the path, the tenant and the method are looked at in this order, before the body.
+    fn call(&mut self, alloc: Global, method: &[u8], target: &[u8], body: &[u8]) -> Answer
+        ensures { IsCalled self.old.tenant (Called method.now target.now body.now) result self.new.tenant }
+    {
+        let Some(target) = target_of(target) else {
+            return refuse(alloc, Refusal::NoPath);
+        };
+        match &mut self.tenant {
+            Some(tenant) if tenant.name.as_slice() == target.tenant => {
+                tenant.call(alloc, method, target.path, body)
+            }
+            _ => refuse(alloc, refused_call(target.path)),
+        }
+    }
+}
+
+impl Tenant {
+    fn call(&mut self, alloc: Global, method: &[u8], path: &[u8], body: &[u8]) -> Answer
+        ensures serves { Serves self.old.machine (read_posted method.now path.now body.now) result self.new.machine }
+        ensures named { self.new.name ≡ self.old.name }
+    {
+        match read_posted(alloc, method, path, body) {
+            Ok(step) => self.step(alloc, &step),
+            Err(refusal) => refuse(alloc, refusal),
+        }
+    }
+
+    /// Plans a step, writes its reply, and only then commits it: what finds no memory has changed nothing.
+    fn step(&mut self, alloc: Global, step: &Step) -> Answer
+        ensures serves { Serves self.old.machine (Ok step.now) result self.new.machine }
+        ensures named { self.new.name ≡ self.old.name }
+    {
+        let Ok(planned) = self.machine.plan(alloc, step) else {
+            return no_memory();
+        };
+        let Ok((status, body)) = write_reply(alloc, planned.reply()) else {
+            return no_memory();
+        };
+        let _ = self.machine.commit(planned);
+        Answer {
+            status,
+            body: Body::Made(body),
+        }
+    }
+}
+
+/// Why a call of a tenant that is not there is refused.
+fn refused_call(path: &[u8]) -> Refusal
+    ensures { result ≡ refused_call (call_of path.now) }
+{
+    match call_of(path) {
+        None => Refusal::NoPath,
+        Some(_) => Refusal::NoTenant,
+    }
+}
+
+fn refuse(alloc: Global, refusal: Refusal) -> Answer
+    ensures { is_unanswered result ≡ false → result ≡ text (Reply.Refused refusal) }
+{
+    match write_reply(alloc, &Reply::Refused(refusal)) {
+        Ok((status, body)) => Answer {
+            status,
+            body: Body::Made(body),
+        },
+        Err(_) => no_memory(),
+    }
+}
+
+fn no_memory() -> Answer
+    ensures { result ≡ text (Reply.Refused Refusal.Memory) }
+{
+    Answer {
+        status: 503,
+        body: Body::Fixed(memory_text()),
+    }
+}
+
+fn is_name(name: &[u8]) -> bool
+    ensures { result ≡ is_name name.now }
+{
+    !name.is_empty() && name.len() <= MAX_NAME && are_name_bytes(name)
+}
+
+fn are_name_bytes(name: &[u8]) -> bool
+    ensures { result ≡ list_all is_name_byte name.now }
+{
+    name.iter().all(|byte| { byte.is_ascii_lowercase() || byte.is_ascii_digit() || *byte == b'-' })
+}
+
+fn within_limits(cluster: u64, quota: u64, first: u64) -> bool
+    ensures { result ≡ within_limits cluster quota first }
+{
+    cluster > 0
+        && (MIN_QUOTA <= quota && quota <= MAX_QUOTA)
+        && (first > 0 && first <= LAST_REVISION)
+}

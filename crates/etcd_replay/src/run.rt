@@ -1,0 +1,46 @@
+//! Answers a script's lines in turn.
+ghost use Rattle.std.specs.Prelude.{◌≡◌, ℕ, IfErr, IfSome, OnOk};
+ghost use Rattle.etcd_replay.specs.Script.{lines_of};
+ghost use Rattle.etcd_replay.specs.Written.{Wrote, StopsAt, StopsAmong};
+
+use crate::answer::write_answer;
+use crate::fault::ReplayFault;
+use crate::lines::{Taken, take_line, without_newline};
+use crate::replay::Replay;
+use crate::script::read_line;
+use std::alloc::Global;
+use std::io::{BufRead, Write};
+
+/// Answers the lines of a script in turn, and writes one answer line for each. One line is held at a
+/// time.
+///
+/// It ends early at the first line that can't be read, at a fault of the reader or the writer, after
+/// 4,294,967,295 lines, and where a line can't be held.
+pub fn run<R: BufRead, W: Write>(
+    alloc: Global,
+    reader: &mut R,
+    writer: &mut W,
+) -> Result<(), ReplayFault>
+    ensures ok { OnOk result (IfSome (R.remaining reader.old) (λ script. Wrote (W.contents writer.old) (W.contents writer.new) (lines_of script))) }
+    ensures line { IfErr result (λ f. (n : ℕ) → f ≡ ReplayFault.Line n → IfSome (R.remaining reader.old) (λ script. StopsAt n script (W.contents writer.old) (W.contents writer.new))) }
+    ensures memory { IfErr result (λ f. f ≡ ReplayFault.Memory → IfSome (R.remaining reader.old) (λ script. StopsAmong script (W.contents writer.old) (W.contents writer.new))) }
+{
+    let mut replay = Replay::new();
+    let mut text = Vec::new(alloc);
+    for n in 0..u32::MAX {
+        if let Taken::TooLong = take_line(reader, &mut text)? {
+            return Err(ReplayFault::Line(n + 1));
+        }
+        if text.is_empty() {
+            return Ok(());
+        }
+        let Some(line) = read_line(without_newline(&text)) else {
+            return Err(ReplayFault::Line(n + 1));
+        };
+        let answer = replay.answer(alloc, &line);
+        let Ok(()) = write_answer(writer, &answer) else {
+            return Err(ReplayFault::Io);
+        };
+    }
+    Err(ReplayFault::Io)
+}

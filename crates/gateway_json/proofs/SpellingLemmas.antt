@@ -1,0 +1,57 @@
+-- Decoding by the strict engine without padding.
+use Rattle.std.proofs.Common.{◌≡◌, ℕ, zero, suc, ◌<◌, ◌-◌, ◌%◌, ◌==◌, ◌↔◌, List, [], ◌∷◌, Some, None, refl, ap, sym, ◌∙◌, subst, Result, Ok, Err, map, length, take, slice_index, Bool, true, false, if◌then◌else◌, Option, arith, lit<}
+use Rattle.std.proofs.lemmas.Bool.{and_parts, eqb-true}
+use Rattle.std.specs.List.{list_all}
+use Rattle.std.specs.Result.{result_ok}
+use Rattle.base64.specs.declared.decode.DecodeError.{DecodeError}
+use Rattle.base64.specs.Engines.{standard_no_pad}
+use Rattle.base64.specs.GeneralPurpose.{IsBytes, decode_of, encode_of}
+use Rattle.base64.proofs.EngineFacts.{decode_of_iff}
+use Rattle.etcd_model.specs.Spelling.{Spells, spelled_bytes, standard_symbol, symbols_of, without_equals, without_padding}
+
+ok_part : (r : Result (List ℕ) DecodeError) (b : List ℕ) → result_ok r ≡ Some b → r ≡ Ok b
+ok_part (Ok x) b e = cc
+ok_part (Err x) b e = cc
+
+either_small : (b : Bool) (x y : ℕ) → x < 256 → y < 256 → (if b then x else y) < 256
+either_small true x y p q = p
+either_small false x y p q = q
+
+symbol_small : (x : ℕ) → x < 256 → standard_symbol x < 256
+symbol_small x h = either_small (x == 45) 43 _ (lit< tt) (either_small (x == 95) 47 x (lit< tt) h)
+
+bytes_map : (s : List ℕ) → IsBytes s → IsBytes (map standard_symbol s)
+bytes_map [] h i = lit< tt
+bytes_map (x ∷ s) h zero = symbol_small x (h 0)
+bytes_map (x ∷ s) h (suc i) = bytes_map s (λ k. h (suc k)) i
+
+bytes_take : (n : ℕ) (s : List ℕ) → IsBytes s → IsBytes (take n s)
+bytes_take zero s h i = lit< tt
+bytes_take (suc n) [] h i = lit< tt
+bytes_take (suc n) (x ∷ s) h zero = h 0
+bytes_take (suc n) (x ∷ s) h (suc i) = bytes_take n s (λ k. h (suc k)) i
+
+bytes_if : (b : Bool) (x y : List ℕ) → IsBytes x → IsBytes y → IsBytes (if b then x else y)
+bytes_if true x y p q = p
+bytes_if false x y p q = q
+
+bytes_without_equals : (s : List ℕ) → IsBytes s → IsBytes (without_equals s)
+bytes_without_equals s h = bytes_if (slice_index s (length s - 1) == 61) _ s (bytes_take _ s h) h
+
+pub bytes_symbols : (s : List ℕ) → IsBytes s → IsBytes (symbols_of s)
+bytes_symbols s h = bytes_map _ (bytes_if (length s % 4 == 0) _ s (bytes_without_equals _ (bytes_without_equals s h)) h)
+
+-- A text spells bytes exactly where they are what it decodes to.
+pub spelled_bytes_iff : (s : List ℕ) → IsBytes s → (b : List ℕ) → IsBytes b → (spelled_bytes s ≡ Some b) ↔ Spells s b
+unfolding spelled_bytes
+spelled_bytes_iff s text b bytes =
+    let both = decode_of_iff standard_no_pad (symbols_of s) b (refl, refl) (bytes_symbols s text) bytes in
+    (λ h. both.0 (ok_part _ b h), λ h. ap result_ok (both.1 h))
+
+-- Symbols that all are standard stay as they are.
+pub standard_already : (s : List ℕ) → list_all (λ c. c == standard_symbol c) s ≡ true → map standard_symbol s ≡ s
+standard_already [] h = refl
+standard_already (c ∷ s) h =
+    let parts = and_parts _ _ h in
+    let first : c ≡ standard_symbol c = eqb-true _ _ parts.0 in
+    let rest = standard_already s parts.1 in (cc)

@@ -1,0 +1,34 @@
+//! The JSON value of a body.
+ghost use Rattle.std.specs.Prelude.{◌≡◌, Ok};
+ghost use Rattle.serde_json.specs.View.{view};
+ghost use Rattle.etcd_model.specs.Calls.{IsBody};
+
+use etcd_types::Refusal;
+use serde_json::Value;
+use std::alloc::Global;
+
+/// The object of a body; a null stands for one with no members.
+#[tactic(auto, unfolding(etcd_model::specs::Calls::read_body), using(crate::proofs::BodyLemmas::body_value_read, crate::proofs::BodyLemmas::body_value_refused))]
+pub(crate) fn read_body(alloc: Global, body: &[u8]) -> Result<Value, Refusal>
+    ensures { IsBody result body.now }
+{
+    if body.is_empty() {
+        return Ok(Value::Null);
+    }
+    match Value::from_slice(alloc, body) {
+        Ok(value) => {
+            if value.is_object() || value.is_null() {
+                Ok(value)
+            } else {
+                Err(Refusal::BadBody)
+            }
+        }
+        Err(error) => {
+            if error.is_memory() {
+                Err(Refusal::Memory)
+            } else {
+                Err(Refusal::BadBody)
+            }
+        }
+    }
+}

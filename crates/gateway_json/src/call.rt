@@ -1,0 +1,117 @@
+//! The calls: which are built, and the steps that their bodies ask for.
+ghost use Rattle.std.specs.Prelude.{◌≡◌, Ok, Err, nat_lt, length, if◌then◌else◌};
+ghost use Rattle.serde_json.specs.View.{view};
+ghost use Rattle.etcd_types.specs.Limits.{max_body};
+ghost use Rattle.etcd_types.specs.declared.refusal.Refusal.TheVariants.{TooLarge};
+ghost use Rattle.etcd_model.specs.Members.{IsAnswer};
+ghost use Rattle.etcd_model.specs.Offered.{is_built};
+ghost use Rattle.etcd_model.specs.Calls.{check_fields, offered_only, read_built, read_call, read_members, read_posted, read_step};
+
+use crate::body::read_body;
+use crate::kv::{read_put, read_range};
+use crate::paths::call_of;
+use etcd_types::limits::MAX_BODY;
+use etcd_types::{Call, Refusal, Step};
+use request_checks::{fields, is_offered};
+use serde_json::Value;
+use std::alloc::Global;
+
+/// The step that the members of a call's object ask for.
+#[tactic(auto, unfolding(etcd_model::specs::Calls::read_members))]
+fn read_members(alloc: Global, call: Call, value: &Value) -> Result<Step, Refusal>
+    ensures { IsAnswer result (read_members call (view value.now)) }
+{
+    match call {
+        Call::Put => Ok(Step::Put(read_put(alloc, value)?)),
+        Call::Range => Ok(Step::Range(read_range(alloc, value)?)),
+        _ => Err(Refusal::NotOffered),
+    }
+}
+
+/// A step, unless its fields give a refusal.
+fn check_fields(step: Step) -> Result<Step, Refusal>
+    ensures { result ≡ check_fields step }
+{
+    match fields(&step) {
+        None => Ok(step),
+        Some(refusal) => Err(refusal),
+    }
+}
+
+/// A body that is too large is refused.
+fn check_size(body: &[u8]) -> Result<(), Refusal>
+    ensures { result ≡ (if nat_lt max_body (length body.now) then Err TooLarge else Ok tt) }
+{
+    if body.len() > MAX_BODY {
+        Err(Refusal::TooLarge)
+    } else {
+        Ok(())
+    }
+}
+
+/// The step that a call's body asks for, or why it is refused: for its size, else for what can't be
+/// read, else for its fields. It does not ask what is built.
+#[tactic(auto, unfolding(etcd_model::specs::Calls::read_step))]
+pub fn read_step(alloc: Global, call: Call, body: &[u8]) -> Result<Step, Refusal>
+    ensures { IsAnswer result (read_step call body.now) }
+{
+    check_size(body)?;
+    let value = read_body(alloc, body)?;
+    check_fields(read_members(alloc, call, &value)?)
+}
+
+/// Whether the body of this call is read.
+fn is_built(call: Call) -> bool
+    ensures { result ≡ is_built call }
+{
+    matches!(call, Call::Put | Call::Range)
+}
+
+/// A step, unless it is not offered.
+fn offered_only(step: Step) -> Result<Step, Refusal>
+    ensures { result ≡ offered_only step }
+{
+    if is_offered(&step) {
+        Ok(step)
+    } else {
+        Err(Refusal::NotOffered)
+    }
+}
+
+/// `read_step` of what is built and offered.
+#[tactic(auto, unfolding(etcd_model::specs::Calls::read_built))]
+fn read_built(alloc: Global, call: Call, body: &[u8]) -> Result<Step, Refusal>
+    ensures { IsAnswer result (read_built call body.now) }
+{
+    if is_built(call) {
+        offered_only(read_step(alloc, call, body)?)
+    } else {
+        check_size(body).and(Err(Refusal::NotOffered))
+    }
+}
+
+/// The step that a path, what follows `/v3/`, and a body ask for, or why they are refused. A call
+/// that is not built is refused after its size and before its body is read.
+#[tactic(auto, unfolding(etcd_model::specs::Calls::read_call))]
+pub fn read_call(alloc: Global, path: &[u8], body: &[u8]) -> Result<Step, Refusal>
+    ensures { IsAnswer result (read_call path.now body.now) }
+{
+    match call_of(path) {
+        Some(call) => read_built(alloc, call, body),
+        None => Err(Refusal::NoPath),
+    }
+}
+
+/// `read_call` of a request with a method: any but `POST` is refused, after the path and before the
+/// body.
+pub fn read_posted(alloc: Global, method: &[u8], path: &[u8], body: &[u8]) -> Result<Step, Refusal>
+    ensures { IsAnswer result (read_posted method.now path.now body.now) }
+{
+    let Some(call) = call_of(path) else {
+        return Err(Refusal::NoPath);
+    };
+    if method != b"POST".as_slice() {
+        return Err(Refusal::NotPost);
+    }
+    read_built(alloc, call, body)
+}

@@ -1,0 +1,112 @@
+//! The members of a request's object, by their kinds.
+ghost use Rattle.std.specs.Prelude.{◌≡◌, ◌==◌, Option, Result, option_map, slice_index};
+ghost use Rattle.serde_json.specs.Data.{Data};
+ghost use Rattle.serde_json.specs.Find.{get};
+ghost use Rattle.serde_json.specs.View.{view};
+ghost use Rattle.etcd_types.specs.declared.refusal.Refusal.{Refusal};
+ghost use Rattle.etcd_model.specs.Members.{IsAnswer, first_of, member_of, present, read_bytes, read_flag, read_signed, signed_text};
+
+use crate::names::spelled;
+use crate::spelling::bytes_of_text;
+use etcd_types::{List, MemberName, Refusal};
+use serde_json::Value;
+use std::alloc::Global;
+
+/// What a member is read as.
+pub(crate) trait FromMember: Drop {
+    ghost reads: { Option Data → Result Self Refusal };
+
+    /// Reads a member, or what an absent one stands for.
+    fn read(alloc: Global, value: Option<&Value>) -> Result<Self, Refusal>
+        ensures { IsAnswer result (reads (option_map (λ v. view v.now) value.entry)) };
+}
+
+impl FromMember for List<u8> {
+    ghost reads = { read_bytes };
+
+    #[tactic(auto, unfolding(etcd_model::specs::Members::read_bytes))]
+    fn read(alloc: Global, value: Option<&Value>) -> Result<List<u8>, Refusal> {
+        match value {
+            None => Ok(List::new(alloc)),
+            Some(Value::String(text)) => bytes_of_text(alloc, text.as_str()),
+            Some(_) => Err(Refusal::BadBody),
+        }
+    }
+}
+
+fn starts_with_plus(text: &[u8]) -> bool
+    ensures { result ≡ (slice_index text.now 0 == 43) }
+{
+    !text.is_empty() && text[0] == b'+'
+}
+
+/// The number of a text: an optional minus and digits.
+#[tactic(auto, using(crate::proofs::SignedLemmas::signed_plus, crate::proofs::SignedLemmas::signed_parsed))]
+fn signed_of_text(text: &str) -> Option<i64>
+    ensures { result ≡ signed_text text.now }
+{
+    // `parse` takes a plus too.
+    if starts_with_plus(text.as_bytes()) {
+        return None;
+    }
+    text.parse().ok()
+}
+
+impl FromMember for i64 {
+    ghost reads = { read_signed };
+
+    #[tactic(auto, unfolding(etcd_model::specs::Members::read_signed))]
+    fn read(_alloc: Global, value: Option<&Value>) -> Result<i64, Refusal> {
+        let Some(value) = value else {
+            return Ok(0);
+        };
+        let number = match value {
+            Value::Number(number) => number.as_i64(),
+            Value::String(text) => signed_of_text(text.as_str()),
+            _ => None,
+        };
+        number.ok_or(Refusal::BadBody)
+    }
+}
+
+impl FromMember for bool {
+    ghost reads = { read_flag };
+
+    #[tactic(auto, unfolding(etcd_model::specs::Members::read_flag))]
+    fn read(_alloc: Global, value: Option<&Value>) -> Result<bool, Refusal> {
+        match value {
+            None => Ok(false),
+            Some(value) => value.as_bool().ok_or(Refusal::BadBody),
+        }
+    }
+}
+
+/// The member of that name, unless it is null.
+fn present<'v>(value: &'v Value, name: &str) -> Option<&'v Value>
+    ensures { option_map (λ v. view v.now) result ≡ present (get name.now (view value.now)) }
+{
+    value.get(name).filter(|member| !member.is_null())
+}
+
+/// The member under its underscored name, else under its lowerCamel one.
+#[tactic(auto, unfolding(etcd_model::specs::Members::member_of))]
+fn member_of<'v>(value: &'v Value, name: MemberName) -> Option<&'v Value>
+    ensures { option_map (λ v. view v.now) result ≡ member_of name (view value.now) }
+{
+    let (underscored, lower_camel) = spelled(name);
+    match (present(value, underscored), lower_camel) {
+        (None, Some(lower_camel)) => present(value, lower_camel),
+        (member, _) => member,
+    }
+}
+
+/// Reads the member of that name.
+pub(crate) fn read_member<T: FromMember>(
+    alloc: Global,
+    value: &Value,
+    name: MemberName,
+) -> Result<T, Refusal>
+    ensures { IsAnswer result (T.reads (member_of name (view value.now))) }
+{
+    T::read(alloc, member_of(value, name))
+}
