@@ -7,8 +7,11 @@ mod TransactionRuns
 mod LeaseRuns
 mod WatchRuns
 mod RangeRuns
-mod OfferedRuns
+pub mod OfferedRuns
 pub mod OrderLaws
 pub mod RowLaws
 pub mod HistoryLaws
 pub mod PutLaws
+pub mod GrowthLaws
+pub mod OldRevisionLaws
+pub mod ReadLaws

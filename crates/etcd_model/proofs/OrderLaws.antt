@@ -104,5 +104,11 @@ bytes_eq-key_cmp a b = sym (is_eq-slice_cmp a b)
 pub keys_in_order : (ks : List (List ℕ)) → IsStrictlySortedBy key_cmp (in_order key_cmp ks)
 keys_in_order ks = sorted-in_order key_cmp nat_list_cmp_total ks
 
+same_test : (test : List ℕ → Bool) (a b : List ℕ) → key_cmp a b ≡ Equal → test b ≡ test a
+same_test test a b e = ap test (sym (tied_keys a b e))
+
+pub any-put_in_keys : (test : List ℕ → Bool) (key : List ℕ) (ks : List (List ℕ)) → list_any test (put_in key_cmp ks key) ≡ (test key || list_any test ks)
+any-put_in_keys test key ks = any-put_in key_cmp test (same_test test) key ks
+
 pub any-keys_in_order : (test : List ℕ → Bool) (ks : List (List ℕ)) → list_any test (in_order key_cmp ks) ≡ list_any test ks
-any-keys_in_order test ks = any-in_order key_cmp test (λ a b e. ap test (sym (tied_keys a b e))) ks
+any-keys_in_order test ks = any-in_order key_cmp test (same_test test) ks

@@ -21,7 +21,7 @@ use Rattle.etcd_model.proofs.HistoryLaws.{entry_at, is_past, changes_of, entries
 
 -- ---- the rows of a history
 
-every_one : (ks : List (List ℕ)) → filter every_key ks ≡ ks
+pub every_one : (ks : List (List ℕ)) → filter every_key ks ≡ ks
 every_one [] = refl
 every_one (k ∷ ks) = ap (λ xs. k ∷ xs) (every_one ks)
 
@@ -38,7 +38,7 @@ rows-interval H interval r =
     sym (ap (λ ks. filter (λ (row : KeyValue). interval row.key) (filter_map (λ k. kv H k r) ks)) (every_one (keys H)) ∙ filter-rows (λ k. kv H k r) (λ k row. kv-key H k r row) interval (keys H))
 
 -- a key that was never changed has no row
-never_changed : (H : History) (key : List ℕ) (r : ℕ) → list_any (λ k. bytes_eq k key) (keys H) ≡ false → kv H key r ≡ None
+pub never_changed : (H : History) (key : List ℕ) (r : ℕ) → list_any (λ k. bytes_eq k key) (keys H) ≡ false → kv H key r ≡ None
 never_changed H key r h = ap (λ es. shown_by (generation es)) (none_past (entries H) (sym (any-keys_in_order (λ k. bytes_eq k key) (map (λ (e : Entry). key_of e.change) (entries H))) ∙ h))
   where
     none_past : (es : List Entry) → list_any (λ k. bytes_eq k key) (map (λ (e : Entry). key_of e.change) es) ≡ false → filter (is_past key r) es ≡ []

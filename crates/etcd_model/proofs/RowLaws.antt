@@ -1,6 +1,6 @@
 -- The rows of some keys, where a look-up shows a row of each key that it is given.
 use Rattle.std.proofs.Common.{◌≡◌, ℕ, List, [], ◌∷◌, refl, ap, ◌∙◌, sym, subst}
-use Rattle.std.specs.Prelude.{Bool, true, false, cond, ◌||◌, filter, filter_map, Option, Some, None, slice_get, find}
+use Rattle.std.specs.Prelude.{Bool, true, false, cond, ◌||◌, fold, filter, filter_map, Option, Some, None, slice_get, find}
 use Rattle.std.specs.Str.{bytes_eq}
 use Rattle.std.specs.Option.{option_to_list}
 use Rattle.std.specs.List.{All, AllByRecursion, list_any, cons_option}
@@ -9,10 +9,11 @@ use Rattle.std.specs.Ordering.{is_eq, ordering_reverse}
 use Rattle.std.specs.Cmp.Lexicographic.{nat_list_cmp_total, bytes_decides}
 use Rattle.std.specs.declared.cmp.Ordering.{Ordering}
 use Rattle.std.specs.declared.cmp.Ordering.TheVariants.{Less, Equal, Greater}
+use Rattle.std.proofs.lemmas.Bool.{or_parts, or_from}
 use Rattle.std.proofs.lemmas.List.Elements.{All-nil, All-cons}
 use Rattle.etcd_types.specs.declared.key_value.KeyValue.{KeyValue}
 use Rattle.etcd_model.specs.Order.{beside, put_in, key_cmp}
-use Rattle.etcd_model.proofs.OrderLaws.{below_less, below_tied, bytes_eq-key_cmp}
+use Rattle.etcd_model.proofs.OrderLaws.{below_less, below_tied, sorted-put_in, any-put_in_keys, tied_keys, bytes_eq-key_cmp}
 
 -- rows by their keys
 abbrev pub by_key : KeyValue → KeyValue → Ordering
@@ -33,12 +34,19 @@ alone : {X : Type 0} (o : Option X) → cons_option o [] ≡ option_to_list o
 alone None = refl
 alone (Some x) = refl
 
--- no key after one that ascends is that key
-none_after : (key : List ℕ) (ks : List (List ℕ)) → AllByRecursion (λ z. key_cmp key z ≡ Less) ks → filter (λ z. bytes_eq z key) ks ≡ []
-none_after key [] h = refl
-none_after key (z ∷ zs) h =
-    ap (λ b. cond b (z ∷ filter (λ y. bytes_eq y key) zs) (filter (λ y. bytes_eq y key) zs)) (bytes_eq-key_cmp z key ∙ ap is_eq (nat_list_cmp_total.antisymm z key ∙ ap ordering_reverse h.0))
-    ∙ none_after key zs h.1
+filter-none : {X : Type 0} (test : X → Bool) (xs : List X) → list_any test xs ≡ false → filter test xs ≡ []
+filter-none test [] h = refl
+filter-none test (x ∷ xs) h =
+    let parts = or_parts (test x) (list_any test xs) h in
+    ap (λ b. cond b (x ∷ filter test xs) (filter test xs)) parts.0 ∙ filter-none test xs parts.1
+
+later_key : (key k : List ℕ) → key_cmp key k ≡ Less → bytes_eq k key ≡ false
+later_key key k e = bytes_eq-key_cmp k key ∙ ap is_eq (nat_list_cmp_total.antisymm k key ∙ ap ordering_reverse e)
+
+-- a key is not among later ones
+none_later : (key : List ℕ) (ks : List (List ℕ)) → AllByRecursion (λ z. key_cmp key z ≡ Less) ks → list_any (λ z. bytes_eq z key) ks ≡ false
+none_later key [] h = refl
+none_later key (k ∷ ks) h = or_from (bytes_eq k key) (list_any (λ z. bytes_eq z key) ks) (later_key key k h.0) (none_later key ks h.1)
 
 module _ (look : List ℕ → Option KeyValue) (own : (k : List ℕ) (r : KeyValue) → look k ≡ Some r → r.key ≡ k) where
   -- what holds of each row that is shown
@@ -90,7 +98,7 @@ module _ (look : List ℕ → Option KeyValue) (own : (k : List ℕ) (r : KeyVal
     | true ↦ λ e.
         let same : k ≡ key = (bytes_decides k key).0 e in
         let after : AllByRecursion (λ z. key_cmp key z ≡ Less) ks = subst (λ a. AllByRecursion (λ z. key_cmp a z ≡ Less) ks) same h.0 in
-        ap (λ zs. cons_option (look k) (filter_map look zs)) (none_after key ks after) ∙ alone (look k) ∙ ap (λ a. option_to_list (look a)) same
+        ap (λ zs. cons_option (look k) (filter_map look zs)) (filter-none (λ z. bytes_eq z key) ks (none_later key ks after)) ∙ alone (look k) ∙ ap (λ a. option_to_list (look a)) same
     | false ↦ λ e. rows_of_one key ks h.1 (λ none. absent (ap (λ b. b || list_any (λ z. bytes_eq z key) ks) e ∙ none))
   ] refl
 
@@ -100,6 +108,27 @@ module _ (look : List ℕ → Option KeyValue) (own : (k : List ℕ) (r : KeyVal
       find-filter (λ (row : KeyValue). bytes_eq row.key key) (filter_map look ks)
       ∙ ap (λ (rs : List KeyValue). slice_get rs 0) (filter-rows (λ k. bytes_eq k key) ks ∙ rows_of_one key ks h absent)
       ∙ only (look key)
+
+-- Where a key that is not among the keys shows no row, the keys may as well be more.
+module _ (look : List ℕ → Option KeyValue) where
+  rows-one_more : (key : List ℕ) (ks : List (List ℕ)) → IsStrictlySortedBy key_cmp ks → (list_any (λ k. bytes_eq k key) ks ≡ false → look key ≡ None) → filter_map look (put_in key_cmp ks key) ≡ filter_map look ks
+  unfolding IsStrictlySortedBy
+  rows-one_more key [] h absent = ap (λ o. cons_option o []) (absent refl)
+  rows-one_more key (k ∷ ks) h absent =
+      elim (key_cmp key k) as (λ o. key_cmp key k ≡ o → filter_map look (beside o key k ks (put_in key_cmp ks key)) ≡ filter_map look (k ∷ ks)) [
+        | Less ↦ λ e. ap (λ o. cons_option o (filter_map look (k ∷ ks))) (absent (none_later key (k ∷ ks) (e, below_less key_cmp nat_list_cmp_total key k e ks h.0)))
+        | Equal ↦ λ e. ap (λ a. cons_option (look a) (filter_map look ks)) (tied_keys key k e)
+        | Greater ↦ λ e.
+            let apart : bytes_eq k key ≡ false = bytes_eq-key_cmp k key ∙ ap is_eq (nat_list_cmp_total.antisymm k key ∙ ap ordering_reverse e) in
+            ap (cons_option (look k)) (rows-one_more key ks h.1 (λ none. absent (or_from (bytes_eq k key) (list_any (λ z. bytes_eq z key) ks) apart none)))
+      ] refl
+
+  pub rows-more_keys : (more ks : List (List ℕ)) → IsStrictlySortedBy key_cmp ks → ((key : List ℕ) → list_any (λ k. bytes_eq k key) ks ≡ false → look key ≡ None) → filter_map look (fold (put_in key_cmp) ks more) ≡ filter_map look ks
+  rows-more_keys [] ks h absent = refl
+  rows-more_keys (key ∷ more) ks h absent =
+      rows-more_keys more (put_in key_cmp ks key) (sorted-put_in key_cmp nat_list_cmp_total key ks h)
+      (λ k none. absent k (or_parts (bytes_eq key k) (list_any (λ z. bytes_eq z k) ks) (sym (any-put_in_keys (λ z. bytes_eq z k) key ks) ∙ none)).1)
+      ∙ rows-one_more key ks h (absent key)
 
 -- Where new is look but for the key of a row x, which it shows:
 -- the rows of the keys with that one put in are the rows with x put in.

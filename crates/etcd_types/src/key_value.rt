@@ -1,4 +1,6 @@
 //! Keys with their values, and what watches tell of them.
+ghost use Rattle.std.specs.Prelude.{◌≡◌, ◌↔◌, IsTrue};
+
 use crate::copy::{CopyOf, Mem};
 use crate::list::List;
 use std::alloc::Global;
@@ -16,6 +18,15 @@ pub struct KeyValue {
     pub value: List<u8>,
     /// The ID of the lease that the key is attached to, or 0.
     pub lease: i64,
+}
+
+impl KeyValue {
+    /// The two are one value.
+    pub fn same_as(&self, other: &KeyValue) -> bool
+        ensures { IsTrue result ↔ (self.now ≡ other.now) }
+    {
+        self == other
+    }
 }
 
 impl CopyOf for KeyValue {

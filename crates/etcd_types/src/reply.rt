@@ -1,4 +1,6 @@
 //! What a tenant answers.
+ghost use Rattle.std.specs.Prelude.{◌≡◌, ◌↔◌, IsTrue};
+
 use crate::copy::{CopyOf, Mem};
 use crate::key_value::{Event, KeyValue};
 use crate::list::List;
@@ -146,6 +148,15 @@ pub enum Reply {
     /// Nothing to say.
     Quiet,
     Refused(Refusal),
+}
+
+impl Reply {
+    /// The two are one value.
+    pub fn same_as(&self, other: &Reply) -> bool
+        ensures { IsTrue result ↔ (self.now ≡ other.now) }
+    {
+        self == other
+    }
 }
 
 impl CopyOf for Reply {

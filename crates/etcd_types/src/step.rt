@@ -1,4 +1,6 @@
 //! What a client, a clock or a watch's reader may ask of one tenant.
+ghost use Rattle.std.specs.Prelude.{◌≡◌, ◌↔◌, IsTrue};
+
 use crate::alarm::AlarmReq;
 use crate::copy::{CopyOf, Mem};
 use crate::kv::{DeleteReq, PutReq, RangeReq};
@@ -34,6 +36,15 @@ pub enum Step {
     Tick(u64),
     /// Prepares watch responses, looking at no more than this many changes.
     CatchUp(u32),
+}
+
+impl Step {
+    /// The two are one value.
+    pub fn same_as(&self, other: &Step) -> bool
+        ensures { IsTrue result ↔ (self.now ≡ other.now) }
+    {
+        self == other
+    }
 }
 
 impl CopyOf for Step {
