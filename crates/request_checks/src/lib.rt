@@ -1,2 +1,17 @@
-//! What a step is refused for by its own fields.
+//! What a step is refused for by its own fields, before anything is looked up.
 #![tactic(auto)]
+
+mod branch;
+mod interval;
+mod offered;
+mod put;
+mod step;
+#[cfg(test)]
+mod tests;
+mod txn;
+
+pub use interval::is_in;
+pub use offered::is_offered;
+pub use put::put_fields;
+pub use step::fields;
+pub use txn::txn_fields;

@@ -1,0 +1,93 @@
+//! What the operations of one branch are refused for.
+ghost use Rattle.std.specs.Prelude.{◌≡◌};
+ghost use Rattle.std.specs.List.{list_any};
+ghost use Rattle.std.specs.Str.{bytes_eq};
+ghost use Rattle.etcd_model.specs.Interval.{is_in};
+ghost use Rattle.etcd_model.specs.Fields.{op_lacks_key, puts, gives_value, gives_lease, is_nested, has_twice, has_duplicate};
+ghost use Rattle.request_checks.specs.Branch.{any_put, any_delete};
+
+use crate::interval::is_in;
+use crate::put::{gives_lease, gives_value};
+use etcd_types::Op;
+
+/// Whether an operation has no key.
+pub(crate) fn any_lacks_key(ops: &[Op]) -> bool
+    ensures { result ≡ list_any op_lacks_key ops.now }
+{
+    ops.iter().any(|op| match op {
+        Op::Range(request) => request.key.as_slice().is_empty(),
+        Op::Put(request) => request.key.as_slice().is_empty(),
+        Op::Delete(request) => request.key.as_slice().is_empty(),
+        Op::Nested => false,
+    })
+}
+
+/// Whether a put has a value, although the present one is to stay.
+pub(crate) fn any_gives_value(ops: &[Op]) -> bool
+    ensures { result ≡ any_put gives_value ops.now }
+{
+    ops.iter()
+        .any(|op| matches!(op, Op::Put(put) if gives_value(put)))
+}
+
+/// Whether a put has a lease, although the present one is to stay.
+pub(crate) fn any_gives_lease(ops: &[Op]) -> bool
+    ensures { result ≡ any_put gives_lease ops.now }
+{
+    ops.iter()
+        .any(|op| matches!(op, Op::Put(put) if gives_lease(put)))
+}
+
+/// Whether an operation is a transaction.
+pub(crate) fn any_is_nested(ops: &[Op]) -> bool
+    ensures { result ≡ list_any is_nested ops.now }
+{
+    ops.iter().any(|op| matches!(op, Op::Nested))
+}
+
+/// Whether a key is put twice, or put and deleted.
+#[tactic(auto, using(crate::proofs::Filtered::filtered))]
+pub(crate) fn has_duplicate(ops: &[Op]) -> bool
+    ensures { result ≡ has_duplicate ops.now }
+{
+    has_twice(ops) || has_deleted(ops)
+}
+
+/// Whether a key is put twice.
+#[tactic(auto, using(crate::proofs::Filtered::filtered))]
+fn has_twice(ops: &[Op]) -> bool
+    ensures { result ≡ has_twice (puts ops.now) }
+{
+    let mut rest = ops;
+    while let [op, later @ ..] = rest {
+        if let Op::Put(put) = op
+            && puts_key(later, put.key.as_slice())
+        {
+            return true;
+        }
+        rest = later;
+    }
+    false
+}
+
+/// Whether a key is put and deleted, in either order.
+fn has_deleted(ops: &[Op]) -> bool
+    ensures { result ≡ any_put (λ p. any_delete (λ d. is_in d.key d.range_end p.key) ops.now) ops.now }
+{
+    ops.iter().any(|op| matches!(op, Op::Put(put) if deletes_key(ops, put.key.as_slice())))
+}
+
+fn puts_key(ops: &[Op], key: &[u8]) -> bool
+    ensures { result ≡ any_put (λ p. bytes_eq p.key key.now) ops.now }
+{
+    ops.iter().any(|op| matches!(op, Op::Put(put) if put.key.as_slice() == key))
+}
+
+fn deletes_key(ops: &[Op], key: &[u8]) -> bool
+    ensures { result ≡ any_delete (λ d. is_in d.key d.range_end key.now) ops.now }
+{
+    ops.iter().any(|op| match op {
+        Op::Delete(delete) => is_in(delete.key.as_slice(), delete.range_end.as_slice(), key),
+        _ => false,
+    })
+}
