@@ -8,6 +8,9 @@ use etcd_types::limits::MAX_TTL;
 use etcd_types::{AlarmAction, AlarmKind, AlarmReq, Refusal, Step};
 
 /// The lowest refusal that the fields of a step give. Nothing is looked up for it.
+///
+/// Reads, puts, deletes and transactions are refused for their keys and what they carry, a grant for a time to live
+/// above [`MAX_TTL`] seconds, and an alarm where `CORRUPT` is to be activated. No other step is refused.
 pub fn fields(step: &Step) -> Option<Refusal>
     ensures { result ≡ fields step.now }
 {

@@ -1,4 +1,4 @@
-use crate::{fields, is_in, is_offered};
+use crate::{fields, is_in, is_offered, put_fields, txn_fields};
 use etcd_types::{
     AlarmAction, AlarmKind, AlarmReq, Compare, CompareResult, DeleteReq, GrantReq, List, Mem, Op,
     Operand, PutReq, RangeReq, Refusal, SortOrder, SortTarget, Step, TxnReq,
@@ -65,9 +65,39 @@ fn puts(alloc: Global, count: u8) -> Mem<List<Op>> {
     Ok(ops)
 }
 
-fn txn(compare: List<Compare>, success: List<Op>, failure: List<Op>) -> Step {
-    Step::Txn(TxnReq {
-        compare,
+/// Two puts of one key, with another operation between them.
+fn put_twice(alloc: Global) -> Mem<List<Op>> {
+    let mut ops = puts(alloc, 1)?;
+    ops.push(Op::Nested)?;
+    ops.push(Op::Put(put(alloc, &[1])?))?;
+    Ok(ops)
+}
+
+/// A put of a key, and a delete of the keys from `a` to `b`.
+fn put_and_delete(alloc: Global, key: &[u8]) -> Mem<List<Op>> {
+    let mut ops = List::new(alloc);
+    ops.push(Op::Put(put(alloc, key)?))?;
+    ops.push(Op::Delete(delete(alloc, b"a", b"b")?))?;
+    Ok(ops)
+}
+
+/// A delete of all keys.
+fn delete_all(alloc: Global) -> Mem<List<Op>> {
+    let mut ops = List::new(alloc);
+    ops.push(Op::Delete(delete(alloc, &[0], &[0])?))?;
+    Ok(ops)
+}
+
+fn nested(alloc: Global) -> Mem<List<Op>> {
+    let mut ops = List::new(alloc);
+    ops.push(Op::Nested)?;
+    Ok(ops)
+}
+
+/// What a transaction with no compares is refused for.
+fn refusal_of(alloc: Global, success: List<Op>, failure: List<Op>) -> Option<Refusal> {
+    txn_fields(&TxnReq {
+        compare: List::new(alloc),
         success,
         failure,
     })
@@ -88,11 +118,7 @@ fn puts_that_keep_value_and_lease(rt: HostRuntime) -> Result<(), Fail> {
         request.lease = lease;
         request.ignore_value = true;
         request.ignore_lease = true;
-        assert_eq!(rt;
-            fields(&Step::Put(request)),
-            wanted,
-            "{key} {value} {lease}"
-        );
+        assert_eq!(rt; put_fields(&request), wanted, "{key} {value} {lease}");
     }
     Ok(())
 }
@@ -107,67 +133,73 @@ fn at_most_128_in_any_list(rt: HostRuntime) -> Result<(), Fail> {
         (0, 0, 129, Some(Refusal::TooManyOps)),
     ];
     for (compared, success, failure, wanted) in cases {
-        let step = txn(
-            compares(alloc, b"a", compared)?,
-            puts(alloc, success)?,
-            puts(alloc, failure)?,
+        let request = TxnReq {
+            compare: compares(alloc, b"a", compared)?,
+            success: puts(alloc, success)?,
+            failure: puts(alloc, failure)?,
+        };
+        assert_eq!(rt;
+            txn_fields(&request),
+            wanted,
+            "{compared} {success} {failure}"
         );
-        assert_eq!(rt; fields(&step), wanted, "{compared} {success} {failure}");
     }
     Ok(())
 }
 
 #[test]
-fn duplicates_are_of_one_branch(rt: HostRuntime) -> Result<(), Fail> {
+fn duplicates_in_one_branch(rt: HostRuntime) -> Result<(), Fail> {
     let alloc = rt.alloc();
-    for (key, wanted) in [("a", Some(Refusal::DuplicateKey)), ("b", None)] {
-        let mut ops = List::new(alloc);
-        ops.push(Op::Put(put(alloc, key.as_bytes())?))?;
-        ops.push(Op::Delete(delete(alloc, b"a", b"b")?))?;
-        let step = txn(List::new(alloc), List::new(alloc), ops);
-        assert_eq!(rt; fields(&step), wanted, "{key}");
-    }
-
-    let mut twice = List::new(alloc);
-    twice.push(Op::Put(put(alloc, b"a")?))?;
-    twice.push(Op::Nested)?;
-    twice.push(Op::Put(put(alloc, b"a")?))?;
-    let step = txn(List::new(alloc), List::new(alloc), twice);
-    assert_eq!(rt; fields(&step), Some(Refusal::DuplicateKey));
-
-    let mut deletes = List::new(alloc);
-    deletes.push(Op::Delete(delete(alloc, &[0], &[0])?))?;
-    let step = txn(List::new(alloc), puts(alloc, 2)?, deletes);
-    assert_eq!(rt; fields(&step), None);
-    let step = txn(List::new(alloc), puts(alloc, 2)?, puts(alloc, 2)?);
-    assert_eq!(rt; fields(&step), None);
+    let duplicate = Some(Refusal::DuplicateKey);
+    assert_eq!(rt;
+        refusal_of(alloc, List::new(alloc), put_twice(alloc)?),
+        duplicate
+    );
+    assert_eq!(rt;
+        refusal_of(alloc, put_and_delete(alloc, b"a")?, List::new(alloc)),
+        duplicate
+    );
+    assert_eq!(rt;
+        refusal_of(alloc, put_and_delete(alloc, b"b")?, List::new(alloc)),
+        None
+    );
     Ok(())
 }
 
 #[test]
-fn requests_without_key_or_nested(rt: HostRuntime) -> Result<(), Fail> {
+fn no_duplicates_across_branches(rt: HostRuntime) -> Result<(), Fail> {
     let alloc = rt.alloc();
+    assert_eq!(rt; refusal_of(alloc, puts(alloc, 2)?, puts(alloc, 2)?), None);
     assert_eq!(rt;
-        fields(&Step::Range(range(alloc, b"")?)),
-        Some(Refusal::NoKey)
+        refusal_of(alloc, puts(alloc, 2)?, delete_all(alloc)?),
+        None
     );
-    assert_eq!(rt;
-        fields(&Step::Delete(delete(alloc, b"", b"b")?)),
-        Some(Refusal::NoKey)
-    );
-    assert_eq!(rt; fields(&Step::Delete(delete(alloc, b"a", b"b")?)), None);
+    Ok(())
+}
 
-    let step = txn(
-        compares(alloc, b"", 1)?,
-        List::new(alloc),
-        puts(alloc, 129)?,
-    );
-    assert_eq!(rt; fields(&step), Some(Refusal::NoKey));
+#[test]
+fn no_key_before_what_is_not_offered(rt: HostRuntime) -> Result<(), Fail> {
+    let alloc = rt.alloc();
+    for (key, wanted) in [("a", Refusal::NotOffered), ("", Refusal::NoKey)] {
+        let request = TxnReq {
+            compare: compares(alloc, key.as_bytes(), 1)?,
+            success: nested(alloc)?,
+            failure: List::new(alloc),
+        };
+        assert_eq!(rt; txn_fields(&request), Some(wanted), "{key}");
+    }
+    Ok(())
+}
 
-    let mut nested = List::new(alloc);
-    nested.push(Op::Nested)?;
-    let step = txn(List::new(alloc), nested, List::new(alloc));
-    assert_eq!(rt; fields(&step), Some(Refusal::NotOffered));
+#[test]
+fn reads_and_deletes_without_key(rt: HostRuntime) -> Result<(), Fail> {
+    let alloc = rt.alloc();
+    for (key, wanted) in [("a", None), ("", Some(Refusal::NoKey))] {
+        let read = Step::Range(range(alloc, key.as_bytes())?);
+        assert_eq!(rt; fields(&read), wanted, "{key}");
+        let cut = Step::Delete(delete(alloc, key.as_bytes(), b"b")?);
+        assert_eq!(rt; fields(&cut), wanted, "{key}");
+    }
     Ok(())
 }
 

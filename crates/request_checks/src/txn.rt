@@ -9,9 +9,10 @@ use crate::branch::{
 use etcd_types::limits::MAX_OPS;
 use etcd_types::{Compare, Refusal, TxnReq};
 
-/// The lowest refusal that the fields of a transaction give, of its compares and of both its branches.
+/// The lowest refusal that the fields of a transaction give, of its compares and of both its branches, the one that
+/// would not run among them.
 ///
-/// The keys of a branch are compared with each other last, where it is known to be short.
+/// The keys of a branch are compared with each other only where no branch is above [`MAX_OPS`], which bounds the work.
 pub fn txn_fields(request: &TxnReq) -> Option<Refusal>
     ensures { result ≡ txn_fields request.now }
 {
