@@ -7,6 +7,8 @@
 mod machine;
 mod planned;
 mod rows;
+#[cfg(test)]
+mod tests;
 
 pub use machine::Machine;
 pub use planned::Planned;
