@@ -1,0 +1,7 @@
+use Rattle.std.proofs.Common.{append_assoc, arith}
+use Rattle.gateway_text.proofs.PlainLemmas.{escape_encoding}
+use Rattle.gateway_text.proofs.member.write_base64.Goals as goal
+
+pub returns : goal.returns
+returns c =
+    rw (c.in_ok-push_str-2.ensures.bytes, c.in_ok-encode_string.ensures.ok, c.in_ok-push_str.ensures.bytes, escape_encoding c.args.bytes.now (λ i. let fits = c.type_inv.bytes i in omega arith)) (simp append_assoc)

@@ -1,0 +1,8 @@
+use Rattle.gateway_text.proofs.WroteLemmas.{object_written, ◌then◌}
+use Rattle.gateway_text.proofs.responses.write_delete.Goals as goal
+
+pub returns : goal.returns
+returns g c =
+    object_written _ c.in_ok-push_str.ensures.bytes
+    (c.in_ok-later.ensures then c.in_ok-later-2.ensures then c.in_ok-write_list.ensures)
+    c.in_ok-push_str-2.ensures.bytes

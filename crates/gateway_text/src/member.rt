@@ -1,0 +1,140 @@
+//! One member of an object's text.
+//!
+//! A writer is told whether a member stands before, and says whether one stands before what follows.
+//! Where a value is zero, false or empty, its writer leaves the member out.
+#![tactic(auto, using(crate::proofs::WroteLemmas::wrote_value))]
+
+ghost use Rattle.std.specs.Prelude.{◌≡◌, ◌++◌, IsTrue, IfOk, OnOk, string_bytes};
+ghost use Rattle.serde_json.specs.Data.{string, number, unsigned, member as with_member};
+ghost use Rattle.serde_json.specs.Written.{comma_if, compact_text};
+ghost use Rattle.etcd_model.specs.ReplyText.{signed_member, unsigned_member, bytes_data, bytes_member, flag_member};
+ghost use Rattle.gateway_text.specs.Plain.{is_plain};
+ghost use Rattle.gateway_text.specs.Wrote.{Wrote, name_text};
+
+use base64::engine::general_purpose::STANDARD;
+use etcd_types::Mem;
+
+/// Writes a comma, where something stands before.
+pub(crate) fn write_comma(out: &mut String, later: bool) -> Mem<()>
+    ensures { OnOk result (string_bytes out.new ≡ string_bytes out.old ++ comma_if later) }
+{
+    if later {
+        out.push_str(",")?;
+    }
+    Ok(())
+}
+
+/// Writes a member's name and the colon after it.
+pub(crate) fn write_name(out: &mut String, later: bool, name: &str) -> Mem<()>
+    requires { IsTrue (is_plain name.now) }
+    ensures { OnOk result (string_bytes out.new ≡ string_bytes out.old ++ name_text later name.now) }
+{
+    write_comma(out, later)?;
+    out.push_str("\"")?;
+    out.push_str(name)?;
+    out.push_str("\":")?;
+    Ok(())
+}
+
+/// Writes a text that needs no escape, between its quotes.
+fn write_quoted(out: &mut String, text: &str) -> Mem<()>
+    requires { IsTrue (is_plain text.now) }
+    ensures { OnOk result (string_bytes out.new ≡ string_bytes out.old ++ compact_text (string text.now)) }
+{
+    out.push_str("\"")?;
+    out.push_str(text)?;
+    out.push_str("\"")?;
+    Ok(())
+}
+
+/// Writes a text that needs no escape.
+pub(crate) fn write_text(out: &mut String, later: bool, name: &str, text: &str) -> Mem<bool>
+    requires name { IsTrue (is_plain name.now) }
+    requires text { IsTrue (is_plain text.now) }
+    ensures { IfOk result (λ after. Wrote (string_bytes out.old) later (string_bytes out.new) after
+        (with_member name.now (string text.now))) }
+{
+    write_name(out, later, name)?;
+    write_quoted(out, text)?;
+    Ok(true)
+}
+
+/// Writes a 64-bit number, which is a string of its digits.
+#[tactic(auto, using(crate::proofs::PlainLemmas::plain_signed, crate::proofs::WroteLemmas::wrote_unless))]
+pub(crate) fn write_signed(out: &mut String, later: bool, name: &str, n: &i64) -> Mem<bool>
+    requires { IsTrue (is_plain name.now) }
+    ensures { IfOk result (λ after. Wrote (string_bytes out.old) later (string_bytes out.new) after
+        (signed_member name.now n.now)) }
+{
+    let n = *n;
+    if n == 0 {
+        return Ok(later);
+    }
+    let mut buffer = itoa::Buffer::new();
+    write_text(out, later, name, buffer.format(n))
+}
+
+/// Writes a 64-bit number without a sign, which is a string of its digits.
+#[tactic(auto, using(crate::proofs::PlainLemmas::plain_decimal))]
+pub(crate) fn write_unsigned(out: &mut String, later: bool, name: &str, n: u64) -> Mem<bool>
+    requires { IsTrue (is_plain name.now) }
+    ensures { IfOk result (λ after. Wrote (string_bytes out.old) later (string_bytes out.new) after
+        (unsigned_member name.now n)) }
+{
+    if n == 0 {
+        return Ok(later);
+    }
+    let mut buffer = itoa::Buffer::new();
+    write_text(out, later, name, buffer.format(n))
+}
+
+/// Writes a small number, which is a JSON number.
+pub(crate) fn write_number(out: &mut String, later: bool, name: &str, n: u64) -> Mem<bool>
+    requires { IsTrue (is_plain name.now) }
+    ensures { IfOk result (λ after. Wrote (string_bytes out.old) later (string_bytes out.new) after
+        (with_member name.now (number (unsigned n)))) }
+{
+    let mut buffer = itoa::Buffer::new();
+    write_name(out, later, name)?;
+    out.push_str(buffer.format(n))?;
+    Ok(true)
+}
+
+/// Writes bytes as a string of base64.
+pub(crate) fn write_base64(out: &mut String, bytes: &[u8]) -> Mem<()>
+    ensures { OnOk result (string_bytes out.new
+        ≡ string_bytes out.old ++ compact_text (bytes_data bytes.now)) }
+{
+    out.push_str("\"")?;
+    STANDARD.encode_string(bytes, out)?;
+    out.push_str("\"")?;
+    Ok(())
+}
+
+/// Writes bytes, which are a string of base64.
+pub(crate) fn write_bytes(out: &mut String, later: bool, name: &str, bytes: &[u8]) -> Mem<bool>
+    requires { IsTrue (is_plain name.now) }
+    ensures { IfOk result (λ after. Wrote (string_bytes out.old) later (string_bytes out.new) after
+        (bytes_member name.now bytes.now)) }
+{
+    if bytes.is_empty() {
+        return Ok(later);
+    }
+    write_name(out, later, name)?;
+    write_base64(out, bytes)?;
+    Ok(true)
+}
+
+/// Writes what is true.
+pub(crate) fn write_flag(out: &mut String, later: bool, name: &str, flag: bool) -> Mem<bool>
+    requires { IsTrue (is_plain name.now) }
+    ensures { IfOk result (λ after. Wrote (string_bytes out.old) later (string_bytes out.new) after
+        (flag_member name.now flag)) }
+{
+    if !flag {
+        return Ok(later);
+    }
+    write_name(out, later, name)?;
+    out.push_str("true")?;
+    Ok(true)
+}

@@ -1,0 +1,101 @@
+//! The answers to reads and writes of keys, alone and within the answer to a transaction.
+ghost use Rattle.std.specs.Prelude.{◌≡◌, ◌++◌, OnOk, string_bytes};
+ghost use Rattle.serde_json.specs.Data.{object};
+ghost use Rattle.serde_json.specs.Written.{compact_text};
+ghost use Rattle.etcd_model.specs.ReplyText.{delete_members, put_members, range_members, response_data};
+
+use crate::header::InnerHeader;
+use crate::list::{WriteItem, write_item, write_list};
+use crate::member::{write_flag, write_unsigned};
+use crate::rows::write_row;
+use etcd_types::{KeyValue, Mem, OpReply};
+
+/// Writes the answer to a range.
+pub(crate) fn write_range<H: WriteItem>(
+    out: &mut String,
+    header: &H,
+    count: u64,
+    kvs: &[KeyValue],
+    more: bool,
+) -> Mem<()>
+    ensures { OnOk result (string_bytes out.new ≡ string_bytes out.old
+        ++ compact_text (object (range_members (H.data_of header.now) count kvs.now more))) }
+{
+    out.push_str("{")?;
+    let later = write_unsigned(out, false, "count", count)?;
+    let later = write_item(out, later, "header", header)?;
+    let later = write_list(out, later, "kvs", kvs)?;
+    write_flag(out, later, "more", more)?;
+    out.push_str("}")?;
+    Ok(())
+}
+
+/// Writes the answer to a put.
+pub(crate) fn write_put<H: WriteItem>(
+    out: &mut String,
+    header: &H,
+    prev_kv: &Option<KeyValue>,
+) -> Mem<()>
+    ensures { OnOk result (string_bytes out.new ≡ string_bytes out.old
+        ++ compact_text (object (put_members (H.data_of header.now) prev_kv.now))) }
+{
+    out.push_str("{")?;
+    let later = write_item(out, false, "header", header)?;
+    write_row(out, later, "prev_kv", prev_kv)?;
+    out.push_str("}")?;
+    Ok(())
+}
+
+/// Writes the answer to a delete.
+pub(crate) fn write_delete<H: WriteItem>(
+    out: &mut String,
+    header: &H,
+    deleted: u64,
+    prev_kvs: &[KeyValue],
+) -> Mem<()>
+    ensures { OnOk result (string_bytes out.new ≡ string_bytes out.old
+        ++ compact_text (object (delete_members (H.data_of header.now) deleted prev_kvs.now))) }
+{
+    out.push_str("{")?;
+    let later = write_unsigned(out, false, "deleted", deleted)?;
+    let later = write_item(out, later, "header", header)?;
+    write_list(out, later, "prev_kvs", prev_kvs)?;
+    out.push_str("}")?;
+    Ok(())
+}
+
+impl WriteItem for OpReply {
+    ghost data_of = { response_data };
+
+    fn write(&self, out: &mut String) -> Mem<()> {
+        match self {
+            OpReply::Range {
+                revision,
+                count,
+                kvs,
+                more,
+            } => {
+                out.push_str("{\"response_range\":")?;
+                write_range(out, &InnerHeader(revision), *count, kvs.as_slice(), *more)?;
+                out.push_str("}")?;
+                Ok(())
+            }
+            OpReply::Put { revision, prev_kv } => {
+                out.push_str("{\"response_put\":")?;
+                write_put(out, &InnerHeader(revision), prev_kv)?;
+                out.push_str("}")?;
+                Ok(())
+            }
+            OpReply::Delete {
+                revision,
+                deleted,
+                prev_kvs,
+            } => {
+                out.push_str("{\"response_delete_range\":")?;
+                write_delete(out, &InnerHeader(revision), *deleted, prev_kvs.as_slice())?;
+                out.push_str("}")?;
+                Ok(())
+            }
+        }
+    }
+}

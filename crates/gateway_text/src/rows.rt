@@ -1,0 +1,74 @@
+//! Keys with their values, and the events that tell of them.
+ghost use Rattle.std.specs.Prelude.{IsTrue, IfOk, string_bytes};
+ghost use Rattle.etcd_model.specs.ReplyText.{bytes_data, event_data, key_value_data, kind_member, row_member};
+ghost use Rattle.gateway_text.specs.Plain.{is_plain};
+ghost use Rattle.gateway_text.specs.Wrote.{Wrote};
+
+use crate::list::{WriteItem, write_item};
+use crate::member::{write_base64, write_bytes, write_signed, write_text, write_unsigned};
+use etcd_types::{Event, EventKind, KeyValue, List, Mem};
+
+impl WriteItem for List<u8> {
+    ghost data_of = { bytes_data };
+
+    fn write(&self, out: &mut String) -> Mem<()> {
+        write_base64(out, self.as_slice())
+    }
+}
+
+impl WriteItem for KeyValue {
+    ghost data_of = { key_value_data };
+
+    fn write(&self, out: &mut String) -> Mem<()> {
+        out.push_str("{")?;
+        let later = write_unsigned(out, false, "create_revision", self.create_revision)?;
+        let later = write_bytes(out, later, "key", self.key.as_slice())?;
+        let later = write_signed(out, later, "lease", &self.lease)?;
+        let later = write_unsigned(out, later, "mod_revision", self.mod_revision)?;
+        let later = write_bytes(out, later, "value", self.value.as_slice())?;
+        write_unsigned(out, later, "version", self.version)?;
+        out.push_str("}")?;
+        Ok(())
+    }
+}
+
+impl WriteItem for Event {
+    ghost data_of = { event_data };
+
+    fn write(&self, out: &mut String) -> Mem<()> {
+        out.push_str("{")?;
+        let later = write_item(out, false, "kv", &self.kv)?;
+        let later = write_row(out, later, "prev_kv", &self.prev_kv)?;
+        write_kind(out, later, self.kind)?;
+        out.push_str("}")?;
+        Ok(())
+    }
+}
+
+/// Writes a row, if there is one.
+pub(crate) fn write_row(
+    out: &mut String,
+    later: bool,
+    name: &str,
+    row: &Option<KeyValue>,
+) -> Mem<bool>
+    requires { IsTrue (is_plain name.now) }
+    ensures { IfOk result (λ after. Wrote (string_bytes out.old) later (string_bytes out.new) after
+        (row_member name.now row.now)) }
+{
+    match row {
+        Some(row) => write_item(out, later, name, row),
+        None => Ok(later),
+    }
+}
+
+/// Writes what happened, unless it was a put.
+fn write_kind(out: &mut String, later: bool, kind: EventKind) -> Mem<bool>
+    ensures { IfOk result (λ after. Wrote (string_bytes out.old) later (string_bytes out.new) after
+        (kind_member kind)) }
+{
+    match kind {
+        EventKind::Put => Ok(later),
+        EventKind::Delete => write_text(out, later, "type", "DELETE"),
+    }
+}

@@ -1,0 +1,74 @@
+//! The answers of watches and of keepalives: each lies in a `result` and ends a line.
+ghost use Rattle.std.specs.Prelude.{◌≡◌, ◌++◌, OnOk, string_bytes};
+ghost use Rattle.etcd_model.specs.ReplyText.{canceled_data, created_data, events_data, kept_alive_data, stream_text};
+
+use crate::leases::write_lease;
+use crate::list::{write_item, write_list};
+use crate::member::{write_flag, write_signed};
+use etcd_types::{Event, Header, Mem};
+
+/// What stands before the members of a `result`.
+const RESULT_BEGIN: &str = "{\"result\":{";
+/// What stands after them.
+const RESULT_END: &str = "}}\n";
+
+/// Writes the first answer of a watch.
+pub(crate) fn write_created(out: &mut String, header: &Header, watch_id: &i64) -> Mem<()>
+    ensures { OnOk result (string_bytes out.new ≡ string_bytes out.old
+        ++ stream_text (created_data header.now watch_id.now)) }
+{
+    out.push_str(RESULT_BEGIN)?;
+    let later = write_flag(out, false, "created", true)?;
+    let later = write_item(out, later, "header", header)?;
+    write_signed(out, later, "watch_id", watch_id)?;
+    out.push_str(RESULT_END)?;
+    Ok(())
+}
+
+/// Writes events, or that there are none up to a revision.
+pub(crate) fn write_events(
+    out: &mut String,
+    header: &Header,
+    watch_id: &i64,
+    events: &[Event],
+) -> Mem<()>
+    ensures { OnOk result (string_bytes out.new ≡ string_bytes out.old
+        ++ stream_text (events_data header.now watch_id.now events.now)) }
+{
+    out.push_str(RESULT_BEGIN)?;
+    let later = write_list(out, false, "events", events)?;
+    let later = write_item(out, later, "header", header)?;
+    write_signed(out, later, "watch_id", watch_id)?;
+    out.push_str(RESULT_END)?;
+    Ok(())
+}
+
+/// Writes the last answer of a watch.
+pub(crate) fn write_canceled(
+    out: &mut String,
+    header: &Header,
+    watch_id: &i64,
+    compact_revision: &i64,
+) -> Mem<()>
+    ensures { OnOk result (string_bytes out.new ≡ string_bytes out.old
+        ++ stream_text (canceled_data header.now watch_id.now compact_revision.now)) }
+{
+    out.push_str(RESULT_BEGIN)?;
+    let later = write_flag(out, false, "canceled", true)?;
+    let later = write_signed(out, later, "compact_revision", compact_revision)?;
+    let later = write_item(out, later, "header", header)?;
+    write_signed(out, later, "watch_id", watch_id)?;
+    out.push_str(RESULT_END)?;
+    Ok(())
+}
+
+/// Writes the answer to a keepalive.
+pub(crate) fn write_kept_alive(out: &mut String, header: &Header, id: &i64, ttl: &i64) -> Mem<()>
+    ensures { OnOk result (string_bytes out.new ≡ string_bytes out.old
+        ++ stream_text (kept_alive_data header.now id.now ttl.now)) }
+{
+    out.push_str(RESULT_BEGIN)?;
+    write_lease(out, header, id, ttl)?;
+    out.push_str(RESULT_END)?;
+    Ok(())
+}
