@@ -5,6 +5,14 @@ mod header;
 mod leases;
 mod list;
 mod member;
+mod refusal;
+mod replies;
 mod responses;
 mod rows;
+mod size;
 mod streams;
+#[cfg(test)]
+mod tests;
+
+pub use refusal::{MEMORY_TEXT, memory_text};
+pub use replies::write_reply;

@@ -1,7 +1,7 @@
 //! One member of an object's text.
 //!
 //! A writer is told whether a member stands before, and says whether one stands before what follows.
-//! Where a value is zero, false or empty, its writer leaves the member out.
+//! Where a value is zero, false or empty, the member is left out.
 #![tactic(auto, using(crate::proofs::WroteLemmas::wrote_value))]
 
 ghost use Rattle.std.specs.Prelude.{◌≡◌, ◌++◌, IsTrue, IfOk, OnOk, string_bytes};
@@ -27,7 +27,8 @@ pub(crate) fn write_comma(out: &mut String, later: bool) -> Mem<()>
 /// Writes a member's name and the colon after it.
 pub(crate) fn write_name(out: &mut String, later: bool, name: &str) -> Mem<()>
     requires { IsTrue (is_plain name.now) }
-    ensures { OnOk result (string_bytes out.new ≡ string_bytes out.old ++ name_text later name.now) }
+    ensures { OnOk result (string_bytes out.new
+        ≡ string_bytes out.old ++ name_text later name.now) }
 {
     write_comma(out, later)?;
     out.push_str("\"")?;
@@ -39,7 +40,8 @@ pub(crate) fn write_name(out: &mut String, later: bool, name: &str) -> Mem<()>
 /// Writes a text that needs no escape, between its quotes.
 fn write_quoted(out: &mut String, text: &str) -> Mem<()>
     requires { IsTrue (is_plain text.now) }
-    ensures { OnOk result (string_bytes out.new ≡ string_bytes out.old ++ compact_text (string text.now)) }
+    ensures { OnOk result (string_bytes out.new
+        ≡ string_bytes out.old ++ compact_text (string text.now)) }
 {
     out.push_str("\"")?;
     out.push_str(text)?;
@@ -60,18 +62,17 @@ pub(crate) fn write_text(out: &mut String, later: bool, name: &str, text: &str) 
 }
 
 /// Writes a 64-bit number, which is a string of its digits.
-#[tactic(auto, using(crate::proofs::PlainLemmas::plain_signed, crate::proofs::WroteLemmas::wrote_unless))]
+#[tactic(auto, using(crate::proofs::PlainLemmas::plain_signed))]
 pub(crate) fn write_signed(out: &mut String, later: bool, name: &str, n: &i64) -> Mem<bool>
     requires { IsTrue (is_plain name.now) }
     ensures { IfOk result (λ after. Wrote (string_bytes out.old) later (string_bytes out.new) after
         (signed_member name.now n.now)) }
 {
-    let n = *n;
-    if n == 0 {
+    if *n == 0 {
         return Ok(later);
     }
     let mut buffer = itoa::Buffer::new();
-    write_text(out, later, name, buffer.format(n))
+    write_text(out, later, name, buffer.format(*n))
 }
 
 /// Writes a 64-bit number without a sign, which is a string of its digits.

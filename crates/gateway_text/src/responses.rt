@@ -1,17 +1,46 @@
 //! The answers to reads and writes of keys, alone and within the answer to a transaction.
-ghost use Rattle.std.specs.Prelude.{◌≡◌, ◌++◌, OnOk, string_bytes};
+ghost use Rattle.std.specs.Prelude.{◌≡◌, ◌++◌, IsTrue, OnOk, string_bytes};
 ghost use Rattle.serde_json.specs.Data.{object};
 ghost use Rattle.serde_json.specs.Written.{compact_text};
-ghost use Rattle.etcd_model.specs.ReplyText.{delete_members, put_members, range_members, response_data};
+ghost use Rattle.etcd_model.specs.ReplyText.{delete_members, put_members, range_members, reply_body, response_data, txn_data};
+ghost use Rattle.gateway_text.specs.Groups.{is_key_reply};
 
 use crate::header::InnerHeader;
 use crate::list::{WriteItem, write_item, write_list};
 use crate::member::{write_flag, write_unsigned};
 use crate::rows::write_row;
-use etcd_types::{KeyValue, Mem, OpReply};
+use etcd_types::{Header, KeyValue, Mem, OpReply, Reply};
+
+/// Writes the answer to a read or a write of keys.
+#[tactic(auto, unfolding(etcd_model::specs::ReplyText::range_data, etcd_model::specs::ReplyText::put_data, etcd_model::specs::ReplyText::delete_data))]
+pub(crate) fn write_key_reply(out: &mut String, reply: &Reply) -> Mem<()>
+    requires { IsTrue (is_key_reply reply.now) }
+    ensures { OnOk result (string_bytes out.new ≡ string_bytes out.old ++ reply_body reply.now) }
+{
+    match reply {
+        Reply::Range {
+            header,
+            count,
+            kvs,
+            more,
+        } => write_range(out, header, *count, kvs.as_slice(), *more),
+        Reply::Put { header, prev_kv } => write_put(out, header, prev_kv),
+        Reply::Delete {
+            header,
+            deleted,
+            prev_kvs,
+        } => write_delete(out, header, *deleted, prev_kvs.as_slice()),
+        Reply::Txn {
+            header,
+            succeeded,
+            responses,
+        } => write_txn(out, header, *succeeded, responses.as_slice()),
+        _ => unreachable!(),
+    }
+}
 
 /// Writes the answer to a range.
-pub(crate) fn write_range<H: WriteItem>(
+fn write_range<H: WriteItem>(
     out: &mut String,
     header: &H,
     count: u64,
@@ -31,11 +60,7 @@ pub(crate) fn write_range<H: WriteItem>(
 }
 
 /// Writes the answer to a put.
-pub(crate) fn write_put<H: WriteItem>(
-    out: &mut String,
-    header: &H,
-    prev_kv: &Option<KeyValue>,
-) -> Mem<()>
+fn write_put<H: WriteItem>(out: &mut String, header: &H, prev_kv: &Option<KeyValue>) -> Mem<()>
     ensures { OnOk result (string_bytes out.new ≡ string_bytes out.old
         ++ compact_text (object (put_members (H.data_of header.now) prev_kv.now))) }
 {
@@ -47,7 +72,7 @@ pub(crate) fn write_put<H: WriteItem>(
 }
 
 /// Writes the answer to a delete.
-pub(crate) fn write_delete<H: WriteItem>(
+fn write_delete<H: WriteItem>(
     out: &mut String,
     header: &H,
     deleted: u64,
@@ -60,6 +85,19 @@ pub(crate) fn write_delete<H: WriteItem>(
     let later = write_unsigned(out, false, "deleted", deleted)?;
     let later = write_item(out, later, "header", header)?;
     write_list(out, later, "prev_kvs", prev_kvs)?;
+    out.push_str("}")?;
+    Ok(())
+}
+
+/// Writes the answer to a transaction.
+fn write_txn(out: &mut String, header: &Header, succeeded: bool, responses: &[OpReply]) -> Mem<()>
+    ensures { OnOk result (string_bytes out.new ≡ string_bytes out.old
+        ++ compact_text (txn_data header.now succeeded responses.now)) }
+{
+    out.push_str("{")?;
+    let later = write_item(out, false, "header", header)?;
+    let later = write_list(out, later, "responses", responses)?;
+    write_flag(out, later, "succeeded", succeeded)?;
     out.push_str("}")?;
     Ok(())
 }

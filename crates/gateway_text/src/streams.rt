@@ -1,19 +1,46 @@
 //! The answers of watches and of keepalives: each lies in a `result` and ends a line.
-ghost use Rattle.std.specs.Prelude.{◌≡◌, ◌++◌, OnOk, string_bytes};
-ghost use Rattle.etcd_model.specs.ReplyText.{canceled_data, created_data, events_data, kept_alive_data, stream_text};
+ghost use Rattle.std.specs.Prelude.{◌≡◌, ◌++◌, IsTrue, OnOk, string_bytes};
+ghost use Rattle.etcd_model.specs.ReplyText.{canceled_data, created_data, events_data, kept_alive_data, reply_body, stream_text};
+ghost use Rattle.gateway_text.specs.Groups.{is_stream_reply};
 
 use crate::leases::write_lease;
 use crate::list::{write_item, write_list};
 use crate::member::{write_flag, write_signed};
-use etcd_types::{Event, Header, Mem};
+use etcd_types::{Event, Header, Mem, Reply};
 
 /// What stands before the members of a `result`.
 const RESULT_BEGIN: &str = "{\"result\":{";
 /// What stands after them.
 const RESULT_END: &str = "}}\n";
 
+/// Writes an answer of a watch or a keepalive.
+pub(crate) fn write_stream_reply(out: &mut String, reply: &Reply) -> Mem<()>
+    requires { IsTrue (is_stream_reply reply.now) }
+    ensures { OnOk result (string_bytes out.new ≡ string_bytes out.old ++ reply_body reply.now) }
+{
+    match reply {
+        Reply::Created {
+            header,
+            watch_id,
+            ..
+        } => write_created(out, header, watch_id),
+        Reply::Events {
+            header,
+            watch_id,
+            events,
+        } => write_events(out, header, watch_id, events.as_slice()),
+        Reply::Canceled {
+            header,
+            watch_id,
+            compact_revision,
+        } => write_canceled(out, header, watch_id, compact_revision),
+        Reply::KeptAlive { header, id, ttl } => write_kept_alive(out, header, id, ttl),
+        _ => unreachable!(),
+    }
+}
+
 /// Writes the first answer of a watch.
-pub(crate) fn write_created(out: &mut String, header: &Header, watch_id: &i64) -> Mem<()>
+fn write_created(out: &mut String, header: &Header, watch_id: &i64) -> Mem<()>
     ensures { OnOk result (string_bytes out.new ≡ string_bytes out.old
         ++ stream_text (created_data header.now watch_id.now)) }
 {
@@ -26,12 +53,7 @@ pub(crate) fn write_created(out: &mut String, header: &Header, watch_id: &i64) -
 }
 
 /// Writes events, or that there are none up to a revision.
-pub(crate) fn write_events(
-    out: &mut String,
-    header: &Header,
-    watch_id: &i64,
-    events: &[Event],
-) -> Mem<()>
+fn write_events(out: &mut String, header: &Header, watch_id: &i64, events: &[Event]) -> Mem<()>
     ensures { OnOk result (string_bytes out.new ≡ string_bytes out.old
         ++ stream_text (events_data header.now watch_id.now events.now)) }
 {
@@ -44,7 +66,7 @@ pub(crate) fn write_events(
 }
 
 /// Writes the last answer of a watch.
-pub(crate) fn write_canceled(
+fn write_canceled(
     out: &mut String,
     header: &Header,
     watch_id: &i64,
@@ -63,7 +85,7 @@ pub(crate) fn write_canceled(
 }
 
 /// Writes the answer to a keepalive.
-pub(crate) fn write_kept_alive(out: &mut String, header: &Header, id: &i64, ttl: &i64) -> Mem<()>
+fn write_kept_alive(out: &mut String, header: &Header, id: &i64, ttl: &i64) -> Mem<()>
     ensures { OnOk result (string_bytes out.new ≡ string_bytes out.old
         ++ stream_text (kept_alive_data header.now id.now ttl.now)) }
 {
