@@ -4,7 +4,7 @@ use Rattle.etcd_types.specs.Refusals.{refusal_status}
 use Rattle.etcd_types.specs.declared.refusal.Refusal.{Refusal}
 use Rattle.etcd_types.specs.declared.refusal.Refusal.TheVariants.{Memory}
 use Rattle.etcd_types.specs.declared.reply.Reply.{Reply}
-use Rattle.etcd_types.specs.declared.reply.Reply.TheVariants.{Refused, Quiet}
+use Rattle.etcd_types.specs.declared.reply.Reply.TheVariants.{Refused}
 use Rattle.etcd_model.specs.ReplyText.{reply_status}
 
 refusal_of_memory : (refusal : Refusal) → refusal_status refusal ≡ 503 → Refused refusal ≡ Refused Memory

@@ -1,9 +1,9 @@
 -- From pieces of text to members, and from members to an object.
-use Rattle.std.proofs.Common.{ap, codes, subst, ◌≡◌, ℕ, List, [], ◌∷◌, ◌++◌, Bool, true, false, refl, sym, ◌∙◌, append_assoc, IsTrue}
+use Rattle.std.proofs.Common.{ap, codes, ◌≡◌, ℕ, List, [], ◌∷◌, ◌++◌, Bool, true, false, sym, ◌∙◌, append_assoc, IsTrue}
 use Rattle.json.specs.Print.{escape_byte, quoted}
 use Rattle.serde_json.specs.Data.{Data, object, Members, no_members, member}
-use Rattle.serde_json.specs.Written.{comma_if, compact_text, members_text}
-use Rattle.etcd_model.specs.ReplyText.{member_unless, result_data, stream_text}
+use Rattle.serde_json.specs.Written.{compact_text, members_text}
+use Rattle.etcd_model.specs.ReplyText.{result_data, stream_text}
 use Rattle.gateway_text.specs.Plain.{is_plain}
 use Rattle.gateway_text.proofs.PlainLemmas.{escape_plain}
 use Rattle.gateway_text.specs.Wrote.{Wrote, name_text}
@@ -12,19 +12,10 @@ use Rattle.gateway_text.specs.Wrote.{Wrote, name_text}
 pub wrote_value : (old named new : List ℕ) (later : Bool) (name : List ℕ) (d : Data) → named ≡ old ++ name_text later name → new ≡ named ++ compact_text d → Wrote old later new true (λ r. member name d r)
 wrote_value old named new later name d names values = record { text = λ rest. rw (values, names) (simp append_assoc) }
 
--- nothing was written
-pub wrote_nothing : (old : List ℕ) (later : Bool) → Wrote old later old later (λ r. r)
-wrote_nothing old later = record { text = λ rest. refl }
-
 infixr 30 ◌then◌
 -- one writer after another
 pub ◌then◌ : {a b c : List ℕ} {l m n : Bool} {f g : Members → Members} → Wrote a l b m f → Wrote b m c n g → Wrote a l c n (λ r. f (g r))
-◌then◌ {f = f} {g = g} x y = record { text = λ rest. y.text rest ∙ x.text (g rest) }
-
--- a member that is not zero
-pub wrote_unless : (old new : List ℕ) (later after zero : Bool) (name : List ℕ) (d : Data) → zero ≡ false → Wrote old later new after (λ r. member name d r)
-    → Wrote old later new after (λ r. member_unless zero name d r)
-wrote_unless old new later after zero name d e w = subst (λ z. Wrote old later new after (λ r. member_unless z name d r)) (sym e) w
+◌then◌ {g = g} first second = record { text = λ rest. second.text rest ∙ first.text (g rest) }
 
 -- the braces round the members
 pub object_written : {opened last new : List ℕ} {after : Bool} {f : Members → Members} (old : List ℕ) → opened ≡ old ++ 123 ∷ [] → Wrote opened false last after f → new ≡ last ++ 125 ∷ []

@@ -62,7 +62,7 @@ pub(crate) fn write_text(out: &mut String, later: bool, name: &str, text: &str) 
 }
 
 /// Writes a 64-bit number, which is a string of its digits.
-#[tactic(auto, using(crate::proofs::PlainLemmas::plain_signed, crate::proofs::WroteLemmas::wrote_unless))]
+#[tactic(auto, using(crate::proofs::PlainLemmas::plain_signed))]
 pub(crate) fn write_signed(out: &mut String, later: bool, name: &str, n: &i64) -> Mem<bool>
     requires { IsTrue (is_plain name.now) }
     ensures { IfOk result (λ after. Wrote (string_bytes out.old) later (string_bytes out.new) after

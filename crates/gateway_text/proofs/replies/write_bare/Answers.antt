@@ -1,5 +1,5 @@
 use Rattle.etcd_model.specs.ReplyText.{bare_data}
-use Rattle.gateway_text.proofs.WroteLemmas.{object_written, ◌then◌}
+use Rattle.gateway_text.proofs.WroteLemmas.{object_written}
 use Rattle.gateway_text.proofs.replies.write_bare.Goals as goal
 
 pub returns : goal.returns
