@@ -1,5 +1,5 @@
 pub mod BodyLemmas
+pub mod NumberLemmas
 pub mod PathLemmas
 pub mod SpellingLemmas
-pub mod SignedLemmas
 pub mod TableLemmas

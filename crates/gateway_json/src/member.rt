@@ -41,7 +41,7 @@ fn starts_with_plus(text: &[u8]) -> bool
 }
 
 /// The number of a text: an optional minus and digits.
-#[tactic(auto, using(crate::proofs::SignedLemmas::signed_plus, crate::proofs::SignedLemmas::signed_parsed))]
+#[tactic(auto, using(crate::proofs::NumberLemmas::signed_plus, crate::proofs::NumberLemmas::signed_parsed))]
 fn signed_of_text(text: &str) -> Option<i64>
     ensures { result ≡ signed_text text.now }
 {

@@ -1,37 +1,26 @@
--- The text of a signed number, and what `parse` reads.
-use Rattle.std.proofs.Common.{◌≡◌, ℕ, ◌<◌, ◌==◌, ◌&&◌, ℤ, List, [], ◌∷◌, length, slice_index, Option, Some, None, Result, Ok, Err, Bool, true, false, if◌then◌else◌, nat_lt, refl, ap, sym, arith, w64, FitsSigned, lt-ltb}
+-- The texts of numbers, and what `parse` reads.
+use Rattle.std.proofs.Common.{◌≡◌, ℕ, ◌<◌, ◌==◌, ◌&&◌, ℤ, List, [], ◌∷◌, length, slice_index, Option, Some, None, Result, Ok, Err, Bool, true, false, if◌then◌else◌, nat_lt, refl, ap, sym, ◌∙◌, arith, w64, FitsSigned, lt-ltb}
 use Rattle.std.specs.Result.{result_ok, OkIff}
 use Rattle.std.specs.Char.{digit_value}
 use Rattle.std.specs.List.{list_all}
 use Rattle.std.specs.Str.Parse.{AllDigits, IsNumeral, ParsesSigned}
-use Rattle.std.proofs.lemmas.Bool.{and_parts, and_from, ltb-true}
+use Rattle.std.proofs.lemmas.Bool.{and_parts, and_from, and_right, ltb-true}
 use Rattle.std.proofs.lemmas.Bool.Decides.{nat_tests}
 use Rattle.std.proofs.lemmas.Int.{ints}
-use Rattle.etcd_model.specs.Members.{magnitude, text_value, fits_signed, signed_text}
+use Rattle.etcd_model.specs.Members.{magnitude, is_number_text, text_value, fits_signed, signed_text}
 
--- the digits of a number
+decided : {V E : Type 0} (r : Result V E) (P : Type 0) (v : V) (b : Bool) → (P → b ≡ true) → (b ≡ true → P) → OkIff r P v → result_ok r ≡ (if b then Some v else None)
+decided (Ok x) P v b to from h = rw (to h.0) (ap Some h.1)
+decided (Err e) P v true to from h = absurd (h (from refl))
+decided (Err e) P v false to from h = refl
+
+-- ---- numerals
+
 abbrev are_digits : List ℕ → Bool
 are_digits ds = list_all (λ c. nat_lt (digit_value c) 10) ds
 
 abbrev is_numeral : List ℕ → Bool
 is_numeral ds = nat_lt 0 (length ds) && are_digits ds
-
-neither : (a b : Bool) → (a && false && b) ≡ false
-neither true b = refl
-neither false b = refl
-
-plus_refused : (c : ℕ) (cs : List ℕ) → c ≡ 43 → signed_text (c ∷ cs) ≡ None
-unfolding signed_text
-plus_refused c cs is = rw is (rw neither refl)
-
-pub signed_plus : (s : List ℕ) → (slice_index s 0 == 43) ≡ true → None ≡ signed_text s
-signed_plus [] h = absurd (cc)
-signed_plus (c ∷ cs) h = sym (plus_refused c cs (grind (arith, nat_tests)))
-
-decided : {E : Type 0} (r : Result ℤ E) (P : Type 0) (v : ℤ) (b : Bool) → (P → b ≡ true) → (b ≡ true → P) → OkIff r P v → result_ok r ≡ (if b then Some v else None)
-decided (Ok x) P v b to from h = rw (to h.0) (ap Some h.1)
-decided (Err e) P v true to from h = absurd (h (from refl))
-decided (Err e) P v false to from h = refl
 
 digits_to : (ds : List ℕ) → AllDigits 10 ds → are_digits ds ≡ true
 digits_to [] h = refl
@@ -47,11 +36,22 @@ numeral_to ds h = and_from _ _ (lt-ltb _ _ h.0) (digits_to ds h.1)
 numeral_from : (ds : List ℕ) → is_numeral ds ≡ true → IsNumeral 10 ds
 numeral_from ds h = let parts = and_parts _ _ h in (ltb-true _ _ parts.0, digits_from ds parts.1)
 
+-- `parse` takes a plus, and the definitions do not
+plus_is_none : (s : List ℕ) → (slice_index s 0 == 43) ≡ true → is_number_text s ≡ false
+plus_is_none [] h = absurd (cc)
+plus_is_none (c ∷ cs) h = let is : c ≡ 43 = grind (arith, nat_tests) in rw is (and_right _ _ refl)
+
+-- ---- signed
+
 fits_to : (z : ℤ) → FitsSigned w64 z → fits_signed z ≡ true
 fits_to z h = grind (arith, ints, nat_tests)
 
 fits_from : (z : ℤ) → fits_signed z ≡ true → FitsSigned w64 z
 fits_from z h = grind (arith, ints, nat_tests)
+
+pub signed_plus : (s : List ℕ) → (slice_index s 0 == 43) ≡ true → None ≡ signed_text s
+unfolding signed_text
+signed_plus s h = rw (plus_is_none s h) refl
 
 signed_by : {E : Type 0} (ds : List ℕ) (z : ℤ) (r : Result ℤ E) → OkIff r (IsNumeral 10 ds × FitsSigned w64 z) z → result_ok r ≡ (if is_numeral ds && fits_signed z then Some z else None)
 signed_by ds z r h =
