@@ -18,7 +18,7 @@ use Rattle.etcd_replay.specs.Replaying.{LineTurn, Tells, IsReplayed}
 use Rattle.etcd_replay.specs.Written.{Wrote, StopsAt, StopsAmong}
 use Rattle.etcd_replay.specs.Going.{Going}
 use Rattle.etcd_replay.proofs.FirstLine.{first_line, at_end}
-use Rattle.etcd_replay.proofs.Replayed.{replayed_push}
+use Rattle.etcd_replay.proofs.Replayed.{all_push, replayed_push, spoken_by}
 
 abbrev written : LineTurn → List ℕ
 written x = line_of x.answer
@@ -28,7 +28,7 @@ asked_line x = Some x.asked
 
 pub going_first : (o old : Option (List ℕ)) → IfSome o (λ script. Going script o old old None 0)
 going_first None old = tt
-going_first (Some script) old = record { done = []; rest = script; remains = refl; lines = refl; number = refl; turns = []; read = refl; replayed = tt; text = Appends-nil old }
+going_first (Some script) old = record { done = []; rest = script; remains = refl; lines = refl; number = refl; turns = []; read = refl; replayed = tt; spoken = tt; text = Appends-nil old }
 
 -- what is taken is the first line of what is left
 module _ (script : List ℕ) (now old new : Option (List ℕ)) (tenant : Option Tenant) (n : ℕ) (going : Going script now old new tenant n) where
@@ -41,7 +41,7 @@ module _ (script : List ℕ) (now old new : Option (List ℕ)) (tenant : Option 
       subst (λ l. lines_of going.rest ≡ strip_last 10 l ∷ lines_of (drop_through 10 going.rest)) (sym is) (first_line going.rest (λ e. some (is ∙ e)))
 
   so_far : Wrote old new going.done
-  so_far = record { turns = going.turns; last = tenant; read = going.read; replayed = going.replayed; text = going.text }
+  so_far = record { turns = going.turns; last = tenant; read = going.read; replayed = going.replayed; spoken = going.spoken; text = going.text }
 
 pub going_more : (o now next old mid new : Option (List ℕ)) (before after : Option Tenant) (n : ℕ) (line : List ℕ) (q : Asked) (a : LineAnswer)
     → IfSome o (λ script. Going script now old mid before n) → IfSome now (λ xs. line ≡ take_through 10 xs) → DropsThrough now next 10 → line ≢ []
@@ -61,6 +61,7 @@ going_more (Some script) now next old mid new before after n line q a going take
       turns = g.turns ++ x ∷ [];
       read = map-append read_line g.done (strip_last 10 line ∷ []) ∙ (λ i. g.read i ++ is i ∷ []) ∙ sym (map-append asked_line g.turns (x ∷ []));
       replayed = replayed_push g.turns before after q a g.replayed tells;
+      spoken = all_push _ g.turns x g.spoken (spoken_by before after q a tells);
       text = subst (Appends old new) (sym (flat_map-append written g.turns (x ∷ [])))
           (Appends-trans old mid new (flat_map written g.turns) (flat_map written (x ∷ [])) g.text (subst (Appends mid new) (sym (append-nil (line_of a))) wrote));
     }

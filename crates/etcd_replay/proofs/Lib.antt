@@ -3,3 +3,4 @@ pub mod NumberLemmas
 pub mod FirstLine
 pub mod Replayed
 pub mod GoingLemmas
+pub mod ToldLemmas

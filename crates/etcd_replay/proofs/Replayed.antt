@@ -17,14 +17,14 @@ use Rattle.etcd_replay.specs.declared.answer.LineAnswer.{LineAnswer}
 use Rattle.etcd_replay.specs.declared.answer.LineAnswer.TheVariants.{Done, No, Told}
 use Rattle.etcd_replay.specs.declared.replay.Tenant.{Tenant}
 use Rattle.etcd_replay.specs.Script.{Asked, Add, Call}
-use Rattle.etcd_replay.specs.Replaying.{LineTurn, IsAdded, IsServed, IsCalled, Tells, IsRefused, IsUnserved, IsAlone, IsTenant, IsReplayed, Opens, add_fault, is_name, within_limits, is_own_call, turn_by, turn_of, turns, nobody}
+use Rattle.etcd_replay.specs.Replaying.{LineTurn, IsAdded, IsServed, IsCalled, Tells, IsRefused, IsUnserved, IsAlone, IsSpoken, IsTenant, IsReplayed, Opens, add_fault, is_name, within_limits, is_own_call, turn_by, turn_of, turns, nobody}
 
 true_is_not : true ≡ false → ⊥
 true_is_not h = cc
 
 -- ---- lists with one more
 
-all_push : (P : LineTurn → Type 0) (xs : List LineTurn) (x : LineTurn) → AllByRecursion P xs → P x → AllByRecursion P (xs ++ x ∷ [])
+pub all_push : (P : LineTurn → Type 0) (xs : List LineTurn) (x : LineTurn) → AllByRecursion P xs → P x → AllByRecursion P (xs ++ x ∷ [])
 all_push P [] x all one = (one, tt)
 all_push P (y ∷ ys) x all one = (all.0, all_push P ys x all.1 one)
 
@@ -150,7 +150,7 @@ unserved_more xs new x before none one = subst (IsReplayed (xs ++ x ∷ [])) (sy
 unserved_call : (xs : List LineTurn) (new : Option Tenant) (method target body : List ℕ) (a : Answer) (unanswered : Bool) → is_unanswered a ≡ unanswered
     → AllByRecursion (λ (y : LineTurn). IsUnserved false y.asked y.answer) xs → IsCalled None (Called method target body) a new → IsReplayed (xs ++ record { asked = Call method target body; answer = Told a } ∷ []) new
 unserved_call xs new method target body a true is before called =
-    unserved_more xs new (record { asked = Call method target body; answer = Told a }) before (called.memory is) (λ other. absurd (true_is_not (sym is ∙ other)))
+    unserved_more xs new (record { asked = Call method target body; answer = Told a }) before (called.memory is).0 (λ other. absurd (true_is_not (sym is ∙ other)))
 unserved_call xs new method target body a false is before called =
     let none = (called.served is).none refl in
     unserved_more xs new (record { asked = Call method target body; answer = Told a }) before none.0 (λ _. none.1)
@@ -168,7 +168,7 @@ served_call xs t new method target body a is true mine quiet own_is called =
     let x : LineTurn = record { asked = Call method target body; answer = Told a } in
     let turn : Turn = record { event = e; answer = a } in
     let none : own is.name (turn ∷ []) ≡ [] = ap (λ b. cond ((is_of is.name e && true) && not b) (turn ∷ []) []) quiet ∙ ap (λ b. cond b (turn ∷ []) []) (and_false (is_of is.name e && true)) in
-    subst (IsReplayed (xs ++ x ∷ [])) (sym (called.memory quiet))
+    subst (IsReplayed (xs ++ x ∷ [])) (sym (called.memory quiet).0)
     (grown xs t t x is (alone_passed is.name (opening is.cluster is.quota is.first) is.later t t x is.served refl (λ other answered. absurd (true_is_not (sym quiet ∙ answered))) none))
 served_call xs t new method target body a is false false answered other called =
     let e = Called method target body in
@@ -212,3 +212,10 @@ replayed_push xs (Some t) new (Add name cluster quota first) (Told a) is tells =
 replayed_push xs (Some t) new (Call method target body) (Told a) is tells = served_call xs t new method target body a is (is_unanswered a) (is_of is.name (Called method target body)) refl refl tells
 replayed_push xs (Some t) new (Call method target body) Done is tells = absurd tells
 replayed_push xs (Some t) new (Call method target body) (No f) is tells = absurd tells
+
+-- what a line is told is spoken
+pub spoken_by : (old new : Option Tenant) (q : Asked) (a : LineAnswer) → Tells old q a new → IsSpoken a
+spoken_by old new q Done tells = tt
+spoken_by old new q (No f) tells = tt
+spoken_by old new (Add name cluster quota first) (Told a) tells = absurd (tells.spoken a refl)
+spoken_by old new (Call method target body) (Told a) tells = λ unanswered. (tells.memory unanswered).1

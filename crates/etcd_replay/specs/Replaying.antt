@@ -12,7 +12,7 @@ use Rattle.etcd_model.specs.declared.state.History.{History}
 use Rattle.etcd_model.specs.declared.state.State.{State}
 use Rattle.etcd_model.specs.Machine.{opening}
 use Rattle.etcd_model.specs.Calls.{Target, target_of, call_of}
-use Rattle.etcd_model.specs.ReplyText.{Answer, text}
+use Rattle.etcd_model.specs.ReplyText.{Answer, memory_answer, text}
 use Rattle.etcd_model.specs.Alone.{Event, Called, Stepped, Turn, is_of, is_unanswered, own, asked, told, alone, alone_after, read_event, answer_to, after_read}
 use Rattle.tenant_machine.specs.Newest.{Newest, Holds}
 use Rattle.etcd_replay.specs.declared.answer.AddFault.{AddFault}
@@ -66,7 +66,7 @@ is_there (Some t) e = is_of t.name e
 -- a machine is asked for a step, or for one that is refused
 pub record Serves (old : State Newest) (wanted : Result Step Refusal) (a : Answer) (new : State Newest) : Type 0 where
   pub served : (S : State History) → is_unanswered a ≡ false → Holds old S → (a ≡ answer_to S wanted) × Holds new (after_read S wanted)
-  pub memory : is_unanswered a ≡ true → new ≡ old
+  pub memory : is_unanswered a ≡ true → (new ≡ old) × (a ≡ memory_answer)
 
 -- the tenant is there, at its opening
 pub record Opens (name : List ℕ) (cluster quota first : ℕ) (new : Option Tenant) : Type 0 where
@@ -90,7 +90,7 @@ pub record IsServed (old : Option Tenant) (e : Event) (a : Answer) (new : Option
 -- for want of memory nothing changed
 pub record IsCalled (old : Option Tenant) (e : Event) (a : Answer) (new : Option Tenant) : Type 0 where
   pub served : is_unanswered a ≡ false → IsServed old e a new
-  pub memory : is_unanswered a ≡ true → new ≡ old
+  pub memory : is_unanswered a ≡ true → (new ≡ old) × (a ≡ memory_answer)
 
 abbrev pub Tells : Option Tenant → Asked → LineAnswer → Option Tenant → Type 0
 Tells old (Add name cluster quota first) answer new = IsAdded old name cluster quota first answer new
@@ -126,6 +126,12 @@ abbrev pub IsUnserved : Bool → Asked → LineAnswer → Type 0
 IsUnserved taken (Add name cluster quota first) answer = IsRefused (add_fault taken name cluster quota first) answer
 IsUnserved taken (Call method target body) (Told a) = is_unanswered a ≡ false → a ≡ text (Refused (nobody (Called method target body)))
 IsUnserved taken (Call method target body) answer = ⊥
+
+-- an answer that says nothing of its call says that memory ran out
+abbrev pub IsSpoken : LineAnswer → Type 0
+IsSpoken Done = Unit {0}
+IsSpoken (No f) = Unit {0}
+IsSpoken (Told a) = is_unanswered a ≡ true → a ≡ memory_answer
 
 -- a line is the tenant's own call
 abbrev pub is_own_call : List ℕ → Asked → Bool

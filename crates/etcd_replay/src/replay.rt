@@ -1,10 +1,10 @@
 //! The tenant of a script, and what it answers.
-ghost use Rattle.std.specs.Prelude.{◌≡◌, ◌≢◌, ◌↔◌, ◌≤◌, ◌+◌, ℕ, IsTrue, IfErr, IfOk, OnOk, OnErr, Some, None, Ok, false, is_some, length};
+ghost use Rattle.std.specs.Prelude.{◌≡◌, ◌≢◌, ◌↔◌, ◌≤◌, ◌+◌, ℕ, IsTrue, IfErr, IfOk, OnOk, OnErr, Some, None, Ok, true, false, is_some, length};
 ghost use Rattle.std.specs.List.{list_all};
 ghost use Rattle.etcd_model.specs.Machine.{opening};
 ghost use Rattle.etcd_model.specs.Alone.{Called, is_of, is_unanswered};
 ghost use Rattle.etcd_model.specs.Calls.{call_of, read_posted, target_of};
-ghost use Rattle.etcd_model.specs.ReplyText.{text};
+ghost use Rattle.etcd_model.specs.ReplyText.{memory_answer, text};
 ghost use Rattle.tenant_machine.specs.Newest.{Newest, Holds};
 ghost use Rattle.etcd_replay.specs.Script.{asked_by};
 ghost use Rattle.etcd_replay.specs.Replaying.{add_fault, is_name, is_name_byte, within_limits, refused_call, nobody, IsAdded, IsCalled, IsServed, Opens, Serves, Tells};
@@ -146,8 +146,10 @@ fn refused_call(path: &[u8]) -> Refusal
     }
 }
 
+#[tactic(auto, using(crate::proofs::ToldLemmas::memory_told))]
 fn refuse(alloc: Global, refusal: Refusal) -> Answer
-    ensures { is_unanswered result ≡ false → result ≡ text (Reply.Refused refusal) }
+    ensures told { is_unanswered result ≡ false → result ≡ text (Reply.Refused refusal) }
+    ensures memory { is_unanswered result ≡ true → result ≡ memory_answer }
 {
     match write_reply(alloc, &Reply::Refused(refusal)) {
         Ok((status, body)) => Answer {
