@@ -1,11 +1,11 @@
--- The history only grows, whatever the step, and what was true at a revision stays true.
+-- What a step may do to the history: it writes one revision at most, unless it is a tick, and keeps all that is there.
 use Rattle.std.proofs.Common.{◌≡◌, ℕ, ◌+◌, ◌≤◌, List, [], ◌∷◌, ◌++◌, length, refl, ap, ◌∙◌, sym, arith, append_assoc, map}
 use Rattle.std.specs.Prelude.{ℤ, pos, Bool, true, false, ◌&&◌, fold, Option, Some, None, slice_get, max, min, nat_le, nat_lt, if◌then◌else◌}
 use Rattle.std.proofs.lemmas.Bool.{and_parts, true≢false}
 use Rattle.std.proofs.lemmas.List.{append-nil}
 use Rattle.etcd_types.specs.declared.txn.Op.TheVariants.{Put as PutOp, Delete as DeleteOp}
 use Rattle.etcd_types.specs.declared.step.Step.{Step}
-use Rattle.etcd_types.specs.declared.step.Step.TheVariants.{Range, Put, Delete, Txn, Compact, Watch, Take, Revoke, KeepAlive, Alarm, Tick}
+use Rattle.etcd_types.specs.declared.step.Step.TheVariants.{Put, Delete, Txn, Compact, Watch, Take, Revoke, KeepAlive, Alarm, Tick}
 use Rattle.etcd_types.specs.declared.refusal.Refusal.{Refusal}
 use Rattle.etcd_types.specs.declared.watch.WatchReq.{WatchReq}
 use Rattle.etcd_types.specs.declared.alarm.AlarmAction.{AlarmAction}
@@ -18,7 +18,8 @@ use Rattle.etcd_types.specs.Limits.{last_moment}
 use Rattle.etcd_model.specs.declared.state.Lease.{Lease}
 use Rattle.etcd_model.specs.declared.state.Watch.{Watch as Watching}
 use Rattle.etcd_model.specs.History.{History, Change, Del, Entry, current, after}
-use Rattle.etcd_model.specs.Operations.{branch}
+use Rattle.etcd_model.specs.Fields.{fields}
+use Rattle.etcd_model.specs.Operations.{branch, first_refusal}
 use Rattle.etcd_model.specs.Tenant.{Outcome, reads, header, used}
 use Rattle.etcd_model.specs.Leases.{attached, finish, run_out, lease_at}
 use Rattle.etcd_model.specs.Watches.{with_slot, created, given, taken, free_slot, first_of, event_of}
@@ -28,20 +29,29 @@ use Rattle.etcd_model.proofs.HistoryLaws.{current-after}
 
 -- ---- after a step
 
-chosen : (P : State History → Type 0) (b : Bool) (x y : Outcome History) → (b ≡ true → P x.state) → P y.state → P (if b then x else y).state
+pub chosen : (P : State History → Type 0) (b : Bool) (x y : Outcome History) → (b ≡ true → P x.state) → P y.state → P (if b then x else y).state
 chosen P true x y l r = l refl
 chosen P false x y l r = r
 
--- after a step the state is as before, or has the alarm besides, or is what the step does
-pub after_step : (P : State History → Type 0) (S : State History) (step : Step) → P S → (adds (reads history S) step ≡ true → P (record S { alarm = true })) → P (outcome history S step).state → P (machine S step).state
+-- the first of some refusals is none where each is none
+pub first_none : (r : Option Refusal) (more : List (Option Refusal)) → first_refusal (r ∷ more) ≡ None → (r ≡ None) × (first_refusal more ≡ None)
+first_none None more h = (refl, h)
+first_none (Some r) more h = (h, cc)
+
+-- before space is counted the state is as before, or is what the step does, which its fields then allow
+pub after_before_space : (P : State History → Type 0) (S : State History) (step : Step) → P S → (fields step ≡ None → P (outcome history S step).state) → P (before_space S step).state
+after_before_space P S step same done = plain (first_refusal (early history S step ∷ look_up history S step ∷ [])) (λ h. (first_none (fields step) _ (first_none (early history S step) _ h).0).0)
+  where
+    plain : (r : Option Refusal) → (r ≡ None → fields step ≡ None) → P (decided history S step r).state
+    plain None allowed = done (allowed refl)
+    plain (Some r) allowed = same
+
+-- after a step it may have the alarm besides
+pub after_step : (P : State History → Type 0) (S : State History) (step : Step) → P S → (adds (reads history S) step ≡ true → P (record S { alarm = true })) → (fields step ≡ None → P (outcome history S step).state) → P (machine S step).state
 after_step P S step same alarmed done = checked (early history S step)
   where
-    plain : (r : Option Refusal) → P (decided history S step r).state
-    plain None = done
-    plain (Some r) = same
-
     before : P (before_space S step).state
-    before = plain _
+    before = after_before_space P S step same done
 
     over : Bool
     over = nat_lt S.quota (used history (before_space S step).state)
@@ -101,27 +111,46 @@ alarm_store S true Activate SpaceAlarm = refl
 alarm_store S true Deactivate SpaceAlarm = refl
 alarm_store S mine action kind = refl
 
+-- a step that may change the store: a write, a compaction, or the end of leases
+abbrev pub is_of_store : Step → Bool
+is_of_store (Put p) = true
+is_of_store (Delete d) = true
+is_of_store (Txn t) = true
+is_of_store (Compact r) = true
+is_of_store (Revoke id) = true
+is_of_store (Tick m) = true
+is_of_store step = false
+
+-- the other steps leave the store as it is
+pub store_stays : (S : State History) (step : Step) → is_of_store step ≡ false → (outcome history S step).state.store ≡ S.store
+store_stays S (Watch q) h = created_store S q (free_slot history S)
+store_stays S (Take i) h = taken_store S i (slice_get S.slots i)
+store_stays S (KeepAlive id) h = kept_alive_store S id (lease_at S.leases id)
+store_stays S (Alarm a) h = alarm_store S (nat_le a.member 1) a.action a.alarm
+store_stays S (Put p) h = absurd (true≢false h)
+store_stays S (Delete d) h = absurd (true≢false h)
+store_stays S (Txn t) h = absurd (true≢false h)
+store_stays S (Compact r) h = absurd (true≢false h)
+store_stays S (Revoke id) h = absurd (true≢false h)
+store_stays S (Tick m) h = absurd (true≢false h)
+store_stays S step h = refl
+
 abbrev pub is_tick : Step → Bool
 is_tick (Tick m) = true
 is_tick step = false
 
 outcome_writes : (S : State History) (step : Step) → is_tick step ≡ false → Writes S.store (outcome history S step).state.store
-outcome_writes S (Range q) h = writes_none S.store S.store refl refl
 outcome_writes S (Put p) h = writes S.store (pending history S (PutOp p ∷ []))
 outcome_writes S (Delete d) h = writes S.store (pending history S (DeleteOp d ∷ []))
 outcome_writes S (Txn t) h = writes S.store (pending history S (branch (reads history S) t))
 outcome_writes S (Compact r) h = writes_none S.store (outcome history S (Compact r)).state.store refl refl
-outcome_writes S (Watch q) h = kept S (outcome history S (Watch q)).state (created_store S q (free_slot history S))
-outcome_writes S (Take i) h = kept S (outcome history S (Take i)).state (taken_store S i (slice_get S.slots i))
 outcome_writes S (Revoke id) h = writes S.store (map Del (attached (reads history S) id))
-outcome_writes S (KeepAlive id) h = kept S (outcome history S (KeepAlive id)).state (kept_alive_store S id (lease_at S.leases id))
-outcome_writes S (Alarm a) h = kept S (outcome history S (Alarm a)).state (alarm_store S (nat_le a.member 1) a.action a.alarm)
 outcome_writes S (Tick m) h = absurd (true≢false h)
-outcome_writes S step h = writes_none S.store S.store refl refl
+outcome_writes S step h = kept S (outcome history S step).state (store_stays S step refl)
 
 -- a step other than a tick writes one revision at most
 pub machine_writes : (S : State History) (step : Step) → is_tick step ≡ false → Writes S.store (machine S step).state.store
-machine_writes S step h = after_step (λ T. Writes S.store T.store) S step (writes S.store []) (λ e. writes S.store []) (outcome_writes S step h)
+machine_writes S step h = after_step (λ T. Writes S.store T.store) S step (writes S.store []) (λ e. writes S.store []) (λ e. outcome_writes S step h)
 
 current_of : (H K : History) (cs : List Change) → K.first ≡ H.first → K.revisions ≡ (after H cs).revisions → current K ≤ current H + 1
 current_of H K [] f h = omega (arith, f, ap length h)
@@ -167,4 +196,4 @@ outcome_extends S step = Extends-writes S.store (outcome history S step).state.s
 pub machine_extends : (S : State History) (step : Step) → Extends S.store (machine S step).state.store
 machine_extends S step =
     let same = Extends-writes S.store S.store (writes S.store []) in
-    after_step (λ T. Extends S.store T.store) S step same (λ e. same) (outcome_extends S step)
+    after_step (λ T. Extends S.store T.store) S step same (λ e. same) (λ e. outcome_extends S step)

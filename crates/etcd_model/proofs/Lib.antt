@@ -15,3 +15,4 @@ pub mod PutLaws
 pub mod GrowthLaws
 pub mod OldRevisionLaws
 pub mod ReadLaws
+pub mod OnceLaws

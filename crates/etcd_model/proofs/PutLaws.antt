@@ -105,7 +105,7 @@ rows-put H c x is shown =
 abbrev pub ChangesOnce : History → Type 0
 ChangesOnce H = (key : List ℕ) → All (λ cs. length (changes_of key cs) ≤ 1) H.revisions
 
-one_change : (key : List ℕ) (c : Change) → length (changes_of key (c ∷ [])) ≤ 1
+pub one_change : (key : List ℕ) (c : Change) → length (changes_of key (c ∷ [])) ≤ 1
 one_change key c = elim (bytes_eq (key_of c) key) as (λ b. length (cond b (c ∷ []) []) ≤ 1) [ true ↦ omega arith | false ↦ omega arith ]
 
 -- a revision of one change is none that changes a key twice

@@ -56,4 +56,4 @@ adds_nothing R (Grant g) h e = false≢true h
 adds_nothing R step h e = false≢true e
 
 pub read_stays : (S : State History) (step : Step) → is_read step ≡ true → (machine S step).state ≡ S
-read_stays S step h = after_step (λ T. T ≡ S) S step refl (λ e. absurd (adds_nothing (reads history S) step h e)) (outcome_stays S step h)
+read_stays S step h = after_step (λ T. T ≡ S) S step refl (λ e. absurd (adds_nothing (reads history S) step h e)) (λ e. outcome_stays S step h)

@@ -34,13 +34,15 @@ alone : {X : Type 0} (o : Option X) → cons_option o [] ≡ option_to_list o
 alone None = refl
 alone (Some x) = refl
 
-filter-none : {X : Type 0} (test : X → Bool) (xs : List X) → list_any test xs ≡ false → filter test xs ≡ []
+-- a filter that nothing passes
+pub filter-none : {X : Type 0} (test : X → Bool) (xs : List X) → list_any test xs ≡ false → filter test xs ≡ []
 filter-none test [] h = refl
 filter-none test (x ∷ xs) h =
     let parts = or_parts (test x) (list_any test xs) h in
     ap (λ b. cond b (x ∷ filter test xs) (filter test xs)) parts.0 ∙ filter-none test xs parts.1
 
-later_key : (key k : List ℕ) → key_cmp key k ≡ Less → bytes_eq k key ≡ false
+-- a key after another is another
+pub later_key : (key k : List ℕ) → key_cmp key k ≡ Less → bytes_eq k key ≡ false
 later_key key k e = bytes_eq-key_cmp k key ∙ ap is_eq (nat_list_cmp_total.antisymm k key ∙ ap ordering_reverse e)
 
 -- a key is not among later ones
