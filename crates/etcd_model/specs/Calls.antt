@@ -10,15 +10,13 @@ use Rattle.serde_json.specs.declared.value.Value.{Value}
 use Rattle.etcd_types.specs.Limits.{max_body}
 use Rattle.etcd_types.specs.declared.call.Call.{Call}
 use Rattle.etcd_types.specs.declared.call.Call.TheVariants as call
-use Rattle.etcd_types.specs.declared.call.MemberName.TheVariants as name
 use Rattle.etcd_types.specs.declared.refusal.Refusal.{Refusal}
 use Rattle.etcd_types.specs.declared.refusal.Refusal.TheVariants.{NoPath, NotPost, NotOffered, TooLarge}
 use Rattle.etcd_types.specs.declared.step.Step.{Step}
 use Rattle.etcd_types.specs.declared.step.Step.TheVariants as step
-use Rattle.etcd_types.specs.declared.kv.PutReq.{PutReq}
-use Rattle.etcd_types.specs.declared.kv.RangeReq.{RangeReq}
 use Rattle.etcd_model.specs.Fields.{fields, is_empty}
-use Rattle.etcd_model.specs.Members.{IsAnswer, and_then, or_bad, member_of, named, read_bytes, read_signed, read_flag, read_order, read_target}
+use Rattle.etcd_model.specs.Members.{IsAnswer, and_then, or_bad, named}
+use Rattle.etcd_model.specs.Requests.{read_alarm_request, read_compaction, read_delete, read_grant, read_id, read_put, read_range, read_time_to_live, read_txn, read_watch}
 use Rattle.etcd_model.specs.Offered.{is_built, is_offered}
 
 -- ---- paths
@@ -82,54 +80,24 @@ result_map f (Err e) = Err e
 abbrev pub IsBody : Result Value Refusal → List ℕ → Type 0
 IsBody r body = IsAnswer (result_map view r) (read_body body)
 
--- ---- requests
+-- ---- steps
 
-unfoldable pub read_put : Data → Result PutReq Refusal
-read_put d =
-    and_then (read_bytes (member_of name.Key d)) (λ key.
-    and_then (read_bytes (member_of name.Value d)) (λ value.
-    and_then (read_signed (member_of name.Lease d)) (λ lease.
-    and_then (read_flag (member_of name.PrevKv d)) (λ prev_kv.
-    and_then (read_flag (member_of name.IgnoreValue d)) (λ ignore_value.
-    and_then (read_flag (member_of name.IgnoreLease d)) (λ ignore_lease.
-    Ok (record { key = key; value = value; lease = lease; prev_kv = prev_kv; ignore_value = ignore_value; ignore_lease = ignore_lease })))))))
-
-unfoldable pub read_range : Data → Result RangeReq Refusal
-read_range d =
-    and_then (read_bytes (member_of name.Key d)) (λ key.
-    and_then (read_bytes (member_of name.RangeEnd d)) (λ range_end.
-    and_then (read_signed (member_of name.Limit d)) (λ limit.
-    and_then (read_signed (member_of name.Revision d)) (λ revision.
-    and_then (read_order (member_of name.SortOrder d)) (λ sort_order.
-    and_then (read_target (member_of name.SortTarget d)) (λ sort_target.
-    and_then (read_flag (member_of name.Serializable d)) (λ serializable.
-    and_then (read_flag (member_of name.KeysOnly d)) (λ keys_only.
-    and_then (read_flag (member_of name.CountOnly d)) (λ count_only.
-    and_then (read_signed (member_of name.MinModRevision d)) (λ min_mod_revision.
-    and_then (read_signed (member_of name.MaxModRevision d)) (λ max_mod_revision.
-    and_then (read_signed (member_of name.MinCreateRevision d)) (λ min_create_revision.
-    and_then (read_signed (member_of name.MaxCreateRevision d)) (λ max_create_revision.
-    Ok (record {
-      key = key;
-      range_end = range_end;
-      limit = limit;
-      revision = revision;
-      sort_order = sort_order;
-      sort_target = sort_target;
-      serializable = serializable;
-      keys_only = keys_only;
-      count_only = count_only;
-      min_mod_revision = min_mod_revision;
-      max_mod_revision = max_mod_revision;
-      min_create_revision = min_create_revision;
-      max_create_revision = max_create_revision;
-    }))))))))))))))
-
--- the step that a call's members ask for. What the other calls read is written when they are
+-- the step that a call's members ask for
 unfoldable pub read_members : Call → Data → Result Step Refusal
-read_members call.Put d = and_then (read_put d) (λ p. Ok (step.Put p))
 read_members call.Range d = and_then (read_range d) (λ q. Ok (step.Range q))
-read_members c d = Err NotOffered
+read_members call.Put d = and_then (read_put d) (λ p. Ok (step.Put p))
+read_members call.DeleteRange d = and_then (read_delete d) (λ q. Ok (step.Delete q))
+read_members call.Txn d = and_then (read_txn d) (λ t. Ok (step.Txn t))
+read_members call.Compaction d = read_compaction d
+read_members call.Watch d = and_then (read_watch d) (λ q. Ok (step.Watch q))
+read_members call.Grant d = and_then (read_grant d) (λ q. Ok (step.Grant q))
+read_members call.Revoke d = and_then (read_id d) (λ id. Ok (step.Revoke id))
+read_members call.KeepAlive d = and_then (read_id d) (λ id. Ok (step.KeepAlive id))
+read_members call.TimeToLive d = read_time_to_live d
+read_members call.Leases d = Ok step.Leases
+read_members call.Alarm d = and_then (read_alarm_request d) (λ q. Ok (step.Alarm q))
+read_members call.Status d = Ok step.Status
+read_members call.Defragment d = Ok step.Defragment
 
 -- ---- calls
 

@@ -15,6 +15,7 @@ pub mod Machine
 pub mod Offered
 pub mod Spelling
 pub mod Members
+pub mod Requests
 pub mod Calls
 pub mod ReplyText
 pub mod Alone

@@ -10,6 +10,16 @@ use Rattle.etcd_types.specs.declared.kv.SortOrder.{SortOrder}
 use Rattle.etcd_types.specs.declared.kv.SortOrder.TheVariants as order
 use Rattle.etcd_types.specs.declared.kv.SortTarget.{SortTarget}
 use Rattle.etcd_types.specs.declared.kv.SortTarget.TheVariants as target
+use Rattle.etcd_types.specs.declared.txn.CompareResult.{CompareResult}
+use Rattle.etcd_types.specs.declared.txn.CompareResult.TheVariants as result
+use Rattle.etcd_types.specs.declared.txn.CompareTarget.{CompareTarget}
+use Rattle.etcd_types.specs.declared.txn.CompareTarget.TheVariants as compared
+use Rattle.etcd_types.specs.declared.alarm.AlarmAction.{AlarmAction}
+use Rattle.etcd_types.specs.declared.alarm.AlarmAction.TheVariants as action
+use Rattle.etcd_types.specs.declared.alarm.AlarmKind.{AlarmKind}
+use Rattle.etcd_types.specs.declared.alarm.AlarmKind.TheVariants as alarm
+use Rattle.etcd_types.specs.declared.key_value.EventKind.{EventKind}
+use Rattle.etcd_types.specs.declared.key_value.EventKind.TheVariants as kind
 use Rattle.etcd_types.specs.declared.call.MemberName.{MemberName}
 use Rattle.etcd_types.specs.declared.call.MemberName.TheVariants as name
 use Rattle.etcd_types.specs.declared.refusal.Refusal.{Refusal}
@@ -146,6 +156,13 @@ fits_signed z = int_le (negsuc (2 ^ 63 - 1)) z && int_lt z (pos (2 ^ 63))
 unfoldable pub signed_text : List ℕ → Option ℤ
 signed_text s = if is_number_text s && fits_signed (text_value s) then Some (text_value s) else None
 
+-- the same within the unsigned 64 bits, where a minus may stand before a 0
+abbrev pub fits_unsigned : ℤ → Bool
+fits_unsigned z = int_le (pos 0) z && int_lt z (pos (2 ^ 64))
+
+unfoldable pub unsigned_text : List ℕ → Option ℕ
+unsigned_text s = if is_number_text s && fits_unsigned (text_value s) then Some (digits_value 10 (magnitude s)) else None
+
 -- a number: a whole JSON number or such a text
 abbrev pub signed_in : Data → Option ℤ
 signed_in null = None
@@ -158,6 +175,18 @@ signed_in (object ms) = None
 unfoldable pub read_signed : Option Data → Result ℤ Refusal
 read_signed None = Ok (pos 0)
 read_signed (Some d) = or_bad (signed_in d)
+
+abbrev pub unsigned_in : Data → Option ℕ
+unsigned_in null = None
+unsigned_in (boolean b) = None
+unsigned_in (number n) = as_u64 n
+unsigned_in (string s) = unsigned_text s
+unsigned_in (array ds) = None
+unsigned_in (object ms) = None
+
+unfoldable pub read_unsigned : Option Data → Result ℕ Refusal
+read_unsigned None = Ok 0
+read_unsigned (Some d) = or_bad (unsigned_in d)
 
 -- a truth value: true or false
 abbrev pub flag_in : Data → Option Bool
@@ -207,3 +236,60 @@ targets = (codes "KEY", target.Key) ∷ (codes "VERSION", target.Version) ∷ (c
 
 abbrev pub read_target : Option Data → Result SortTarget Refusal
 read_target = read_choice targets target.Key
+
+abbrev pub results : List (List ℕ × CompareResult)
+results = (codes "EQUAL", result.Equal) ∷ (codes "GREATER", result.Greater) ∷ (codes "LESS", result.Less) ∷ (codes "NOT_EQUAL", result.NotEqual) ∷ []
+
+abbrev pub read_result : Option Data → Result CompareResult Refusal
+read_result = read_choice results result.Equal
+
+abbrev pub compare_targets : List (List ℕ × CompareTarget)
+compare_targets =
+    (codes "VERSION", compared.Version) ∷ (codes "CREATE", compared.Create) ∷ (codes "MOD", compared.Mod) ∷ (codes "VALUE", compared.Value) ∷ (codes "LEASE", compared.Lease) ∷ []
+
+abbrev pub read_compare_target : Option Data → Result CompareTarget Refusal
+read_compare_target = read_choice compare_targets compared.Version
+
+abbrev pub actions : List (List ℕ × AlarmAction)
+actions = (codes "GET", action.Get) ∷ (codes "ACTIVATE", action.Activate) ∷ (codes "DEACTIVATE", action.Deactivate) ∷ []
+
+abbrev pub read_action : Option Data → Result AlarmAction Refusal
+read_action = read_choice actions action.Get
+
+abbrev pub alarms : List (List ℕ × AlarmKind)
+alarms = (codes "NONE", alarm.Any) ∷ (codes "NOSPACE", alarm.NoSpace) ∷ (codes "CORRUPT", alarm.Corrupt) ∷ []
+
+abbrev pub read_alarm : Option Data → Result AlarmKind Refusal
+read_alarm = read_choice alarms alarm.Any
+
+-- a filter of a watch, by the kind of event that it leaves out
+abbrev pub filters : List (List ℕ × EventKind)
+filters = (codes "NOPUT", kind.Put) ∷ (codes "NODELETE", kind.Delete) ∷ []
+
+-- ---- objects and lists
+
+-- an object inside another
+abbrev pub as_object : Data → Result Data Refusal
+as_object null = Err BadBody
+as_object (boolean b) = Err BadBody
+as_object (number n) = Err BadBody
+as_object (string s) = Err BadBody
+as_object (array ds) = Err BadBody
+as_object (object ms) = Ok (object ms)
+
+-- the elements of a list, one after another
+abbrev pub read_elements : {T : Type 0} → (Data → Result T Refusal) → Items → Result (List T) Refusal
+read_elements element no_items = Ok []
+read_elements element (item d ds) = and_then (element d) (λ x. and_then (read_elements element ds) (λ xs. Ok (x ∷ xs)))
+
+abbrev pub list_in : {T : Type 0} → (Data → Result T Refusal) → Data → Result (List T) Refusal
+list_in element null = Err BadBody
+list_in element (boolean b) = Err BadBody
+list_in element (number n) = Err BadBody
+list_in element (string s) = Err BadBody
+list_in element (array ds) = read_elements element ds
+list_in element (object ms) = Err BadBody
+
+unfoldable pub read_list : {T : Type 0} → (Data → Result T Refusal) → Option Data → Result (List T) Refusal
+read_list element None = Ok []
+read_list element (Some d) = list_in element d

@@ -27,5 +27,5 @@ pub use list::List;
 pub use refusal::Refusal;
 pub use reply::{Header, OpReply, Reply};
 pub use step::Step;
-pub use txn::{Compare, CompareResult, Op, Operand, TxnReq};
+pub use txn::{Compare, CompareResult, CompareTarget, Op, Operand, TxnReq};
 pub use watch::WatchReq;

@@ -13,6 +13,16 @@ pub enum CompareResult {
     NotEqual,
 }
 
+/// What a compare looks at.
+#[derive(Clone, Copy, Debug, PartialEq, Eq)]
+pub enum CompareTarget {
+    Version,
+    Create,
+    Mod,
+    Value,
+    Lease,
+}
+
 /// The target of a compare, with what it is compared with.
 #[derive(Debug, PartialEq, Eq, Drop)]
 pub enum Operand {

@@ -1,4 +1,5 @@
 pub mod BodyLemmas
+pub mod ListLemmas
 pub mod NumberLemmas
 pub mod PathLemmas
 pub mod SpellingLemmas

@@ -8,8 +8,12 @@ ghost use Rattle.etcd_model.specs.Offered.{is_built};
 ghost use Rattle.etcd_model.specs.Calls.{check_fields, offered_only, read_built, read_call, read_members, read_posted, read_step};
 
 use crate::body::read_body;
-use crate::kv::{read_put, read_range};
+use crate::kv::{read_compaction, read_delete, read_put, read_range};
+use crate::lease::{read_grant, read_id, read_time_to_live};
+use crate::maintenance::read_alarm;
 use crate::paths::call_of;
+use crate::txn::read_txn;
+use crate::watch::read_watch;
 use etcd_types::limits::MAX_BODY;
 use etcd_types::{Call, Refusal, Step};
 use request_checks::{fields, is_offered};
@@ -22,9 +26,20 @@ fn read_members(alloc: Global, call: Call, value: &Value) -> Result<Step, Refusa
     ensures { IsAnswer result (read_members call (view value.now)) }
 {
     match call {
-        Call::Put => Ok(Step::Put(read_put(alloc, value)?)),
         Call::Range => Ok(Step::Range(read_range(alloc, value)?)),
-        _ => Err(Refusal::NotOffered),
+        Call::Put => Ok(Step::Put(read_put(alloc, value)?)),
+        Call::DeleteRange => Ok(Step::Delete(read_delete(alloc, value)?)),
+        Call::Txn => Ok(Step::Txn(read_txn(alloc, value)?)),
+        Call::Compaction => read_compaction(alloc, value),
+        Call::Watch => Ok(Step::Watch(read_watch(alloc, value)?)),
+        Call::Grant => Ok(Step::Grant(read_grant(alloc, value)?)),
+        Call::Revoke => Ok(Step::Revoke(read_id(alloc, value)?)),
+        Call::KeepAlive => Ok(Step::KeepAlive(read_id(alloc, value)?)),
+        Call::TimeToLive => read_time_to_live(alloc, value),
+        Call::Leases => Ok(Step::Leases),
+        Call::Alarm => Ok(Step::Alarm(read_alarm(alloc, value)?)),
+        Call::Status => Ok(Step::Status),
+        Call::Defragment => Ok(Step::Defragment),
     }
 }
 

@@ -1,10 +1,14 @@
 //! Tables of names, and the members that are one of a table.
 ghost use Rattle.std.specs.Prelude.{◌≡◌, option_map, map};
 ghost use Rattle.serde_json.specs.View.{view};
-ghost use Rattle.etcd_model.specs.Members.{IsAnswer, choice_in, named, placed, read_choice, read_order, read_target};
+ghost use Rattle.etcd_model.specs.Members.{IsAnswer, choice_in, named, placed, read_action, read_alarm, read_choice, read_compare_target, read_order, read_result, read_target};
+ghost use Rattle.etcd_model.specs.Requests.{filter_in};
 
+use crate::list::FromElement;
 use crate::member::FromMember;
-use etcd_types::{Refusal, SortOrder, SortTarget};
+use etcd_types::{
+    AlarmAction, AlarmKind, CompareResult, CompareTarget, EventKind, Refusal, SortOrder, SortTarget,
+};
 use serde_json::Value;
 use std::alloc::Global;
 
@@ -81,5 +85,78 @@ impl FromMember for SortTarget {
 
     fn read(_alloc: Global, value: Option<&Value>) -> Result<SortTarget, Refusal> {
         read_choice(value, &TARGETS, SortTarget::Key)
+    }
+}
+
+const RESULTS: [(&str, CompareResult); 4] = [
+    ("EQUAL", CompareResult::Equal),
+    ("GREATER", CompareResult::Greater),
+    ("LESS", CompareResult::Less),
+    ("NOT_EQUAL", CompareResult::NotEqual),
+];
+
+impl FromMember for CompareResult {
+    ghost reads = { read_result };
+
+    fn read(_alloc: Global, value: Option<&Value>) -> Result<CompareResult, Refusal> {
+        read_choice(value, &RESULTS, CompareResult::Equal)
+    }
+}
+
+const COMPARE_TARGETS: [(&str, CompareTarget); 5] = [
+    ("VERSION", CompareTarget::Version),
+    ("CREATE", CompareTarget::Create),
+    ("MOD", CompareTarget::Mod),
+    ("VALUE", CompareTarget::Value),
+    ("LEASE", CompareTarget::Lease),
+];
+
+impl FromMember for CompareTarget {
+    ghost reads = { read_compare_target };
+
+    fn read(_alloc: Global, value: Option<&Value>) -> Result<CompareTarget, Refusal> {
+        read_choice(value, &COMPARE_TARGETS, CompareTarget::Version)
+    }
+}
+
+const ACTIONS: [(&str, AlarmAction); 3] = [
+    ("GET", AlarmAction::Get),
+    ("ACTIVATE", AlarmAction::Activate),
+    ("DEACTIVATE", AlarmAction::Deactivate),
+];
+
+impl FromMember for AlarmAction {
+    ghost reads = { read_action };
+
+    fn read(_alloc: Global, value: Option<&Value>) -> Result<AlarmAction, Refusal> {
+        read_choice(value, &ACTIONS, AlarmAction::Get)
+    }
+}
+
+const ALARMS: [(&str, AlarmKind); 3] = [
+    ("NONE", AlarmKind::Any),
+    ("NOSPACE", AlarmKind::NoSpace),
+    ("CORRUPT", AlarmKind::Corrupt),
+];
+
+impl FromMember for AlarmKind {
+    ghost reads = { read_alarm };
+
+    fn read(_alloc: Global, value: Option<&Value>) -> Result<AlarmKind, Refusal> {
+        read_choice(value, &ALARMS, AlarmKind::Any)
+    }
+}
+
+const FILTERS: [(&str, EventKind); 2] = [
+    ("NOPUT", EventKind::Put),
+    ("NODELETE", EventKind::Delete),
+];
+
+/// A filter, by the kind of event that it leaves out.
+impl FromElement for EventKind {
+    ghost reads_element = { filter_in };
+
+    fn read_element(_alloc: Global, value: &Value) -> Result<EventKind, Refusal> {
+        choice(value, &FILTERS).ok_or(Refusal::BadBody)
     }
 }

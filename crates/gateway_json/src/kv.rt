@@ -2,15 +2,15 @@
 ghost use Rattle.std.specs.Prelude.{◌≡◌, Ok};
 ghost use Rattle.serde_json.specs.View.{view};
 ghost use Rattle.etcd_model.specs.Members.{IsAnswer};
-ghost use Rattle.etcd_model.specs.Calls.{read_put, read_range};
+ghost use Rattle.etcd_model.specs.Requests.{read_compaction, read_delete, read_put, read_range};
 
 use crate::member::read_member;
-use etcd_types::{MemberName, PutReq, RangeReq, Refusal};
+use etcd_types::{DeleteReq, MemberName, PutReq, RangeReq, Refusal, Step};
 use serde_json::Value;
 use std::alloc::Global;
 
 /// Reads a put.
-#[tactic(auto, unfolding(etcd_model::specs::Calls::read_put))]
+#[tactic(auto, unfolding(etcd_model::specs::Requests::read_put))]
 pub(crate) fn read_put(alloc: Global, value: &Value) -> Result<PutReq, Refusal>
     ensures { IsAnswer result (read_put (view value.now)) }
 {
@@ -25,7 +25,7 @@ pub(crate) fn read_put(alloc: Global, value: &Value) -> Result<PutReq, Refusal>
 }
 
 /// Reads a range.
-#[tactic(auto, unfolding(etcd_model::specs::Calls::read_range))]
+#[tactic(auto, unfolding(etcd_model::specs::Requests::read_range))]
 pub(crate) fn read_range(alloc: Global, value: &Value) -> Result<RangeReq, Refusal>
     ensures { IsAnswer result (read_range (view value.now)) }
 {
@@ -44,4 +44,24 @@ pub(crate) fn read_range(alloc: Global, value: &Value) -> Result<RangeReq, Refus
         min_create_revision: read_member(alloc, value, MemberName::MinCreateRevision)?,
         max_create_revision: read_member(alloc, value, MemberName::MaxCreateRevision)?,
     })
+}
+
+/// Reads a delete.
+#[tactic(auto, unfolding(etcd_model::specs::Requests::read_delete))]
+pub(crate) fn read_delete(alloc: Global, value: &Value) -> Result<DeleteReq, Refusal>
+    ensures { IsAnswer result (read_delete (view value.now)) }
+{
+    Ok(DeleteReq {
+        key: read_member(alloc, value, MemberName::Key)?,
+        range_end: read_member(alloc, value, MemberName::RangeEnd)?,
+        prev_kv: read_member(alloc, value, MemberName::PrevKv)?,
+    })
+}
+
+/// Reads a compaction.
+#[tactic(auto, unfolding(etcd_model::specs::Requests::read_compaction))]
+pub(crate) fn read_compaction(alloc: Global, value: &Value) -> Result<Step, Refusal>
+    ensures { IsAnswer result (read_compaction (view value.now)) }
+{
+    Ok(Step::Compact(read_member(alloc, value, MemberName::Revision)?))
 }

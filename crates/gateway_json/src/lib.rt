@@ -3,14 +3,21 @@
 
 mod body;
 mod call;
+#[cfg(test)]
+mod call_tests;
 mod choice;
 mod kv;
+mod lease;
+mod list;
+mod maintenance;
 mod member;
 mod names;
 mod paths;
 mod spelling;
 #[cfg(test)]
 mod tests;
+mod txn;
+mod watch;
 
 pub use call::{read_call, read_posted, read_step};
 pub use paths::{Target, call_of, target_of};

@@ -4,7 +4,7 @@ ghost use Rattle.serde_json.specs.Data.{Data};
 ghost use Rattle.serde_json.specs.Find.{get};
 ghost use Rattle.serde_json.specs.View.{view};
 ghost use Rattle.etcd_types.specs.declared.refusal.Refusal.{Refusal};
-ghost use Rattle.etcd_model.specs.Members.{IsAnswer, first_of, member_of, present, read_bytes, read_flag, read_signed, signed_text};
+ghost use Rattle.etcd_model.specs.Members.{IsAnswer, first_of, member_of, present, read_bytes, read_flag, read_signed, read_unsigned, signed_text, unsigned_text};
 
 use crate::names::spelled;
 use crate::spelling::bytes_of_text;
@@ -69,6 +69,36 @@ impl FromMember for i64 {
     }
 }
 
+/// The number of a text: digits, or an optional minus before a 0.
+#[tactic(auto, using(crate::proofs::NumberLemmas::unsigned_plus, crate::proofs::NumberLemmas::unsigned_unread, crate::proofs::NumberLemmas::unsigned_read))]
+fn unsigned_of_text(text: &str) -> Option<u64>
+    ensures { result ≡ unsigned_text text.now }
+{
+    if starts_with_plus(text.as_bytes()) {
+        return None;
+    }
+    // Wider than what is wanted, so that a minus can be read.
+    let number: i128 = text.parse().ok()?;
+    number.try_into().ok()
+}
+
+impl FromMember for u64 {
+    ghost reads = { read_unsigned };
+
+    #[tactic(auto, unfolding(etcd_model::specs::Members::read_unsigned))]
+    fn read(_alloc: Global, value: Option<&Value>) -> Result<u64, Refusal> {
+        let Some(value) = value else {
+            return Ok(0);
+        };
+        let number = match value {
+            Value::Number(number) => number.as_u64(),
+            Value::String(text) => unsigned_of_text(text.as_str()),
+            _ => None,
+        };
+        number.ok_or(Refusal::BadBody)
+    }
+}
+
 impl FromMember for bool {
     ghost reads = { read_flag };
 
@@ -90,7 +120,7 @@ fn present<'v>(value: &'v Value, name: &str) -> Option<&'v Value>
 
 /// The member under its underscored name, else under its lowerCamel one.
 #[tactic(auto, unfolding(etcd_model::specs::Members::member_of))]
-fn member_of<'v>(value: &'v Value, name: MemberName) -> Option<&'v Value>
+pub(crate) fn member_of<'v>(value: &'v Value, name: MemberName) -> Option<&'v Value>
     ensures { option_map (λ v. view v.now) result ≡ member_of name (view value.now) }
 {
     let (underscored, lower_camel) = spelled(name);
