@@ -18,7 +18,7 @@ use Rattle.etcd_types.specs.declared.key_value.EventKind.TheVariants as event
 use Rattle.etcd_types.specs.declared.reply.Header.{Header}
 use Rattle.etcd_types.specs.declared.reply.OpReply.{OpReply}
 use Rattle.etcd_types.specs.declared.reply.OpReply.TheVariants as response
-use Rattle.etcd_model.specs.ReplyText.{member_unless, signed_member, unsigned_member, bytes_data, bytes_member, flag_member, items_of, list_member, header_data, inner_header_data, key_value_data, row_member, kind_member, event_data, lease_data, range_members, put_members, delete_members, response_data, refusal_data, alarm_data, alarm_list, range_data, put_data, delete_data, txn_data, bare_data, created_data, events_data, canceled_data, granted_data, kept_alive_data, time_to_live_data, leases_data, alarms_data, status_data, result_data, lease_members}
+use Rattle.etcd_model.specs.ReplyText.{member_unless, bytes_data, items_of, header_data, inner_header_data, key_value_data, row_member, kind_member, event_data, lease_data, range_members, put_members, delete_members, response_data, refusal_data, alarm_data, alarm_list, range_data, put_data, delete_data, txn_data, bare_data, created_data, events_data, canceled_data, granted_data, kept_alive_data, time_to_live_data, leases_data, alarms_data, status_data, result_data}
 use Rattle.gateway_text.proofs.AsciiLemmas.{utf8_decimal, utf8_signed, utf8_encoding}
 use Rattle.gateway_text.proofs.ShapeLemmas.{Precedes, Fits, ItemsFit, MembersFit}
 
