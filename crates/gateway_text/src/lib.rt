@@ -2,6 +2,7 @@
 #![tactic(auto)]
 
 mod header;
+mod law;
 mod leases;
 mod list;
 mod member;
@@ -14,5 +15,6 @@ mod streams;
 #[cfg(test)]
 mod tests;
 
+pub use law::answers_read_back;
 pub use refusal::{MEMORY_TEXT, memory_text};
 pub use replies::write_reply;

@@ -1,0 +1,115 @@
+//! What is measured, and what is said of it.
+ghost use Rattle.std.specs.Prelude.{◌<◌};
+
+use crate::measure::{Work, measure};
+use crate::reading::Reading;
+use crate::writing::Writing;
+use crate::{bodies, replies};
+use anyhow::Result;
+use etcd_types::Call;
+use std::alloc::Global;
+use std::time::CpuClock;
+
+const SMALL_PUT: &str = "read a put of a few bytes";
+
+const LARGE_PUT: &str = "read a put of 1,024 bytes";
+
+const RANGE: &str = "read a range with all its 13 members";
+
+const TXN: &str = "read a transaction of 64 puts";
+
+const ONE_ROW: &str = "write an answer of 1 row";
+
+const HUNDRED_ROWS: &str = "write an answer of 100 rows";
+
+const MANY_ROWS: &str = "write an answer of 10,000 rows";
+
+/// Says what can be measured.
+pub(crate) fn say_what(rt: &impl Print) -> Result<()> {
+    println!(rt; "usage: bench_gateway measure")?;
+    println!(rt; "It times these, by the gateway and through JSON values:")?;
+    for name in [
+        SMALL_PUT,
+        LARGE_PUT,
+        RANGE,
+        TXN,
+        ONE_ROW,
+        HUNDRED_ROWS,
+        MANY_ROWS,
+    ] {
+        println!(rt; "  {name}")?;
+    }
+    Ok(())
+}
+
+/// Measures all, and prints a line for each.
+pub(crate) fn measure_all(rt: &(impl Print + CpuClock + Alloc<A = Global>)) -> Result<()> {
+    println!(rt;
+        "{:<40}{:>12}{:>12}{:>10}",
+        "nanoseconds", "gateway", "by values", "ratio"
+    )?;
+    measure_reading(rt)?;
+    measure_writing(rt)
+}
+
+/// Measures some work, and prints its line.
+fn print_times<W: Work>(
+    rt: &(impl Print + CpuClock + Alloc<A = Global>),
+    name: &str,
+    work: &W,
+    turns: u32,
+) -> Result<()>
+    requires { 0 < turns }
+{
+    let times = measure(rt, rt.alloc(), work, turns)?;
+    let ratio = times.ratio();
+    println!(rt;
+        "{name:<40}{:>12}{:>12}{:>7}.{:02}",
+        times.by_gateway,
+        times.by_values,
+        ratio / 100,
+        ratio % 100
+    )?;
+    Ok(())
+}
+
+fn measure_reading(rt: &(impl Print + CpuClock + Alloc<A = Global>)) -> Result<()> {
+    let alloc = rt.alloc();
+    let small = bodies::put(alloc, b"foo", b"bar")?;
+    measure_body(rt, SMALL_PUT, Call::Put, small.as_str(), 20000)?;
+    let large = bodies::put(alloc, b"foo", &[b'x'; 1024])?;
+    measure_body(rt, LARGE_PUT, Call::Put, large.as_str(), 20000)?;
+    measure_body(rt, RANGE, Call::Range, bodies::RANGE, 10000)?;
+    let txn = bodies::txn(alloc)?;
+    measure_body(rt, TXN, Call::Txn, txn.as_str(), 500)
+}
+
+fn measure_body(
+    rt: &(impl Print + CpuClock + Alloc<A = Global>),
+    name: &str,
+    call: Call,
+    body: &str,
+    turns: u32,
+) -> Result<()>
+    requires { 0 < turns }
+{
+    print_times(rt, name, &Reading { call, body }, turns)
+}
+
+fn measure_writing(rt: &(impl Print + CpuClock + Alloc<A = Global>)) -> Result<()> {
+    measure_rows(rt, ONE_ROW, 1, 50000)?;
+    measure_rows(rt, HUNDRED_ROWS, 100, 1000)?;
+    measure_rows(rt, MANY_ROWS, 10000, 10)
+}
+
+fn measure_rows(
+    rt: &(impl Print + CpuClock + Alloc<A = Global>),
+    name: &str,
+    rows: u32,
+    turns: u32,
+) -> Result<()>
+    requires { 0 < turns }
+{
+    let reply = replies::range(rt.alloc(), rows)?;
+    print_times(rt, name, &Writing { reply }, turns)
+}
