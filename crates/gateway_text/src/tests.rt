@@ -1,6 +1,7 @@
 //! Replies with the texts that clients are promised, and the room that each is given.
 //!
-//! One reply a test: each way out of a function drops what is alive there, and a reply is long to drop.
+//! A reply is moved into the function that asserts its text: a way out of a test that drops replies is
+//! long to prove.
 use crate::size::body_size;
 use crate::{memory_text, write_reply};
 use etcd_types::{Event, EventKind, Header, KeyValue, List, Mem, OpReply, Refusal, Reply};
@@ -58,94 +59,82 @@ fn widest_row(alloc: Global) -> Mem<KeyValue> {
 
 /// The reply has this status and body, and the body has the room that it was given at first.
 fn assert_written(
-    rt: &impl Abort,
-    alloc: Global,
+    rt: &(impl Abort + AllocGlobal),
     reply: Reply,
     status: u16,
     body: &str,
 ) -> Mem<()> {
-    let answer = write_reply(alloc, &reply)?;
+    let answer = write_reply(rt.alloc(), &reply)?;
     assert_eq!(rt; answer.0, status);
     assert_eq!(rt; answer.1.as_slice(), body.as_bytes());
     assert_eq!(rt; answer.1.capacity(), body_size(&reply));
     Ok(())
 }
 
+/// The same of a reply that is no refusal.
+fn assert_body(rt: &(impl Abort + AllocGlobal), reply: Reply, body: &str) -> Mem<()> {
+    assert_written(rt, reply, 200, body)
+}
+
 /// The same of a reply that ends a line.
-fn assert_line(rt: &impl Abort, alloc: Global, reply: Reply, line: &str) -> Mem<()> {
-    let mut body = String::from_str(alloc, line)?;
+fn assert_line(rt: &(impl Abort + AllocGlobal), reply: Reply, line: &str) -> Mem<()> {
+    let mut body = String::from_str(rt.alloc(), line)?;
     body.push('\n')?;
-    assert_written(rt, alloc, reply, 200, body.as_str())
+    assert_body(rt, reply, body.as_str())
 }
 
 /// The body has the room that it was given at first.
-fn assert_fits(rt: &impl Abort, alloc: Global, reply: Reply) -> Mem<()> {
-    let body = write_reply(alloc, &reply)?.1;
+fn assert_fits(rt: &(impl Abort + AllocGlobal), reply: Reply) -> Mem<()> {
+    let body = write_reply(rt.alloc(), &reply)?.1;
     assert_eq!(rt; body.capacity(), body_size(&reply));
     Ok(())
 }
 
 #[test]
-fn first_put(rt: HostRuntime) -> Mem<()> {
-    let reply = Reply::Put {
-        header: header(2),
-        prev_kv: None,
-    };
-    assert_written(
-        &rt,
-        rt.alloc(),
-        reply,
-        200,
-        r#"{"header":{"cluster_id":"7","member_id":"1","raft_term":"1","revision":"2"}}"#,
-    )
-}
-
-#[test]
-fn range_of_one_row(rt: HostRuntime) -> Mem<()> {
-    let reply = Reply::Range {
+fn ranges(rt: HostRuntime) -> Mem<()> {
+    let one = Reply::Range {
         header: header(2),
         count: 1,
         kvs: list(rt.alloc(), row(rt.alloc(), "foo", "bar"))?,
         more: false,
     };
-    assert_written(
+    assert_body(
         &rt,
-        rt.alloc(),
-        reply,
-        200,
+        one,
         r#"{"count":"1","header":{"cluster_id":"7","member_id":"1","raft_term":"1","revision":"2"},"kvs":[{"create_revision":"2","key":"Zm9v","mod_revision":"2","value":"YmFy","version":"1"}]}"#,
-    )
-}
-
-#[test]
-fn range_of_no_rows(rt: HostRuntime) -> Mem<()> {
-    let reply = Reply::Range {
+    )?;
+    let none = Reply::Range {
         header: header(2),
         count: 0,
         kvs: List::new(rt.alloc()),
         more: false,
     };
-    assert_written(
+    assert_body(
         &rt,
-        rt.alloc(),
-        reply,
-        200,
+        none,
         r#"{"header":{"cluster_id":"7","member_id":"1","raft_term":"1","revision":"2"}}"#,
     )
 }
 
 #[test]
-fn delete_with_its_row(rt: HostRuntime) -> Mem<()> {
-    let reply = Reply::Delete {
+fn writes(rt: HostRuntime) -> Mem<()> {
+    let put = Reply::Put {
+        header: header(2),
+        prev_kv: None,
+    };
+    assert_body(
+        &rt,
+        put,
+        r#"{"header":{"cluster_id":"7","member_id":"1","raft_term":"1","revision":"2"}}"#,
+    )?;
+    let delete = Reply::Delete {
         header: header(3),
         deleted: 1,
         prev_kvs: list(rt.alloc(), row(rt.alloc(), "foo", "2"))?,
     };
-    assert_written(
+    assert_body(
         &rt,
-        rt.alloc(),
-        reply,
-        200,
+        delete,
         r#"{"deleted":"1","header":{"cluster_id":"7","member_id":"1","raft_term":"1","revision":"3"},"prev_kvs":[{"create_revision":"2","key":"Zm9v","mod_revision":"2","value":"Mg==","version":"1"}]}"#,
     )
 }
@@ -178,27 +167,10 @@ fn transaction(rt: HostRuntime) -> Mem<()> {
         succeeded: true,
         responses: responses(rt.alloc())?,
     };
-    assert_written(
+    assert_body(
         &rt,
-        rt.alloc(),
         reply,
-        200,
         r#"{"header":{"cluster_id":"7","member_id":"1","raft_term":"1","revision":"2"},"responses":[{"response_put":{"header":{"revision":"2"}}},{"response_range":{"count":"1","header":{"revision":"2"},"kvs":[{"create_revision":"2","key":"YQ==","mod_revision":"2","value":"MQ==","version":"1"}]}},{"response_delete_range":{"header":{"revision":"2"}}}],"succeeded":true}"#,
-    )
-}
-
-#[test]
-fn watch_created(rt: HostRuntime) -> Mem<()> {
-    let reply = Reply::Created {
-        header: header(2),
-        watch_id: 5,
-        slot: 0,
-    };
-    assert_line(
-        &rt,
-        rt.alloc(),
-        reply,
-        r#"{"result":{"created":true,"header":{"cluster_id":"7","member_id":"1","raft_term":"1","revision":"2"},"watch_id":"5"}}"#,
     )
 }
 
@@ -219,154 +191,113 @@ fn delete_event(alloc: Global, key: &str, revision: u64) -> Mem<Event> {
 }
 
 #[test]
-fn watch_events(rt: HostRuntime) -> Mem<()> {
-    let reply = Reply::Events {
+fn watches(rt: HostRuntime) -> Mem<()> {
+    let created = Reply::Created {
+        header: header(2),
+        watch_id: 5,
+        slot: 0,
+    };
+    assert_line(
+        &rt,
+        created,
+        r#"{"result":{"created":true,"header":{"cluster_id":"7","member_id":"1","raft_term":"1","revision":"2"},"watch_id":"5"}}"#,
+    )?;
+    let events = Reply::Events {
         header: header(3),
         watch_id: 5,
         events: list(rt.alloc(), delete_event(rt.alloc(), "a", 3))?,
     };
     assert_line(
         &rt,
-        rt.alloc(),
-        reply,
+        events,
         r#"{"result":{"events":[{"kv":{"key":"YQ==","mod_revision":"3"},"type":"DELETE"}],"header":{"cluster_id":"7","member_id":"1","raft_term":"1","revision":"3"},"watch_id":"5"}}"#,
-    )
-}
-
-#[test]
-fn watch_canceled(rt: HostRuntime) -> Mem<()> {
-    let reply = Reply::Canceled {
+    )?;
+    let canceled = Reply::Canceled {
         header: header(5),
         watch_id: 0,
         compact_revision: 5,
     };
     assert_line(
         &rt,
-        rt.alloc(),
-        reply,
+        canceled,
         r#"{"result":{"canceled":true,"compact_revision":"5","header":{"cluster_id":"7","member_id":"1","raft_term":"1","revision":"5"}}}"#,
     )
 }
 
 #[test]
-fn lease_granted(rt: HostRuntime) -> Mem<()> {
-    let reply = Reply::Granted {
+fn one_lease(rt: HostRuntime) -> Mem<()> {
+    let granted = Reply::Granted {
         header: header(1),
         id: 5,
         ttl: 10,
     };
-    assert_written(
+    assert_body(
         &rt,
-        rt.alloc(),
-        reply,
-        200,
+        granted,
         r#"{"ID":"5","TTL":"10","header":{"cluster_id":"7","member_id":"1","raft_term":"1","revision":"1"}}"#,
-    )
-}
-
-#[test]
-fn lease_kept_alive(rt: HostRuntime) -> Mem<()> {
-    let reply = Reply::KeptAlive {
+    )?;
+    let kept_alive = Reply::KeptAlive {
         header: header(1),
         id: 9,
         ttl: 0,
     };
     assert_line(
         &rt,
-        rt.alloc(),
-        reply,
+        kept_alive,
         r#"{"result":{"ID":"9","header":{"cluster_id":"7","member_id":"1","raft_term":"1","revision":"1"}}}"#,
     )
 }
 
 #[test]
-fn lease_with_a_key(rt: HostRuntime) -> Mem<()> {
-    let reply = Reply::TimeToLive {
+fn leases_with_lists(rt: HostRuntime) -> Mem<()> {
+    let time_to_live = Reply::TimeToLive {
         header: header(3),
         id: 5,
         ttl: 9,
         granted_ttl: 10,
         keys: list(rt.alloc(), bytes(rt.alloc(), "a"))?,
     };
-    assert_written(
+    assert_body(
         &rt,
-        rt.alloc(),
-        reply,
-        200,
+        time_to_live,
         r#"{"ID":"5","TTL":"9","grantedTTL":"10","header":{"cluster_id":"7","member_id":"1","raft_term":"1","revision":"3"},"keys":["YQ=="]}"#,
-    )
-}
-
-#[test]
-fn two_leases(rt: HostRuntime) -> Mem<()> {
-    let reply = Reply::Leases {
+    )?;
+    let leases = Reply::Leases {
         header: header(1),
         ids: List::from_slice(rt.alloc(), &[1, 2])?,
     };
-    assert_written(
+    assert_body(
         &rt,
-        rt.alloc(),
-        reply,
-        200,
+        leases,
         r#"{"header":{"cluster_id":"7","member_id":"1","raft_term":"1","revision":"1"},"leases":[{"ID":"1"},{"ID":"2"}]}"#,
     )
 }
 
 #[test]
-fn alarm_of_the_quota(rt: HostRuntime) -> Mem<()> {
-    let reply = Reply::Alarms {
+fn maintenance(rt: HostRuntime) -> Mem<()> {
+    let alarms = Reply::Alarms {
         header: header(4),
         no_space: true,
     };
-    assert_written(
+    assert_body(
         &rt,
-        rt.alloc(),
-        reply,
-        200,
+        alarms,
         r#"{"alarms":[{"alarm":"NOSPACE","memberID":"1"}],"header":{"cluster_id":"7","member_id":"1","raft_term":"1","revision":"4"}}"#,
-    )
-}
-
-#[test]
-fn status(rt: HostRuntime) -> Mem<()> {
-    let reply = Reply::Status {
+    )?;
+    let status = Reply::Status {
         header: header(5),
         size: 384,
         in_use: 96,
     };
-    assert_written(
+    assert_body(
         &rt,
-        rt.alloc(),
-        reply,
-        200,
+        status,
         r#"{"dbSize":"384","dbSizeInUse":"96","header":{"cluster_id":"7","member_id":"1","raft_term":"1","revision":"5"}}"#,
-    )
-}
-
-#[test]
-fn header_alone(rt: HostRuntime) -> Mem<()> {
-    assert_written(
+    )?;
+    assert_body(
         &rt,
-        rt.alloc(),
         Reply::Compacted(header(5)),
-        200,
         r#"{"header":{"cluster_id":"7","member_id":"1","raft_term":"1","revision":"5"}}"#,
-    )
-}
-
-#[test]
-fn nothing_to_say(rt: HostRuntime) -> Mem<()> {
-    assert_written(&rt, rt.alloc(), Reply::Quiet, 204, "")
-}
-
-#[test]
-fn refusal(rt: HostRuntime) -> Mem<()> {
-    assert_written(
-        &rt,
-        rt.alloc(),
-        Reply::Refused(Refusal::NoSpace),
-        429,
-        r#"{"code":8,"error":"etcdserver: mvcc: database space exceeded","message":"etcdserver: mvcc: database space exceeded"}"#,
     )
 }
 
@@ -375,27 +306,16 @@ const MEMORY: &str =
     r#"{"code":14,"error":"etcd_host: out of memory","message":"etcd_host: out of memory"}"#;
 
 #[test]
-fn want_of_memory(rt: HostRuntime) -> Mem<()> {
-    assert_eq!(rt; memory_text(), MEMORY.as_bytes());
+fn refusals(rt: HostRuntime) -> Mem<()> {
     assert_written(
         &rt,
-        rt.alloc(),
-        Reply::Refused(Refusal::Memory),
-        503,
-        MEMORY,
-    )
-}
-
-// The longest texts of the numbers fit the room that a body is given at first.
-
-#[test]
-fn widest_cancel(rt: HostRuntime) -> Mem<()> {
-    let reply = Reply::Canceled {
-        header: widest_header(),
-        watch_id: i64::MIN,
-        compact_revision: i64::MIN,
-    };
-    assert_fits(&rt, rt.alloc(), reply)
+        Reply::Refused(Refusal::NoSpace),
+        429,
+        r#"{"code":8,"error":"etcdserver: mvcc: database space exceeded","message":"etcdserver: mvcc: database space exceeded"}"#,
+    )?;
+    assert_eq!(rt; memory_text(), MEMORY.as_bytes());
+    assert_written(&rt, Reply::Refused(Refusal::Memory), 503, MEMORY)?;
+    assert_written(&rt, Reply::Quiet, 204, "")
 }
 
 fn widest_event(alloc: Global) -> Mem<Event> {
@@ -406,16 +326,6 @@ fn widest_event(alloc: Global) -> Mem<Event> {
     })
 }
 
-#[test]
-fn widest_events(rt: HostRuntime) -> Mem<()> {
-    let reply = Reply::Events {
-        header: widest_header(),
-        watch_id: i64::MIN,
-        events: list(rt.alloc(), widest_event(rt.alloc()))?,
-    };
-    assert_fits(&rt, rt.alloc(), reply)
-}
-
 fn widest_response(alloc: Global) -> Mem<OpReply> {
     Ok(OpReply::Delete {
         revision: i64::MIN,
@@ -424,24 +334,46 @@ fn widest_response(alloc: Global) -> Mem<OpReply> {
     })
 }
 
+/// The longest texts of the numbers fit the room that a body is given at first.
 #[test]
-fn widest_transaction(rt: HostRuntime) -> Mem<()> {
-    let reply = Reply::Txn {
-        header: widest_header(),
-        succeeded: true,
-        responses: list(rt.alloc(), widest_response(rt.alloc()))?,
-    };
-    assert_fits(&rt, rt.alloc(), reply)
+fn widest_keys(rt: HostRuntime) -> Mem<()> {
+    assert_fits(
+        &rt,
+        Reply::Events {
+            header: widest_header(),
+            watch_id: i64::MIN,
+            events: list(rt.alloc(), widest_event(rt.alloc()))?,
+        },
+    )?;
+    assert_fits(
+        &rt,
+        Reply::Txn {
+            header: widest_header(),
+            succeeded: true,
+            responses: list(rt.alloc(), widest_response(rt.alloc()))?,
+        },
+    )
 }
 
+/// The same of replies with no rows.
 #[test]
-fn widest_time_to_live(rt: HostRuntime) -> Mem<()> {
-    let reply = Reply::TimeToLive {
-        header: widest_header(),
-        id: i64::MIN,
-        ttl: i64::MIN,
-        granted_ttl: i64::MIN,
-        keys: list(rt.alloc(), bytes(rt.alloc(), "0123456789"))?,
-    };
-    assert_fits(&rt, rt.alloc(), reply)
+fn widest_numbers(rt: HostRuntime) -> Mem<()> {
+    assert_fits(
+        &rt,
+        Reply::Canceled {
+            header: widest_header(),
+            watch_id: i64::MIN,
+            compact_revision: i64::MIN,
+        },
+    )?;
+    assert_fits(
+        &rt,
+        Reply::TimeToLive {
+            header: widest_header(),
+            id: i64::MIN,
+            ttl: i64::MIN,
+            granted_ttl: i64::MIN,
+            keys: list(rt.alloc(), bytes(rt.alloc(), "0123456789"))?,
+        },
+    )
 }
