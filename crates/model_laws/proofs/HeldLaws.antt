@@ -79,10 +79,10 @@ keep_compact H r le = λ i. record { current = current H; compacted = r; changes
 
 -- ---- reads
 
-live_kept_history : (H : History) (key : List ℕ) (r : ℕ) → H.compacted ≤ r → live key r (kept H.compacted (changes_of H)) ≡ kv H key r
+pub live_kept_history : (H : History) (key : List ℕ) (r : ℕ) → H.compacted ≤ r → live key r (kept H.compacted (changes_of H)) ≡ kv H key r
 live_kept_history H key r le = live_kept key H.compacted r (changes_of H) le (changes_rise H) ∙ live_of_changes H key r
 
-rows_kept_history : (H : History) (interval : List ℕ → Bool) (r : ℕ) → H.compacted ≤ r → rows interval r (kept H.compacted (changes_of H)) ≡ history.rows H interval r
+pub rows_kept_history : (H : History) (interval : List ℕ → Bool) (r : ℕ) → H.compacted ≤ r → rows interval r (kept H.compacted (changes_of H)) ≡ history.rows H interval r
 rows_kept_history H interval r le = rows_kept interval H.compacted r (changes_of H) le (changes_rise H) (changes_own_their_rows H) ∙ rows_of_changes H interval r
 
 -- at a revision from the compaction on, or nothing below it
@@ -151,14 +151,17 @@ pub opening_is_history : OpeningIsHistory
 opening_is_history cluster quota first = record { compacted = omega arith; once = ChangesOnce-opening cluster quota first }
 
 -- what a step does that is not refused
-pub after_allowed : (P : State History → Type 0) (S : State History) (step : Step) → P S → (fields step ≡ None → look_up machine.history S step ≡ None → P (outcome machine.history S step).state) → P (machine.before_space S step).state
-after_allowed P S step same done =
+pub after_early : (P : State History → Type 0) (S : State History) (step : Step) → P S → (early machine.history S step ≡ None → look_up machine.history S step ≡ None → P (outcome machine.history S step).state) → P (machine.before_space S step).state
+after_early P S step same done =
     plain (first_refusal (early machine.history S step ∷ look_up machine.history S step ∷ []))
-    (λ e. let parts = first_none (early machine.history S step) (look_up machine.history S step ∷ []) e in done (first_none (fields step) _ parts.0).0 (first_none (look_up machine.history S step) [] parts.1).0)
+    (λ e. let parts = first_none (early machine.history S step) (look_up machine.history S step ∷ []) e in done parts.0 (first_none (look_up machine.history S step) [] parts.1).0)
   where
     plain : (r : Option Refusal) → (r ≡ None → P (outcome machine.history S step).state) → P (decided machine.history S step r).state
     plain None allowed = allowed refl
     plain (Some r) allowed = same
+
+pub after_allowed : (P : State History → Type 0) (S : State History) (step : Step) → P S → (fields step ≡ None → look_up machine.history S step ≡ None → P (outcome machine.history S step).state) → P (machine.before_space S step).state
+after_allowed P S step same done = after_early P S step same (λ e l. done (first_none (fields step) _ e).0 l)
 
 ends_up : (ls : List Lease) (S : State History) → S.store.compacted ≤ current S.store → (fold (λ T l. finish machine.history T l.id) S ls).store.compacted ≤ current (fold (λ T l. finish machine.history T l.id) S ls).store
 ends_up [] S le = le

@@ -10,3 +10,5 @@ pub mod WorldLaws
 pub mod LeaseLaws
 pub mod RunLaws
 pub mod HoldsLaws
+pub mod QuotaLaws
+pub mod RevisionLaws

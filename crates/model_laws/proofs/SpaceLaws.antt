@@ -9,7 +9,7 @@ use Rattle.std.specs.List.Sorted.{IsStrictlySortedBy}
 use Rattle.std.specs.Cmp.Lexicographic.{bytes_decides}
 use Rattle.std.specs.declared.cmp.Ordering.TheVariants.{Less}
 use Rattle.std.proofs.lemmas.Bool.{le-leb, or_parts, false_from_ne_true, true≢false}
-use Rattle.std.proofs.lemmas.List.{append-nil, map-append}
+use Rattle.std.proofs.lemmas.List.{append-nil, map-append, length-map}
 use Rattle.std.proofs.lemmas.List.Kept.{IsStrictlySortedBy-filter}
 use Rattle.std.proofs.lemmas.List.Sums.{fold-append, sum_by-cons, sum_by_push}
 use Rattle.etcd_types.specs.declared.key_value.KeyValue.{KeyValue}
@@ -27,12 +27,13 @@ use Rattle.etcd_model.specs.Kept.{cost, cost_put, cost_delete}
 use Rattle.etcd_model.specs.Operations.{and_changes, pending_after, adds_any}
 use Rattle.etcd_model.specs.declared.state.State.{State}
 use Rattle.etcd_model.specs.Tenant.{used}
+use Rattle.etcd_model.specs.Leases.{attached}
 use Rattle.etcd_model.specs.Changes.{Recorded, OwnRow, keys, Rises, entry_at, change_by, change_of, changes_of, next_row, is_up_to, live, rows, recorded, record_change, record_revision, kept, keeps}
 use Rattle.etcd_model.specs.Store.{Store, IsStore, after, compact, reads_of, record_cells, reserved_cells, cells, kept_store}
 use Rattle.etcd_model.specs.Held.{keep, IsHistory}
 use Rattle.etcd_model.proofs.OrderLaws.{bytes_eq-key_cmp}
 use Rattle.model_laws.specs.Recording.{by_key}
-use Rattle.model_laws.specs.Space.{if_row, room, KeepIsStore, AfterIsStore, CompactIsStore, PutTakesCells, DeleteTakesItsRoom, DeleteTakesNone, FinishTakesNone, NoPutTakesNone, CompactionTakesNone, RecordsAreUsedCells}
+use Rattle.model_laws.specs.Space.{if_row, room, KeepIsStore, AfterIsStore, CompactIsStore, PutTakesCells, DeleteTakesItsRoom, DeleteTakesNone, FinishTakesNone, FinishTakesKeys, NoPutTakesNone, CompactionTakesNone, RecordsAreUsedCells}
 use Rattle.model_laws.proofs.LastLaws.{true_or_false}
 use Rattle.model_laws.proofs.KeptLaws.{all_kept, kept_rises, kept_true, kept_false}
 use Rattle.model_laws.proofs.RowLaws.{has_key, rows_by_their_keys, not_found, row_found, rows_rise, same_rows, live-key}
@@ -250,6 +251,53 @@ no_put s cs (Nested ∷ ops) is h = no_put s (cs ++ []) ops is h ∙ ap (λ ds. 
 
 pub no_put_takes_none : NoPutTakesNone
 no_put_takes_none s ops is h = no_put s [] ops is h
+
+-- ---- how many keys are live
+
+pub count_ones : {X : Type 0} (xs : List X) → sum_by (λ x. 1) xs ≡ length xs
+count_ones [] = refl
+count_ones (x ∷ xs) = omega (arith, sum_by-cons (λ y. 1) x xs, count_ones xs)
+
+deletes_take_keys : (s : Store) (cs : List Change) (rs : List KeyValue) → IsStore s → IsStrictlySortedBy by_key rs → AllLive s cs rs
+    → length (rows every_key (s.current + 1) (pend s (cs ++ deletes_of rs))) + length rs ≡ length (rows every_key (s.current + 1) (pend s cs))
+unfolding IsStrictlySortedBy
+deletes_take_keys s cs [] is h all = omega (arith, ap (λ ds. length (rows every_key (s.current + 1) (pend s ds))) (append-nil cs))
+deletes_take_keys s cs (r ∷ rs) is h all =
+    let n = s.current + 1 in
+    let y = recorded (pend s cs) (entry_at n (Del r.key)) in
+    let rest = deletes_take_keys s (cs ++ Del r.key ∷ []) rs is h.1 (still_live s cs r rs h.0 all.1) in
+    let one = rows_push (λ row. 1) n (pend s cs) y (own_pend s cs is) tt (omega arith) in
+    let there : if_row (λ row. 1) (live r.key n (pend s cs)) ≡ 1 = ap (if_row (λ row. 1)) all.0 in
+    omega (
+      arith,
+      rest,
+      one,
+      there,
+      count_ones (rows every_key n (pend s cs)),
+      count_ones (rows every_key n (pend s cs ++ y ∷ [])),
+      ap (λ zs. length (rows every_key n zs)) (pend_push s cs (Del r.key)),
+      ap (λ zs. length (rows every_key n (pend s zs))) (append_assoc cs (Del r.key ∷ []) (deletes_of rs)),
+    )
+
+pub finish_takes_keys : FinishTakesKeys
+finish_takes_keys s id is =
+    let every : List ℕ → Bool = is_in (0 ∷ []) (0 ∷ []) in
+    let held : KeyValue → Bool = λ row. int_eq row.lease id in
+    let n = s.current + 1 in
+    let rs = filter held (rows every n s.changes) in
+    let ids = attached (reads_of s) id in
+    let same : map Del ids ≡ deletes_of rs =
+    ap (λ (qs : List KeyValue). map Del (map (λ (row : KeyValue). row.key) (filter held qs))) (rows_pending s [] is every) ∙ map-map Del (λ (row : KeyValue). row.key) (filter held (rows every n s.changes)) in
+    omega (
+      arith,
+      deletes_take_keys s [] rs is (IsStrictlySortedBy-filter by_key held (rows every n s.changes) (rows_rise s.changes is.own n every)) (all_passed s [] held (rows every n s.changes) (all_live s [] is (filter every (keys s.changes)))),
+      ap (λ cs. length (rows every_key n (pend s cs))) same,
+      ap length (rows_pending s (map Del ids) is every_key),
+      ap length (rows_pending s [] is every_key),
+      ap length same,
+      length-map ids Del,
+      length-map rs (λ (row : KeyValue). Del row.key),
+    )
 
 -- ---- compaction
 

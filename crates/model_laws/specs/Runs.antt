@@ -43,3 +43,19 @@ StepHasLeases = (S : State History) (step : Step) → HasLeases S → HasLeases 
 
 abbrev pub StepHasSlots : Type 0
 StepHasSlots = (S : State History) (step : Step) → length (machine S step).state.slots ≡ length S.slots
+
+-- no step passes the greater of the quota and what was in use
+abbrev pub StepWithinQuota : Type 0
+StepWithinQuota = (S : State History) (step : Step) → IsHistory S.store → HasLeases S → used history (machine S step).state ≤ max S.quota (used history S)
+
+-- nor does a run, whose quota stays
+abbrev pub RunWithinQuota : Type 0
+RunWithinQuota = (S : State History) (steps : List Step) → IsHistory S.store → HasLeases S → used history (state_after S steps) ≤ max S.quota (used history S)
+
+-- The revisions and the live keys together stay within the last revision at which a write begins and such a bound on the cells:
+-- a write ends at that revision at most, and each further one, when leases end, takes a live key.
+abbrev pub FitsRevisions : ℕ → State History → Type 0
+FitsRevisions bound S = current S.store + length (rows S.store every_key (current S.store)) ≤ last_revision + bound
+
+abbrev pub StepFitsRevisions : Type 0
+StepFitsRevisions = (S : State History) (step : Step) (bound : ℕ) → IsHistory S.store → HasLeases S → S.quota ≤ bound → used history S ≤ bound → FitsRevisions bound S → FitsRevisions bound (machine S step).state

@@ -16,6 +16,8 @@ use Rattle.etcd_model.specs.Operations.{and_changes, pending_after, adds_any, ha
 use Rattle.etcd_model.specs.declared.state.State.{State}
 use Rattle.etcd_model.specs.Tenant.{used}
 use Rattle.etcd_model.specs.Leases.{attached}
+use Rattle.etcd_model.specs.Interval.{every_key}
+use Rattle.etcd_model.specs.Changes.{rows}
 use Rattle.etcd_model.specs.Store.{Store, IsStore, after, compact, reads_of, record_cells, reserved_cells, cells, kept_store}
 use Rattle.etcd_model.specs.Held.{keep, IsHistory}
 
@@ -62,6 +64,12 @@ NoPutTakesNone = (s : Store) (ops : List Op) → IsStore s → adds_any ops ≡ 
 -- nor does the end of a lease, which deletes the keys that it holds
 abbrev pub FinishTakesNone : Type 0
 FinishTakesNone = (s : Store) (id : ℤ) → IsStore s → cells (after s (map Del (attached (reads_of s) id))) ≡ cells s
+
+-- and each of those keys is live no more
+abbrev pub FinishTakesKeys : Type 0
+FinishTakesKeys = (s : Store) (id : ℤ) → IsStore s
+    → length (rows every_key (after s (map Del (attached (reads_of s) id))).current (after s (map Del (attached (reads_of s) id))).changes) + length (attached (reads_of s) id)
+    ≡ length (rows every_key s.current s.changes)
 
 -- and a compaction takes none
 abbrev pub CompactionTakesNone : Type 0

@@ -1,17 +1,5 @@
 //! What is kept of a history answers as the history does: a step over it is the step over the history.
-ghost use Rattle.model_laws.specs.Holding.{
-  BeforeSpaceOverKept,
-  HeldAfterStep,
-  HeldBeforeSpace,
-  KeepAfter,
-  KeepCells,
-  KeepCompact,
-  KeepReads,
-  OpeningIsHeld,
-  OpeningIsHistory,
-  StepIsHistory,
-  StepOverKept,
-};
+ghost use Rattle.model_laws.specs.Holding.{BeforeSpaceOverKept, HeldAfterStep, HeldBeforeSpace, KeepAfter, KeepCells, KeepCompact, KeepReads, OpeningIsHeld, OpeningIsHistory, StepIsHistory, StepOverKept};
 
 /// One more revision of what is kept is what is kept with one more revision.
 pub fn keep_after()

@@ -1,14 +1,5 @@
 //! What a compaction keeps, and what can still be read of it.
-ghost use Rattle.model_laws.specs.Keeping.{
-  KeptOfAppended,
-  KeptOfChanges,
-  KeptOfKept,
-  KeptRises,
-  LiveOfKept,
-  RecordedOverKept,
-  RowsOfKept,
-  SinceOfKept,
-};
+ghost use Rattle.model_laws.specs.Keeping.{KeptOfAppended, KeptOfChanges, KeptOfKept, KeptRises, LiveOfKept, RecordedOverKept, RowsOfKept, SinceOfKept};
 
 /// Changes after the compaction are kept as they come.
 pub fn kept_of_appended()

@@ -1,11 +1,5 @@
 //! The ID that is chosen for a lease, and the order in which leases end.
-ghost use Rattle.model_laws.specs.Leases.{
-  FreeIdIsLeast,
-  RunOutAscend,
-  RunOutRest,
-  WithLeaseAscends,
-  WithoutLeaseAscends,
-};
+ghost use Rattle.model_laws.specs.Leases.{FreeIdIsLeast, RunOutAscend, RunOutRest, WithLeaseAscends, WithoutLeaseAscends};
 
 /// The ID that is chosen is the least from the counter on that no lease has.
 pub fn free_id_is_least()

@@ -1,17 +1,5 @@
 //! The recorded changes of a history are the history.
-ghost use Rattle.model_laws.specs.Recording.{
-  ChangesAfter,
-  ChangesAreEntries,
-  ChangesOwnTheirRows,
-  ChangesRise,
-  ChangesUpToCurrent,
-  LastOfChanges,
-  LiveOfChanges,
-  RowsAscend,
-  RowsByTheirKeys,
-  RowsOfChanges,
-  RowsOfOneKey,
-};
+ghost use Rattle.model_laws.specs.Recording.{ChangesAfter, ChangesAreEntries, ChangesOwnTheirRows, ChangesRise, ChangesUpToCurrent, LastOfChanges, LiveOfChanges, RowsAscend, RowsByTheirKeys, RowsOfChanges, RowsOfOneKey};
 
 /// With their revisions alone, the recorded changes are the changes of the history, in order.
 pub fn changes_are_entries()

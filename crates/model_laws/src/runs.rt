@@ -1,14 +1,5 @@
 //! What holds of every state that a run from an opening comes to.
-ghost use Rattle.model_laws.specs.Runs.{
-  OpeningHasLeases,
-  OpeningHasSlots,
-  OpeningIsFull,
-  OpeningIsState,
-  StepHasLeases,
-  StepHasSlots,
-  StepIsFull,
-  StepIsState,
-};
+ghost use Rattle.model_laws.specs.Runs.{OpeningHasLeases, OpeningHasSlots, OpeningIsFull, OpeningIsState, RunWithinQuota, StepFitsRevisions, StepHasLeases, StepHasSlots, StepIsFull, StepIsState, StepWithinQuota};
 
 /// An opening has no empty revision.
 pub fn opening_is_full()
@@ -48,4 +39,19 @@ pub fn opening_is_state()
 /// And so is the state after each step.
 pub fn step_is_state()
     ensures { StepIsState }
+{}
+
+/// No step passes the greater of the quota and the cells that were in use.
+pub fn step_within_quota()
+    ensures { StepWithinQuota }
+{}
+
+/// Nor does a run.
+pub fn run_within_quota()
+    ensures { RunWithinQuota }
+{}
+
+/// The revisions and the live keys together stay within the last revision at which a write begins, and the cells.
+pub fn step_fits_revisions()
+    ensures { StepFitsRevisions }
 {}

@@ -1,16 +1,5 @@
 //! What a step makes of the cells in use.
-ghost use Rattle.model_laws.specs.Space.{
-  AfterIsStore,
-  CompactIsStore,
-  CompactionTakesNone,
-  DeleteTakesItsRoom,
-  DeleteTakesNone,
-  FinishTakesNone,
-  KeepIsStore,
-  NoPutTakesNone,
-  PutTakesCells,
-  RecordsAreUsedCells,
-};
+ghost use Rattle.model_laws.specs.Space.{AfterIsStore, CompactIsStore, CompactionTakesNone, DeleteTakesItsRoom, DeleteTakesNone, FinishTakesKeys, FinishTakesNone, KeepIsStore, NoPutTakesNone, PutTakesCells, RecordsAreUsedCells};
 
 /// What is kept of a history is a store as appends and compactions make it.
 pub fn keep_is_store()
@@ -50,6 +39,11 @@ pub fn no_put_takes_none()
 /// The end of a lease, which deletes the keys that it holds, takes no cell.
 pub fn finish_takes_none()
     ensures { FinishTakesNone }
+{}
+
+/// And each of those keys is live no more.
+pub fn finish_takes_keys()
+    ensures { FinishTakesKeys }
 {}
 
 /// A compaction takes no cell.
