@@ -10,11 +10,8 @@ use Rattle.std.proofs.lemmas.List.Folds.{fold-map}
 use Rattle.std.proofs.lemmas.List.Sums.{fold-append}
 use Rattle.std.specs.Cmp.Lexicographic.{bytes_decides}
 use Rattle.etcd_types.specs.declared.key_value.KeyValue.{KeyValue}
+pub use Rattle.etcd_model.specs.Changes.{entry_at, version_of, created_at, next_row}
 use Rattle.etcd_model.specs.History.{History, Change, Set, Del, Entry, key_of, value_of, lease_of, current, entries, entries_after, after, past, go_on, latest, shown_by, kv}
-
--- a change with its revision
-abbrev pub entry_at : ℕ → Change → Entry
-entry_at r c = record { revision = r; change = c }
 
 -- a change of this key, up to a revision
 abbrev pub is_past : List ℕ → ℕ → Entry → Bool
@@ -84,19 +81,6 @@ past-after H cs key =
     ∙ ap (λ es. past H key (current H) ++ es) (newest key (current H + 1) cs)
 
 -- ---- the rule of versions
-
-abbrev pub version_of : Option KeyValue → ℕ
-version_of None = 0
-version_of (Some row) = row.version
-
-abbrev pub created_at : ℕ → Option KeyValue → ℕ
-created_at r None = r
-created_at r (Some row) = row.create_revision
-
--- what a change at revision r makes of a row: a put goes on with its versions or begins them, and a delete ends them
-abbrev pub next_row : ℕ → Option KeyValue → Change → Option KeyValue
-next_row r row (Set key value lease) = Some (record { key = key; create_revision = created_at r row; mod_revision = r; version = version_of row + 1; value = value; lease = lease })
-next_row r row (Del key) = None
 
 length_push : (es : List Entry) (f : Entry) → length (es ++ f ∷ []) ≡ length es + 1
 length_push es f = omega (arith, length-append es (f ∷ []))

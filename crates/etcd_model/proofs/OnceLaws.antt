@@ -192,7 +192,7 @@ once_after H [] once h = once
 once_after H (c ∷ cs) once h = λ key. All-push (λ xs. length (changes_of key xs) ≤ 1) H.revisions (c ∷ cs) (once key) (h key)
 
 -- a lease that ends deletes each of its keys once
-finish_once : (S : State History) (id : ℤ) → ChangesOnce S.store → ChangesOnce (finish history S id).store
+pub finish_once : (S : State History) (id : ℤ) → ChangesOnce S.store → ChangesOnce (finish history S id).store
 finish_once S id once =
     let H = S.store in
     let inside : List ℕ → Bool = is_in (0 ∷ []) (0 ∷ []) in
@@ -231,7 +231,7 @@ taken_branch R t h =
     let parts = or_parts (has_duplicate t.success) (has_duplicate t.failure) (not_refused duplicate DuplicateKey (all_none refusals h).1.1.1.1.0) in
     elim (all_hold R t.compare) as (λ b. has_duplicate (if b then t.success else t.failure) ≡ false) [ true ↦ parts.0 | false ↦ parts.1 ]
 
-outcome_once : (S : State History) (step : Step) → ChangesOnce S.store → fields step ≡ None → ChangesOnce (outcome history S step).state.store
+pub outcome_once : (S : State History) (step : Step) → ChangesOnce S.store → fields step ≡ None → ChangesOnce (outcome history S step).state.store
 outcome_once S (Put p) once h = once_after S.store (pending history S (PutOp p ∷ [])) once (λ key. one_change key (put_change p (kv S.store p.key (current S.store))))
 outcome_once S (Delete d) once h =
     let H = S.store in

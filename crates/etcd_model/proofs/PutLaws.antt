@@ -14,6 +14,7 @@ use Rattle.std.specs.Cmp.Lexicographic.{bytes_decides}
 use Rattle.etcd_types.specs.declared.key_value.KeyValue.{KeyValue}
 use Rattle.etcd_model.specs.Order.{put_in, in_order, key_cmp}
 use Rattle.etcd_model.specs.History.{History, Change, Set, Del, Entry, key_of, current, entries, entries_after, after, generation, shown_by, kv, keys, rows}
+pub use Rattle.etcd_model.specs.Changes.{ChangesOnce}
 use Rattle.etcd_model.specs.Interval.{is_in, every_key}
 use Rattle.etcd_model.proofs.OrderLaws.{keys_in_order, any-keys_in_order}
 use Rattle.etcd_model.proofs.RowLaws.{by_key, all_rows, sorted-rows, filter-rows, rows_of_one, find-rows, rows-put_in}
@@ -100,10 +101,6 @@ rows-put H c x is shown =
     ∙ ap (λ ks. put_in by_key (filter_map (λ k. kv H k (current H)) ks) x) (sym (every_one (keys H)))
 
 -- ---- versions
-
--- no revision changes a key twice
-abbrev pub ChangesOnce : History → Type 0
-ChangesOnce H = (key : List ℕ) → All (λ cs. length (changes_of key cs) ≤ 1) H.revisions
 
 pub one_change : (key : List ℕ) (c : Change) → length (changes_of key (c ∷ [])) ≤ 1
 one_change key c = elim (bytes_eq (key_of c) key) as (λ b. length (cond b (c ∷ []) []) ≤ 1) [ true ↦ omega arith | false ↦ omega arith ]

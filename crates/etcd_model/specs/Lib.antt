@@ -12,6 +12,9 @@ pub mod Watches
 pub mod Fields
 pub mod Stepping
 pub mod Machine
+pub mod Changes
+pub mod Store
+pub mod Held
 pub mod Offered
 pub mod Spelling
 pub mod Members

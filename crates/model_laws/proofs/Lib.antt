@@ -1,0 +1,14 @@
+pub mod LastLaws
+pub mod KeptLaws
+pub mod RecordedLaws
+pub mod RowLaws
+pub mod HistoryKeptLaws
+pub mod CarryLaws
+pub mod HeldLaws
+pub mod SpaceLaws
+pub mod WorldLaws
+pub mod LeaseLaws
+pub mod RunLaws
+pub mod HoldsLaws
+pub mod QuotaLaws
+pub mod RevisionLaws

@@ -1,0 +1,5 @@
+use Rattle.model_laws.proofs.RunLaws.{opening_is_state}
+use Rattle.model_laws.proofs.runs.opening_is_state.Goals as goal
+
+pub returns : goal.returns
+returns c = opening_is_state

@@ -1,0 +1,61 @@
+-- Laws: a step over what is kept is the step over the history.
+use Rattle.std.specs.Prelude.{◌≡◌, ℕ, ◌≤◌, List}
+use Rattle.etcd_types.specs.declared.step.Step.{Step}
+use Rattle.etcd_model.specs.History as history
+use Rattle.etcd_model.specs.declared.state.History.{History}
+use Rattle.etcd_model.specs.declared.state.Change.{Change}
+use Rattle.etcd_model.specs.History.{current}
+use Rattle.etcd_model.specs.declared.state.State.{State}
+use Rattle.etcd_model.specs.Tenant.{Outcome}
+use Rattle.etcd_model.specs.Machine as machine
+use Rattle.etcd_model.specs.Machine.{opening}
+use Rattle.etcd_model.specs.Stepping as stepping
+use Rattle.etcd_model.specs.Kept as over_history
+use Rattle.etcd_model.specs.Changes.{ChangesOnce}
+use Rattle.etcd_model.specs.Store as store
+use Rattle.etcd_model.specs.Store.{Store, kept_store}
+use Rattle.etcd_model.specs.Held.{keep, empty_store, over, outcome_over, IsHistory, Holds}
+
+-- ---- what is kept answers as the history does
+
+abbrev pub KeepAfter : Type 0
+KeepAfter = (H : History) (cs : List Change) → H.compacted ≤ current H → store.after (keep H) cs ≡ keep (history.after H cs)
+
+abbrev pub KeepCompact : Type 0
+KeepCompact = (H : History) (r : ℕ) → H.compacted ≤ r → store.compact (keep H) r ≡ keep (machine.history.compact H r)
+
+abbrev pub KeepReads : Type 0
+KeepReads = (H : History) → H.compacted ≤ current H → store.reads_of (keep H) ≡ machine.reads_of H
+
+abbrev pub KeepCells : Type 0
+KeepCells = (H : History) → IsHistory H → store.cells (keep H) ≡ over_history.cells H
+
+-- ---- the steps
+
+-- an opening is a history as runs make it, and each step keeps that
+abbrev pub OpeningIsHistory : Type 0
+OpeningIsHistory = (cluster quota first : ℕ) → IsHistory (opening cluster quota first).store
+
+abbrev pub StepIsHistory : Type 0
+StepIsHistory = (S : State History) (step : Step) → IsHistory S.store → IsHistory (machine.machine S step).state.store
+
+-- one step of the machine over what is kept is the step over the history
+abbrev pub StepOverKept : Type 0
+StepOverKept = (S : State History) (step : Step) → IsHistory S.store → stepping.machine kept_store (over keep S) step ≡ outcome_over keep (machine.machine S step)
+
+-- and so it is before space is counted
+abbrev pub BeforeSpaceOverKept : Type 0
+BeforeSpaceOverKept = (S : State History) (step : Step) → IsHistory S.store → stepping.before_space kept_store (over keep S) step ≡ outcome_over keep (machine.before_space S step)
+
+-- a tenant as it was opened holds the opening
+abbrev pub OpeningIsHeld : Type 0
+OpeningIsHeld = (cluster quota first : ℕ) → Holds (opening cluster quota first) (over (λ (H : History). empty_store first) (opening cluster quota first))
+
+-- Whatever state was held: what the machine makes of the tenant holds the state afterwards, and answers alike.
+abbrev pub HeldAfterStep : Type 0
+HeldAfterStep = (S : State History) (m : State Store) (step : Step) → Holds S m
+    → Holds (machine.machine S step).state (stepping.machine kept_store m step).state × ((stepping.machine kept_store m step).reply ≡ (machine.machine S step).reply)
+
+abbrev pub HeldBeforeSpace : Type 0
+HeldBeforeSpace = (S : State History) (m : State Store) (step : Step) → Holds S m
+    → Holds (machine.before_space S step).state (stepping.before_space kept_store m step).state × ((stepping.before_space kept_store m step).reply ≡ (machine.before_space S step).reply)

@@ -1,0 +1,63 @@
+-- Laws: the recorded changes of a history are the history.
+use Rattle.std.specs.Prelude.{◌≡◌, ℕ, ◌+◌, ◌≤◌, Bool, List, [], ◌∷◌, map, find, Option, Some, option_map}
+use Rattle.std.specs.List.{AllByRecursion}
+use Rattle.std.specs.List.Sorted.{IsStrictlySortedBy}
+use Rattle.std.specs.Option.{option_to_list}
+use Rattle.std.specs.Str.{bytes_eq}
+use Rattle.std.specs.declared.cmp.Ordering.{Ordering}
+use Rattle.etcd_types.specs.declared.key_value.KeyValue.{KeyValue}
+use Rattle.etcd_model.specs.Order.{key_cmp}
+use Rattle.etcd_model.specs.Interval.{is_in}
+use Rattle.etcd_model.specs.History as history
+use Rattle.etcd_model.specs.declared.state.History.{History}
+use Rattle.etcd_model.specs.declared.state.Change.{Change}
+use Rattle.etcd_model.specs.History.{entries, current, last_change, kv}
+use Rattle.etcd_model.specs.Changes.{Recorded, OwnRow, entry_of, changes_of, record_revision, last, live, rows, Rises}
+
+-- with their revisions alone they are the changes of the history, in order
+abbrev pub ChangesAreEntries : Type 0
+ChangesAreEntries = (H : History) → map entry_of (changes_of H) ≡ entries H
+
+-- a revision more is recorded after those before it
+abbrev pub ChangesAfter : Type 0
+ChangesAfter = (H : History) (c : Change) (cs : List Change) → changes_of (history.after H (c ∷ cs)) ≡ record_revision (current H + 1) (changes_of H) (c ∷ cs)
+
+-- in order of their revisions, none above the current one, each row with its own key
+abbrev pub ChangesRise : Type 0
+ChangesRise = (H : History) → Rises (changes_of H)
+
+abbrev pub ChangesUpToCurrent : Type 0
+ChangesUpToCurrent = (H : History) → AllByRecursion (λ x. x.revision ≤ current H) (changes_of H)
+
+abbrev pub ChangesOwnTheirRows : Type 0
+ChangesOwnTheirRows = (H : History) → AllByRecursion OwnRow (changes_of H)
+
+-- the last change of a key among them is its last change
+abbrev pub LastOfChanges : Type 0
+LastOfChanges = (H : History) (key : List ℕ) (r : ℕ) → option_map entry_of (last key r (changes_of H)) ≡ last_change H key r
+
+-- what a key shows among them is its key-value
+abbrev pub LiveOfChanges : Type 0
+LiveOfChanges = (H : History) (key : List ℕ) (r : ℕ) → live key r (changes_of H) ≡ kv H key r
+
+abbrev pub RowsOfChanges : Type 0
+RowsOfChanges = (H : History) (interval : List ℕ → Bool) (r : ℕ) → rows interval r (changes_of H) ≡ history.rows H interval r
+
+-- ---- rows
+
+-- rows by their keys
+abbrev pub by_key : KeyValue → KeyValue → Ordering
+by_key a b = key_cmp a.key b.key
+
+-- the rows of a history strictly ascend by their keys
+abbrev pub RowsAscend : Type 0
+RowsAscend = (H : History) (interval : List ℕ → Bool) (r : ℕ) → IsStrictlySortedBy by_key (history.rows H interval r)
+
+-- the rows of one key are its key-value, if it is live
+abbrev pub RowsOfOneKey : Type 0
+RowsOfOneKey = (H : History) (key : List ℕ) (r : ℕ) → history.rows H (is_in key []) r ≡ option_to_list (kv H key r)
+
+-- rows that strictly ascend are one list where each key has one row in both, or none
+abbrev pub RowsByTheirKeys : Type 0
+RowsByTheirKeys = (rs qs : List KeyValue) → IsStrictlySortedBy by_key rs → IsStrictlySortedBy by_key qs
+    → ((key : List ℕ) → find (λ row. bytes_eq row.key key) rs ≡ find (λ row. bytes_eq row.key key) qs) → rs ≡ qs

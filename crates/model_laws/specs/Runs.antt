@@ -1,0 +1,61 @@
+-- Laws: what holds of every state that a run from an opening comes to.
+use Rattle.std.specs.Prelude.{◌≡◌, ℕ, ◌+◌, ◌<◌, ◌≤◌, ℤ, pos, Bool, true, List, length, max, int_le}
+use Rattle.std.specs.List.{All, AllByRecursion}
+use Rattle.std.specs.List.Sorted.{IsStrictlySortedBy}
+use Rattle.etcd_types.specs.declared.step.Step.{Step}
+use Rattle.etcd_types.specs.Limits.{last_moment, last_revision, last_lease_id, max_ttl, watch_slots}
+use Rattle.etcd_model.specs.declared.state.Lease.{Lease}
+use Rattle.etcd_model.specs.declared.state.History.{History}
+use Rattle.etcd_model.specs.declared.state.Change.{Change}
+use Rattle.etcd_model.specs.History.{current, rows}
+use Rattle.etcd_model.specs.Interval.{every_key}
+use Rattle.etcd_model.specs.declared.state.State.{State}
+use Rattle.etcd_model.specs.Tenant.{used}
+use Rattle.etcd_model.specs.Machine.{history, machine, opening, state_after}
+use Rattle.etcd_model.specs.Held.{IsHistory, IsFull, HasLeases, IsState}
+
+-- ---- all of it
+
+abbrev pub OpeningIsState : Type 0
+OpeningIsState = (cluster quota first : ℕ) → IsState (opening cluster quota first)
+
+abbrev pub StepIsState : Type 0
+StepIsState = (S : State History) (step : Step) → IsState S → IsState (machine S step).state
+
+-- ---- openings
+
+abbrev pub OpeningIsFull : Type 0
+OpeningIsFull = (cluster quota first : ℕ) → IsFull (opening cluster quota first).store
+
+abbrev pub OpeningHasLeases : Type 0
+OpeningHasLeases = (cluster quota first : ℕ) → HasLeases (opening cluster quota first)
+
+abbrev pub OpeningHasSlots : Type 0
+OpeningHasSlots = (cluster quota first : ℕ) → length (opening cluster quota first).slots ≡ watch_slots
+
+-- ---- each step keeps it
+
+abbrev pub StepIsFull : Type 0
+StepIsFull = (S : State History) (step : Step) → IsFull S.store → IsFull (machine S step).state.store
+
+abbrev pub StepHasLeases : Type 0
+StepHasLeases = (S : State History) (step : Step) → HasLeases S → HasLeases (machine S step).state
+
+abbrev pub StepHasSlots : Type 0
+StepHasSlots = (S : State History) (step : Step) → length (machine S step).state.slots ≡ length S.slots
+
+-- no step passes the greater of the quota and what was in use
+abbrev pub StepWithinQuota : Type 0
+StepWithinQuota = (S : State History) (step : Step) → IsHistory S.store → HasLeases S → used history (machine S step).state ≤ max S.quota (used history S)
+
+-- nor does a run, whose quota stays
+abbrev pub RunWithinQuota : Type 0
+RunWithinQuota = (S : State History) (steps : List Step) → IsHistory S.store → HasLeases S → used history (state_after S steps) ≤ max S.quota (used history S)
+
+-- The revisions and the live keys together stay within the last revision at which a write begins and such a bound on the cells:
+-- a write ends at that revision at most, and each further one, when leases end, takes a live key.
+abbrev pub FitsRevisions : ℕ → State History → Type 0
+FitsRevisions bound S = current S.store + length (rows S.store every_key (current S.store)) ≤ last_revision + bound
+
+abbrev pub StepFitsRevisions : Type 0
+StepFitsRevisions = (S : State History) (step : Step) (bound : ℕ) → IsHistory S.store → HasLeases S → S.quota ≤ bound → used history S ≤ bound → FitsRevisions bound S → FitsRevisions bound (machine S step).state
