@@ -1,0 +1,12 @@
+pub mod FreeList
+pub mod Cutting
+pub mod Chains
+pub mod Freeing
+pub mod Storing
+pub mod Records
+pub mod Tables
+pub mod Comparing
+pub mod Fronts
+pub mod Turning
+pub mod Rewriting
+pub mod Starting

@@ -1,0 +1,124 @@
+-- A table and an order as they begin.
+use Rattle.std.proofs.Common.{◌≡◌, ℕ, zero, suc, true, false, ◌+◌, ◌-◌, ◌*◌, ◌/◌, ◌%◌, ◌<◌, ◌≤◌, ◌^◌, List, [], ◌∷◌, ◌++◌, length, map, get_or, Option, Some, None, sum_by, refl, sym, ap, ◌∙◌, inl, inr, arith, subst}
+use Rattle.std.proofs.lemmas.Bool.{cases_eq}
+use Rattle.std.proofs.lemmas.List.{length_push, get_or_push, get_or_append_left}
+use Rattle.std.proofs.lemmas.List.Sums.{sum_by-cons}
+use Rattle.std.specs.Global.{Vec}
+use Rattle.std.specs.Ordering.{nat_cmp}
+use Rattle.std.specs.FinMap.{FinMap, empty}
+use Rattle.cell_arena.specs.declared.cell.Cell.{Cell}
+use Rattle.cell_arena.specs.declared.cell.Cell.TheVariants.{Free, Head, Rest}
+use Rattle.cell_arena.specs.declared.cell.HeadCell.{HeadCell}
+use Rattle.cell_arena.specs.declared.cell.Kind.{Kind}
+use Rattle.cell_arena.specs.declared.order.Order.{Order}
+use Rattle.cell_arena.specs.declared.slot.Slot.{Slot}
+use Rattle.cell_arena.specs.declared.table.Table.{Table}
+use Rattle.cell_arena.specs.Chain.{IsBare, AllBare, IsLinked, Record, cell_at, link_of, record_of}
+use Rattle.cell_arena.specs.Held.{Held, held_of, IsSound}
+use Rattle.cell_arena.specs.Order.{IsOrder, count_of}
+use Rattle.cell_arena.specs.Table.{IsTable, IsSlot, slot_cells, hidden, table_at, free_of, used_of}
+use Rattle.cell_arena.proofs.Records.{empty_is, get_held}
+use Rattle.cell_arena.proofs.Tables.{none_listed}
+
+-- each number below the count stands at its own place
+pub record IsCounting (numbers : List ℕ) (count : ℕ) : Type 0 where
+  pub size : length numbers ≡ count
+  pub at : (k : ℕ) → k < count → get_or numbers k 0 ≡ k
+
+pub counting_none : IsCounting [] 0
+counting_none = record { size = refl; at = λ k less. absurd (omega arith) }
+
+pub counting_more : (numbers : List ℕ) (count : ℕ) → IsCounting numbers count → IsCounting (numbers ++ count ∷ []) (count + 1)
+counting_more numbers count was = record {
+  size = length_push numbers count ∙ omega (arith, was.size);
+  at = λ k less. elim (cases_eq k count) [
+    | inl same ↦ ap (λ i. get_or (numbers ++ count ∷ []) i 0) same ∙ get_or_push numbers count 0 count was.size ∙ sym same
+    | inr other ↦ get_or_append_left numbers (count ∷ []) 0 k (omega (arith, was.size)) ∙ was.at k (omega arith)
+  ];
+}
+
+pub counted_order : (o : Order) (count : ℕ) → IsCounting o.order.items count → IsCounting o.place.items count → IsOrder o
+counted_order o count order place = record {
+  size = place.size ∙ sym order.size;
+  at = λ i less. omega (arith, order.at i (omega (arith, order.size)), order.size);
+  back = λ i less. ap (λ k. get_or o.place.items k 0) (order.at i (omega (arith, order.size))) ∙ place.at i (omega (arith, order.size));
+  of = λ q less. omega (arith, place.at q (omega (arith, order.size)), order.size);
+  there = λ q less. ap (λ k. get_or o.order.items k 0) (place.at q (omega (arith, order.size))) ∙ order.at q (omega (arith, order.size));
+}
+
+pub bare_more : (slots : List Slot) (slot : Slot) → AllBare slots → IsBare slot → AllBare (slots ++ slot ∷ [])
+bare_more [] slot all bare = (bare, tt)
+bare_more (s ∷ slots) slot all bare = (all.0, bare_more slots slot all.1 bare)
+
+bare_at : (slots : List Slot) → AllBare slots → (k : ℕ) (slot : Slot) → k < length slots → get_or slots k slot ≡ slot → IsBare slot
+bare_at [] all k slot less read = absurd (omega arith)
+bare_at (s ∷ slots) all zero slot less read = subst IsBare read all.0
+bare_at (s ∷ slots) all (suc k) slot less read = bare_at slots all.1 k slot (omega arith) read
+
+bare_cells : (slots : List Slot) → AllBare slots → (k : ℕ) → get_or (map slot_cells slots) k [] ≡ []
+bare_cells [] all k = refl
+bare_cells (s ∷ slots) all zero = all.0.cells
+bare_cells (s ∷ slots) all (suc k) = bare_cells slots all.1 k
+
+bare_sum : (f : Slot → ℕ) (slots : List Slot) → ((slot : Slot) → IsBare slot → f slot ≡ 0) → AllBare slots → sum_by f slots ≡ 0
+bare_sum f [] none all = refl
+bare_sum f (s ∷ slots) none all = sum_by-cons f s slots ∙ omega (arith, none s all.0, bare_sum f slots none all.1)
+
+bare_slot : (slot : Slot) (place : ℕ) → IsBare slot → IsSlot 0 0 place slot
+bare_slot slot place bare =
+    let long : length slot.cells.items ≡ 0 = ap length bare.cells in
+    record {
+      listed = none_listed slot bare.cells bare.first bare.free;
+      empty = λ h. long;
+      whole = λ h. absurd (omega arith);
+      used = λ h. absurd (omega arith);
+      spare = λ h. absurd (omega arith);
+      full = λ h. bare.free;
+    }
+
+-- a table without a segment
+pub bare_table : (t : Table) → AllBare t.slots.items → length t.slots.items ≤ 2 ^ 14 → IsOrder t.order → count_of t.order ≡ length t.slots.items → t.ready ≡ 0 → t.drawn ≡ 0 → t.used ≡ 0 → t.reserved ≤ length t.slots.items → IsTable t
+bare_table t all few order size ready drawn used reserved =
+    let none_free = bare_sum free_of t.slots.items (λ slot bare. bare.free) all in
+    let none_used = bare_sum used_of t.slots.items (λ slot bare. none_in slot bare) all in
+    record {
+      few = few;
+      order = order;
+      size = size;
+      ready = omega arith;
+      drawn = omega arith;
+      reserved = reserved;
+      slots = λ s slot less read. subst (λ r. IsSlot r t.drawn (get_or t.order.place.items s 0) slot) (sym ready) (subst (λ d. IsSlot 0 d (get_or t.order.place.items s 0) slot) (sym drawn) (bare_slot slot (get_or t.order.place.items s 0) (bare_at t.slots.items all s slot less read)));
+      held = used ∙ sym none_used;
+      used = omega (arith, none_free);
+    }
+  where
+    none_in : (slot : Slot) → IsBare slot → used_of slot ≡ 0
+    none_in slot bare = omega (arith, ap length bare.cells)
+
+-- no number stands for anything
+pub bare_cell : (t : Table) → AllBare t.slots.items → (n : ℕ) → table_at t n ≡ Free None
+bare_cell t all n = ap (λ cells. hidden (cell_at cells (n % 64))) (bare_cells t.slots.items all (n / 64))
+
+pub bare_sound : (t : Table) → IsTable t → AllBare t.slots.items → IsSound t
+bare_sound t table all = record {
+  table = table;
+  linked = record {
+    short = λ c kind head is. absurd (no_head c kind head is);
+    heads = λ c kind head is. absurd (no_head c kind head is);
+    rests = λ i n names. absurd (no_link i n names);
+    single = λ i j n a b. absurd (no_link i n a);
+  };
+}
+  where
+    no_head : (c : ℕ) (kind : Kind) (head : HeadCell) → table_at t c ≡ Head kind head → ⊥
+    no_head c kind head is = let free = bare_cell t all c in cc
+
+    no_link : (i n : ℕ) → link_of (table_at t i) ≡ Some n → ⊥
+    no_link i n names = let none = ap link_of (bare_cell t all i) in cc
+
+pub bare_held : (t : Table) (cells : ℕ) → AllBare t.slots.items → t.reserved ≡ cells / 64 → t.drawn ≡ 0 → t.used ≡ 0 → cells % 64 ≡ 0 → held_of t ≡ record { records = empty; free = cells; reserved = cells / 64; drawn = 0 }
+bare_held t cells all reserved drawn used whole =
+    let records : (held_of t).records ≡ empty = empty_is (held_of t).records (λ q. get_held t q ∙ ap (record_of (table_at t)) (bare_cell t all q)) in
+    let free : 64 * t.reserved - t.used ≡ cells = omega (arith, reserved, used, whole) in
+    λ i. record { records = records i; free = free i; reserved = reserved i; drawn = drawn i }

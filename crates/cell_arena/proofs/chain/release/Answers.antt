@@ -1,0 +1,21 @@
+use Rattle.std.proofs.Common.{◌≡◌, ℕ, None, arith, refl, subst, sym, ap, ◌∙◌}
+use Rattle.cell_arena.specs.Chain.{is_free, is_rest, head_pieces, IsUnlinked}
+use Rattle.cell_arena.proofs.Chains.{unlinked, linked_written, may_free, loose_first, chain_kept, record_kept}
+use Rattle.cell_arena.proofs.Freeing.{head_freed_linked, head_freed_chain}
+use Rattle.cell_arena.proofs.chain.release.Goals as goal
+
+pub free-requires-clause-used : goal.free-requires-clause-used
+free-requires-clause-used g c = ap is_free c.head_at-kind.ensures
+
+pub free_chain-requires-clause-linked : goal.free_chain-requires-clause-linked
+free_chain-requires-clause-linked g c = head_freed_linked _ _ _ None _ _ c.free.ensures.written c.requires.linked c.head_at-kind.ensures
+
+pub free_chain-requires-clause-chain : goal.free_chain-requires-clause-chain
+free_chain-requires-clause-chain g c = rw c.pieces-count.ensures (head_freed_chain _ _ _ None _ _ c.free.ensures.written c.requires.linked c.head_at-kind.ensures)
+
+pub free_chain-requires-clause-loose : goal.free_chain-requires-clause-loose
+free_chain-requires-clause-loose g c = loose_first _ _ _ None _ _ c.free.ensures.written c.requires.linked c.head_at-kind.ensures
+
+pub returns-clause-kept : goal.returns-clause-kept
+returns-clause-kept g c q other =
+    c.free_chain.ensures.kept q ∙ record_kept _ _ c.args.at _ c.free.ensures.written c.requires.linked (unlinked _ _ c.requires.linked (ap is_rest c.head_at-kind.ensures)) q other

@@ -1,0 +1,23 @@
+use Rattle.std.proofs.Common.{◌≡◌, ◌∙◌, Some, arith, subst}
+use Rattle.std.specs.FinMap.{insert}
+use Rattle.cell_arena.specs.Chain.{Record, record_at}
+use Rattle.cell_arena.specs.Table.{table_at}
+use Rattle.cell_arena.specs.Held.{held_of}
+use Rattle.cell_arena.proofs.Records.{seen_head, seen_if, seen_insert, seen_free, seen_reserved, seen_drawn}
+use Rattle.cell_arena.proofs.region.Region.set_older.Goals as goal
+
+pub set_older-requires-clause-head : goal.set_older-requires-clause-head
+set_older-requires-clause-head c = seen_head c.self.inside.table _ c.args.cell c.self.view_is c.requires
+
+pub returns-clause-set : goal.returns-clause-set
+returns-clause-set c =
+    rw (← c.of.ensures) (seen_if c.self.inside.table _ c.args.cell (λ (r : Record). record_at (table_at c.set_older.new.t) c.args.cell ≡ Some (record r { older = c.of.result })) (λ (r : Record). (held_of c.set_older.new.t).records ≡ insert c.args.self.now.records c.args.cell (record r { older = c.of.result })) c.self.view_is (λ r here. seen_insert c.self.inside.table c.set_older.new.t _ c.args.cell _ c.self.view_is here c.set_older.ensures.kept) c.set_older.ensures.set)
+
+pub returns-clause-free : goal.returns-clause-free
+returns-clause-free c = omega (arith, seen_free c.self.inside.table _ c.self.view_is, c.set_older.ensures.used, c.set_older.ensures.reserved)
+
+pub returns-clause-reserved : goal.returns-clause-reserved
+returns-clause-reserved c = omega (arith, seen_reserved c.self.inside.table _ c.self.view_is, c.set_older.ensures.reserved)
+
+pub returns-clause-drawn : goal.returns-clause-drawn
+returns-clause-drawn c = omega (arith, seen_drawn c.self.inside.table _ c.self.view_is, c.set_older.ensures.drawn)

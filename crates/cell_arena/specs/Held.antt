@@ -1,0 +1,96 @@
+-- What a contract sees of a region.
+use Rattle.std.specs.Prelude.{◌≡◌, ℕ, zero, suc, ◌+◌, ◌-◌, ◌*◌, ◌/◌, ◌<◌, ◌≤◌, List, [], ◌∷◌, ◌++◌, take, length, Option, Some, None, ℤ, refl}
+use Rattle.std.specs.Ordering.{nat_cmp}
+use Rattle.std.specs.FinMap.{FinMap, from_entries}
+use Rattle.std.specs.Coded.{Coded, code_by, coded×, coded_ℕ, coded_ℤ, coded_list, coded_option}
+use Rattle.std.specs.FinMap as map
+use Rattle.cell_arena.specs.declared.cell.Cell.{Cell}
+use Rattle.cell_arena.specs.declared.cell.Kind.{Kind}
+use Rattle.cell_arena.specs.declared.cell.Kind.TheVariants.{Put, Delete, Lease}
+use Rattle.cell_arena.specs.declared.cell.Fields.{Fields}
+use Rattle.cell_arena.specs.declared.table.Table.{Table}
+use Rattle.cell_arena.specs.Chain.{IsLinked, record_at, Record, pieces}
+use Rattle.cell_arena.specs.Table.{IsTable, table_at}
+
+-- the records by their head cells, how many cells are free of those reserved, and how many
+-- segments are reserved and drawn
+pub record Held : Type 0 where
+  pub records : FinMap nat_cmp Record
+  pub free : ℕ
+  pub reserved : ℕ
+  pub drawn : ℕ
+
+abbrev pub kind_number : Kind → ℕ
+kind_number Put = 0
+kind_number Delete = 1
+kind_number Lease = 2
+
+abbrev pub kind_from : ℕ → Kind
+kind_from zero = Put
+kind_from (suc zero) = Delete
+kind_from (suc (suc n)) = Lease
+
+abbrev pub kind_again : (k : Kind) → kind_from (kind_number k) ≡ k
+kind_again Put = refl
+kind_again Delete = refl
+kind_again Lease = refl
+
+abbrev pub kind_code : Coded Kind
+kind_code = code_by ℕ coded_ℕ kind_number kind_from kind_again
+
+abbrev pub fields_code : Coded Fields
+fields_code =
+    code_by ((ℤ × ℤ) × (ℤ × ℤ)) (coded× (coded× coded_ℤ coded_ℤ) (coded× coded_ℤ coded_ℤ))
+    (λ f. ((f.revision, f.create_revision), (f.version, f.lease)))
+    (λ p. record { revision = p.0.0; create_revision = p.0.1; version = p.1.0; lease = p.1.1 })
+    (λ _. refl)
+
+abbrev pub record_code : Coded Record
+record_code =
+    code_by ((Kind × Fields) × ((List ℕ × List ℕ) × Option ℕ)) (coded× (coded× kind_code fields_code) (coded× (coded× (coded_list coded_ℕ) (coded_list coded_ℕ)) (coded_option coded_ℕ)))
+    (λ r. ((r.kind, r.fields), ((r.key, r.value), r.older)))
+    (λ p. record { kind = p.0.0; fields = p.0.1; key = p.1.0.0; value = p.1.0.1; older = p.1.1 })
+    (λ _. refl)
+
+abbrev pub held_code : Coded Held
+held_code =
+    code_by (FinMap nat_cmp Record × (ℕ × (ℕ × ℕ))) (coded× (map.code coded_ℕ record_code) (coded× coded_ℕ (coded× coded_ℕ coded_ℕ)))
+    (λ h. (h.records, (h.free, (h.reserved, h.drawn))))
+    (λ p. record { records = p.0; free = p.1.0; reserved = p.1.1.0; drawn = p.1.1.1 })
+    (λ _. refl)
+
+-- how many cells a record takes
+abbrev pub cost : Record → ℕ
+cost r = 1 + pieces (length r.key + length r.value)
+
+abbrev pub entry_before : ℕ → Option Record → List (ℕ × Record) → List (ℕ × Record)
+entry_before n None es = es
+entry_before n (Some r) es = (n, r) ∷ es
+
+-- what stands below this number
+abbrev pub entries_below : (ℕ → Option Record) → ℕ → List (ℕ × Record)
+entries_below f zero = []
+entries_below f (suc n) = entry_before n (f n) (entries_below f n)
+
+unfoldable pub records_of : (ℕ → Cell) → ℕ → FinMap nat_cmp Record
+records_of at bound = from_entries (entries_below (record_at at) bound)
+
+abbrev pub held_of : Table → Held
+held_of t = record {
+  records = records_of (table_at t) (64 * length t.slots.items);
+  free = 64 * t.reserved - t.used;
+  reserved = t.reserved;
+  drawn = t.drawn;
+}
+
+-- how many cells are in use
+abbrev pub used_cells : Held → ℕ
+used_cells held = 64 * held.reserved - held.free
+
+pub record IsSound (t : Table) : Type 0 where
+  pub table : IsTable t
+  pub linked : IsLinked (table_at t)
+
+-- what was given is a front of the bytes
+abbrev pub IsFrontOf : List ℕ → List ℕ → List ℕ → Type 0
+IsFrontOf bytes old new = (n : ℕ) × (new ≡ old ++ take n bytes)

@@ -1,0 +1,55 @@
+-- A table of segments.
+use Rattle.std.specs.Prelude.{◌≡◌, ℕ, ◌+◌, ◌-◌, ◌*◌, ◌/◌, ◌%◌, ◌^◌, ◌<◌, ◌≤◌, List, [], map, max, length, Option, Some, None, sum_by, slice_get, slice_index_or}
+use Rattle.cell_arena.specs.declared.cell.Cell.{Cell}
+use Rattle.cell_arena.specs.declared.cell.Cell.TheVariants.{Free, Head, Rest}
+use Rattle.cell_arena.specs.declared.slot.Slot.{Slot}
+use Rattle.cell_arena.specs.declared.table.Table.{Table}
+use Rattle.cell_arena.specs.Chain.{cell_at, IsListed}
+use Rattle.cell_arena.specs.Order.{IsOrder, count_of, place_of}
+
+-- a cell, without the link of a free one
+abbrev pub hidden : Cell → Cell
+hidden (Free next) = Free None
+hidden (Head kind head) = Head kind head
+hidden (Rest bytes next) = Rest bytes next
+
+abbrev pub slot_cells : Slot → List Cell
+slot_cells slot = slot.cells.items
+
+-- what stands at a number
+abbrev pub at_slots : List Slot → ℕ → Cell
+at_slots slots n = hidden (cell_at (slice_index_or (map slot_cells slots) (n / 64) []) (n % 64))
+
+abbrev pub table_at : Table → ℕ → Cell
+table_at t = at_slots t.slots.items
+
+-- a slot at its place in the order
+pub record IsSlot (ready drawn place : ℕ) (slot : Slot) : Type 0 where
+  pub listed : IsListed slot
+  pub empty : drawn ≤ place → length slot.cells.items ≡ 0
+  pub whole : place < drawn → length slot.cells.items ≡ 64
+  pub used : place < drawn → slot.free < 64
+  pub spare : place < ready → 0 < slot.free
+  pub full : ready ≤ place → slot.free ≡ 0
+
+abbrev pub free_of : Slot → ℕ
+free_of slot = slot.free
+
+abbrev pub used_of : Slot → ℕ
+used_of slot = length slot.cells.items - slot.free
+
+-- first the slots with free cells, then the full ones, then those without a segment
+pub record IsTable (t : Table) : Type 0 where
+  pub few : length t.slots.items ≤ 2 ^ 14
+  pub order : IsOrder t.order
+  pub size : count_of t.order ≡ length t.slots.items
+  pub ready : t.ready ≤ t.drawn
+  pub drawn : t.drawn ≤ t.reserved
+  pub reserved : t.reserved ≤ length t.slots.items
+  pub slots : (s : ℕ) (slot : Slot) → s < length t.slots.items → slice_index_or t.slots.items s slot ≡ slot → IsSlot t.ready t.drawn (place_of t.order s) slot
+  pub held : t.used ≡ sum_by used_of t.slots.items
+  pub used : t.used + sum_by free_of t.slots.items ≡ 64 * t.drawn
+
+-- how many segments so many cells fill
+abbrev pub segments_for : ℕ → ℕ
+segments_for cells = (cells + 63) / 64

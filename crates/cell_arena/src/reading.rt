@@ -1,0 +1,76 @@
+// Reading a part of a record's bytes.
+ghost use Rattle.std.specs.Prelude.{◌≡◌, ◌++◌, OnOk, OnErr};
+ghost use Rattle.std.specs.Ordering.{nat_cmp};
+ghost use Rattle.std.specs.Cmp.Lexicographic.{slice_cmp};
+ghost use Rattle.cell_arena.specs.Part.{IsPart, part_bytes};
+ghost use Rattle.cell_arena.specs.Table.{table_at};
+ghost use Rattle.cell_arena.specs.Held.{IsFrontOf};
+
+use crate::cell::CELL_BYTES;
+use crate::chain::rest_at;
+use crate::part::Part;
+use crate::sink::Sink;
+use crate::table::Table;
+use etcd_types::Mem;
+use std::cmp::Ordering;
+
+// Gives a part of a chain's bytes, a piece a cell.
+pub fn read_part<S: Sink>(t: &Table, part: Part, sink: &mut S) -> Mem<()>
+    requires { IsPart (table_at t.now) part }
+    ensures ok { OnOk result (S.taken sink.new ≡ S.taken sink.old ++ part_bytes (table_at t.now) part) }
+    ensures err { OnErr result (IsFrontOf (part_bytes (table_at t.now) part) (S.taken sink.old) (S.taken sink.new)) }
+{
+    let mut link = part.first;
+    let mut cells_left = part.cells;
+    let mut skip = part.from;
+    let mut left = part.count;
+    'reading: while left > 0 {
+        let (_at, bytes, next) = rest_at(t, link);
+        cells_left -= 1;
+        link = next;
+        if skip < CELL_BYTES {
+            let n = left.min(CELL_BYTES - skip);
+            sink.put(&bytes[skip..skip + n])?;
+            left -= n;
+            skip = 0;
+        } else {
+            skip -= CELL_BYTES;
+        }
+    }
+    Ok(())
+}
+
+// How a part of a chain's bytes stands to a text, in byte order.
+pub fn compare_part(t: &Table, part: Part, text: &[u8]) -> Ordering
+    requires { IsPart (table_at t.now) part }
+    ensures { result ≡ slice_cmp nat_cmp (part_bytes (table_at t.now) part) text.now }
+{
+    let mut link = part.first;
+    let mut cells_left = part.cells;
+    let mut skip = part.from;
+    let mut left = part.count;
+    let mut rest = text;
+    'comparing: while left > 0 {
+        let (_at, bytes, next) = rest_at(t, link);
+        cells_left -= 1;
+        link = next;
+        if skip < CELL_BYTES {
+            let n = left.min(CELL_BYTES - skip);
+            let m = n.min(rest.len());
+            match bytes[skip..skip + n].cmp(&rest[..m]) {
+                Ordering::Equal => {}
+                unequal => return unequal,
+            }
+            rest = &rest[m..];
+            left -= n;
+            skip = 0;
+        } else {
+            skip -= CELL_BYTES;
+        }
+    }
+    if rest.is_empty() {
+        Ordering::Equal
+    } else {
+        Ordering::Less
+    }
+}

@@ -1,0 +1,208 @@
+// A store of records.
+ghost use Rattle.std.specs.Prelude.{◌≡◌, ◌+◌, ◌*◌, ◌/◌, ◌%◌, ◌≤◌, ◌^◌, ◌++◌, max, length, OnOk, OnErr, IfOk, Some, None, IsSome, IfSome, []};
+ghost use Rattle.std.specs.Ordering.{nat_cmp};
+ghost use Rattle.std.specs.Cmp.Lexicographic.{slice_cmp};
+ghost use Rattle.std.specs.FinMap as map;
+ghost use Rattle.cell_arena.specs.declared.cell.Kind.{Kind};
+ghost use Rattle.cell_arena.specs.Chain.{pieces as cells_for};
+ghost use Rattle.cell_arena.specs.Table.{segments_for};
+ghost use Rattle.cell_arena.specs.Held.{cost, used_cells, IsFrontOf};
+
+use crate::cell::{Fields, Kind};
+use crate::link::Link;
+use crate::segments::Segments;
+use crate::sink::Sink;
+use crate::table::{self, Table};
+use crate::{chain, copying, reading};
+use etcd_types::{CellNo, Mem};
+use std::alloc::Global;
+use std::cmp::Ordering;
+use std::marker::Model;
+
+/// A store of records, each under the number of its first cell, in segments that are lent to the
+/// calls that draw them and give them back.
+///
+/// A call that names a cell asks that it is the first of a record.
+#[derive(Drop)]
+pub struct Region {
+    table: Table,
+}
+
+impl Model for Region {
+    ghost use Rattle.cell_arena.specs.Held.{Held, held_code, held_of, IsSound};
+
+    ghost Value = { Held };
+
+    ghost coded = { held_code };
+
+    ghost view = { λ r. held_of r.table };
+
+    ghost invariant = { λ r. IsSound r.table };
+}
+
+impl Region {
+    /// A store of no records, for so many cells, which are 64 for each reserved segment. Takes the
+    /// memory of its table, and draws nothing.
+    pub fn new(alloc: Global, cells: u32) -> Mem<Region>
+        requires whole { cells % 64 ≡ 0 }
+        requires few { cells ≤ 2 ^ 20 }
+        ensures { IfOk result (λ r. r ≡ record { records = map.empty; free = cells; reserved = cells / 64; drawn = 0 }) }
+    {
+        Ok(Region {
+            table: table::new(alloc, cells / 64)?,
+        })
+    }
+
+    /// How many more cells fit in the reserved segments.
+    pub fn free_cells(&self) -> u32
+        ensures free { result ≡ self.now.free }
+        ensures small { result ≤ 64 * self.now.reserved }
+    {
+        64 * self.table.reserved - self.table.used
+    }
+
+    /// Adds a record, which takes one cell and one more for each 48 bytes of its key and value.
+    ///
+    /// A segment is drawn only where the free cells of the drawn ones are too few, and no more of
+    /// them than it needs.
+    pub fn place<S: Segments>(
+        &mut self,
+        segments: &mut S,
+        kind: Kind,
+        fields: Fields,
+        key: &[u8],
+        value: &[u8],
+    ) -> CellNo
+        requires space { 1 + cells_for (length key.now + length value.now) ≤ self.old.free }
+        requires left { S.left segments.old + self.old.drawn ≡ self.old.reserved }
+        ensures fresh { map.get self.old.records result ≡ None }
+        ensures placed { self.new.records ≡ map.insert self.old.records result (record { kind = kind; fields = fields; key = key.now; value = value.now; older = None }) }
+        ensures free { self.new.free + (1 + cells_for (length key.now + length value.now)) ≡ self.old.free }
+        ensures reserved { self.new.reserved ≡ self.old.reserved }
+        ensures draws { self.new.drawn ≡ max self.old.drawn (segments_for (used_cells self.new)) }
+        ensures left { S.left segments.new + self.new.drawn ≡ self.new.reserved }
+        ensures room { S.room segments.new + self.old.drawn ≡ S.room segments.old + self.new.drawn }
+        ensures others { S.others segments.new ≡ S.others segments.old }
+    {
+        chain::place(&mut self.table, segments, kind, fields, key, value)
+    }
+
+    /// Adds a delete record of another record's key, which is copied cell by cell.
+    ///
+    /// Segments are drawn as by `place`.
+    pub fn place_delete<S: Segments>(
+        &mut self,
+        segments: &mut S,
+        of: CellNo,
+        fields: Fields,
+    ) -> CellNo
+        requires head { IsSome (map.get self.old.records of) }
+        requires space { IfSome (map.get self.old.records of) (λ r. 1 + cells_for (length r.key) ≤ self.old.free) }
+        requires left { S.left segments.old + self.old.drawn ≡ self.old.reserved }
+        ensures fresh { map.get self.old.records result ≡ None }
+        ensures placed { IfSome (map.get self.old.records of) (λ r. self.new.records ≡ map.insert self.old.records result (record { kind = Kind.Delete; fields = fields; key = r.key; value = []; older = None })) }
+        ensures free { IfSome (map.get self.old.records of) (λ r. self.new.free + (1 + cells_for (length r.key)) ≡ self.old.free) }
+        ensures reserved { self.new.reserved ≡ self.old.reserved }
+        ensures draws { self.new.drawn ≡ max self.old.drawn (segments_for (used_cells self.new)) }
+        ensures left { S.left segments.new + self.new.drawn ≡ self.new.reserved }
+        ensures room { S.room segments.new + self.old.drawn ≡ S.room segments.old + self.new.drawn }
+        ensures others { S.others segments.new ≡ S.others segments.old }
+    {
+        copying::place_delete(&mut self.table, segments, of, fields)
+    }
+
+    /// Takes a record away. A segment is given back as soon as none of its cells is in use, with
+    /// all that they hold.
+    pub fn release<S: Segments>(&mut self, segments: &mut S, cell: CellNo)
+        requires head { IsSome (map.get self.old.records cell) }
+        requires room { self.old.drawn ≤ S.room segments.old }
+        ensures gone { self.new.records ≡ map.remove self.old.records cell }
+        ensures free { IfSome (map.get self.old.records cell) (λ r. self.new.free ≡ self.old.free + cost r) }
+        ensures reserved { self.new.reserved ≡ self.old.reserved }
+        ensures fewer { self.new.drawn ≤ self.old.drawn }
+        ensures left { S.left segments.new + self.new.drawn ≡ S.left segments.old + self.old.drawn }
+        ensures room { S.room segments.new + self.old.drawn ≡ S.room segments.old + self.new.drawn }
+        ensures others { S.others segments.new ≡ S.others segments.old }
+    {
+        chain::release(&mut self.table, segments, cell);
+    }
+
+    /// What the record is.
+    pub fn kind(&self, cell: CellNo) -> Kind
+        requires { IsSome (map.get self.now.records cell) }
+        ensures { IfSome (map.get self.now.records cell) (λ r. result ≡ r.kind) }
+    {
+        chain::head_at(&self.table, cell).0
+    }
+
+    /// The record's numbers.
+    pub fn fields(&self, cell: CellNo) -> Fields
+        requires { IsSome (map.get self.now.records cell) }
+        ensures { IfSome (map.get self.now.records cell) (λ r. result ≡ r.fields) }
+    {
+        let (_kind, head) = chain::head_at(&self.table, cell);
+        head.fields
+    }
+
+    /// The next older record of its key, as it was set.
+    pub fn older(&self, cell: CellNo) -> Option<CellNo>
+        requires { IsSome (map.get self.now.records cell) }
+        ensures { IfSome (map.get self.now.records cell) (λ r. result ≡ r.older) }
+    {
+        let (_kind, head) = chain::head_at(&self.table, cell);
+        head.older.cell()
+    }
+
+    /// Sets the next older record of its key, and nothing else.
+    pub fn set_older(&mut self, cell: CellNo, older: Option<CellNo>)
+        requires { IsSome (map.get self.old.records cell) }
+        ensures set { IfSome (map.get self.old.records cell) (λ r. self.new.records ≡ map.insert self.old.records cell (record r { older = older })) }
+        ensures free { self.new.free ≡ self.old.free }
+        ensures reserved { self.new.reserved ≡ self.old.reserved }
+        ensures drawn { self.new.drawn ≡ self.old.drawn }
+    {
+        chain::set_older(&mut self.table, cell, Link::of(older));
+    }
+
+    /// Gives the record's key.
+    ///
+    /// Where the sink finds no memory, it was given some bytes from the key's first on.
+    pub fn read_key<S: Sink>(&self, cell: CellNo, sink: &mut S) -> Mem<()>
+        requires { IsSome (map.get self.now.records cell) }
+        ensures ok { OnOk result (IfSome (map.get self.now.records cell) (λ r. S.taken sink.new ≡ S.taken sink.old ++ r.key)) }
+        ensures err { OnErr result (IfSome (map.get self.now.records cell) (λ r. IsFrontOf r.key (S.taken sink.old) (S.taken sink.new))) }
+    {
+        let part = chain::key_part(&self.table, cell);
+        reading::read_part(&self.table, part, sink)
+    }
+
+    /// Gives the record's value.
+    ///
+    /// Where the sink finds no memory, it was given some bytes from the value's first on.
+    pub fn read_value<S: Sink>(&self, cell: CellNo, sink: &mut S) -> Mem<()>
+        requires { IsSome (map.get self.now.records cell) }
+        ensures ok { OnOk result (IfSome (map.get self.now.records cell) (λ r. S.taken sink.new ≡ S.taken sink.old ++ r.value)) }
+        ensures err { OnErr result (IfSome (map.get self.now.records cell) (λ r. IsFrontOf r.value (S.taken sink.old) (S.taken sink.new))) }
+    {
+        let part = chain::value_part(&self.table, cell);
+        reading::read_part(&self.table, part, sink)
+    }
+
+    /// How the record's key stands to a text, in byte order.
+    pub fn key_cmp(&self, cell: CellNo, key: &[u8]) -> Ordering
+        requires { IsSome (map.get self.now.records cell) }
+        ensures { IfSome (map.get self.now.records cell) (λ r. result ≡ slice_cmp nat_cmp r.key key.now) }
+    {
+        let part = chain::key_part(&self.table, cell);
+        reading::compare_part(&self.table, part, key)
+    }
+
+    /// How the record's value stands to a text, in byte order.
+    pub fn value_cmp(&self, cell: CellNo, value: &[u8]) -> Ordering
+        requires { IsSome (map.get self.now.records cell) }
+        ensures { IfSome (map.get self.now.records cell) (λ r. result ≡ slice_cmp nat_cmp r.value value.now) }
+    {
+        let part = chain::value_part(&self.table, cell);
+        reading::compare_part(&self.table, part, value)
+    }
+}
