@@ -1,12 +1,12 @@
 -- Decoding by the strict engine without padding.
-use Rattle.std.proofs.Common.{◌≡◌, ℕ, zero, suc, ◌<◌, ◌-◌, ◌%◌, ◌==◌, ◌↔◌, List, [], ◌∷◌, Some, None, refl, ap, sym, ◌∙◌, subst, Result, Ok, Err, map, length, take, slice_index, Bool, true, false, if◌then◌else◌, Option, arith, lit<}
+use Rattle.std.proofs.Common.{◌≡◌, ℕ, zero, suc, ◌<◌, ◌-◌, ◌%◌, ◌==◌, ◌||◌, ◌↔◌, List, [], ◌∷◌, Some, None, refl, ap, sym, ◌∙◌, subst, Result, Ok, Err, map, length, take, slice_index, Bool, true, false, if◌then◌else◌, Option, arith, lit<}
 use Rattle.std.proofs.lemmas.Bool.{and_parts, eqb-true}
-use Rattle.std.specs.List.{list_all}
 use Rattle.std.specs.Result.{result_ok}
 use Rattle.base64.specs.declared.decode.DecodeError.{DecodeError}
 use Rattle.base64.specs.Engines.{standard_no_pad}
 use Rattle.base64.specs.GeneralPurpose.{IsBytes, decode_of, encode_of}
 use Rattle.base64.proofs.EngineFacts.{decode_of_iff}
+use Rattle.memchr.specs.Find.{IsFirstByte, is_byte2}
 use Rattle.etcd_model.specs.Spelling.{Spells, spelled_bytes, standard_symbol, symbols_of, without_equals, without_padding}
 
 ok_part : (r : Result (List ℕ) DecodeError) (b : List ℕ) → result_ok r ≡ Some b → r ≡ Ok b
@@ -48,10 +48,14 @@ spelled_bytes_iff s text b bytes =
     let both = decode_of_iff standard_no_pad (symbols_of s) b (refl, refl) (bytes_symbols s text) bytes in
     (λ h. both.0 (ok_part _ b h), λ h. ap result_ok (both.1 h))
 
--- Symbols that all are standard stay as they are.
-pub standard_already : (s : List ℕ) → list_all (λ c. c == standard_symbol c) s ≡ true → map standard_symbol s ≡ s
-standard_already [] h = refl
-standard_already (c ∷ s) h =
-    let parts = and_parts _ _ h in
-    let first : c ≡ standard_symbol c = eqb-true _ _ parts.0 in
-    let rest = standard_already s parts.1 in (cc)
+neither_of : (a b : Bool) (x y c : ℕ) → ((a || b) ≡ true → ⊥) → (if a then x else (if b then y else c)) ≡ c
+neither_of true b x y c h = absurd (h refl)
+neither_of false true x y c h = absurd (h refl)
+neither_of false false x y c h = refl
+
+-- Symbols with neither of the two that the URL-safe alphabet has in their place stay as they are.
+pub standard_already : (s : List ℕ) → IsFirstByte (is_byte2 45 95) s None → map standard_symbol s ≡ s
+standard_already [] none = refl
+standard_already (c ∷ cs) none =
+    let first : standard_symbol c ≡ c = neither_of (c == 45) (c == 95) 43 47 c (none 0 (omega arith) (omega arith)) in
+    let rest = standard_already cs (λ k low high. none (suc k) (omega arith) (omega arith)) in (cc)

@@ -1,6 +1,5 @@
 //! The bytes that a JSON string spells.
-ghost use Rattle.std.specs.Prelude.{◌≡◌, ◌≢◌, ◌==◌, ◌↔◌, List, ℕ, IfOk, Ok, Err, Some, map};
-ghost use Rattle.std.specs.List.{list_all};
+ghost use Rattle.std.specs.Prelude.{◌≡◌, ◌≢◌, ◌↔◌, List, ℕ, IfOk, Ok, Err, Some, map};
 ghost use Rattle.std.specs.Result.{result_ok};
 ghost use Rattle.base64.specs.Engines.{standard_no_pad};
 ghost use Rattle.base64.specs.GeneralPurpose.{IsBytes, decode_of};
@@ -11,6 +10,7 @@ ghost use Rattle.etcd_model.specs.Spelling.{Spells, spelled_bytes, standard_symb
 use base64::DecodeAllocError;
 use base64::engine::general_purpose::STANDARD_NO_PAD;
 use etcd_types::{List, Mem, Refusal};
+use memchr::memchr2;
 use std::alloc::Global;
 
 fn without_equals(text: &[u8]) -> &[u8]
@@ -43,15 +43,6 @@ fn standard_symbol(symbol: u8) -> u8
     }
 }
 
-/// The symbols are of the standard alphabet already, or of none.
-fn are_standard(symbols: &[u8]) -> bool
-    ensures { result ≡ list_all (λ c. c == standard_symbol c) symbols.now }
-{
-    symbols
-        .iter()
-        .all(|symbol| *symbol == standard_symbol(*symbol))
-}
-
 fn standard_symbols(alloc: Global, symbols: &[u8]) -> Mem<Vec<u8>>
     ensures { IfOk result (λ v. v.items ≡ map standard_symbol symbols.now) }
 {
@@ -78,9 +69,9 @@ fn bytes_of_symbols(alloc: Global, symbols: &[u8]) -> Result<List<u8>, Refusal>
     ensures { IsAnswer result
         (or_bad (result_ok (decode_of standard_no_pad (map standard_symbol symbols.now)))) }
 {
-    if are_standard(symbols) {
+    let Some(_) = memchr2(b'-', b'_', symbols) else {
         return decode(alloc, symbols);
-    }
+    };
     match standard_symbols(alloc, symbols) {
         Ok(symbols) => decode(alloc, &symbols),
         Err(_) => Err(Refusal::Memory),
