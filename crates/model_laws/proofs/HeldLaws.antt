@@ -41,7 +41,7 @@ use Rattle.etcd_model.specs.Held.{keep, over, outcome_over, IsHistory}
 use Rattle.etcd_model.proofs.HistoryLaws.{current-after}
 use Rattle.etcd_model.proofs.GrowthLaws.{after_before_space, after_step, store_stays, first_none}
 use Rattle.etcd_model.proofs.OnceLaws.{outcome_once, ChangesOnce-machine, ChangesOnce-opening}
-use Rattle.model_laws.specs.Holding.{KeepAfter, KeepCompact, KeepReads, KeepCells, OpeningIsHistory, StepIsHistory, StepOverKept, BeforeSpaceOverKept}
+use Rattle.model_laws.specs.Holding.{KeepAfter, KeepCompact, KeepReads, KeepLook, KeepAhead, KeepRowAt, KeepCells, OpeningIsHistory, StepIsHistory, StepOverKept, BeforeSpaceOverKept}
 use Rattle.model_laws.proofs.LastLaws.{true_or_false}
 use Rattle.model_laws.proofs.KeptLaws.{kept_append, kept_kept, kept_true, kept_false, live_kept}
 use Rattle.model_laws.proofs.RecordedLaws.{all_push, all_weaker, changes_are_entries, changes_after, changes_rise, changes_up_to_current, changes_own_their_rows, live_of_changes, rows_of_changes}
@@ -144,6 +144,15 @@ carries H le = record {
   ahead = fun_ext (λ w. guarded w.next H.compacted [] (filter (is_ahead w) (map entry_of (kept H.compacted (changes_of H)))) (filter (is_ahead w) (entries H)) (λ from. ahead_kept w H.compacted (changes_of H) from ∙ ap (filter (is_ahead w)) (changes_are_entries H)));
   row_at = fun_ext (λ key. fun_ext (λ r. guarded r H.compacted None (live key r (kept H.compacted (changes_of H))) (kv H key r) (live_kept_history H key r)));
 }
+
+pub keep_look : KeepLook
+keep_look H le = (carries H le).look
+
+pub keep_ahead : KeepAhead
+keep_ahead H le = (carries H le).ahead
+
+pub keep_row_at : KeepRowAt
+keep_row_at H le = (carries H le).row_at
 
 -- ---- a history as runs make it
 

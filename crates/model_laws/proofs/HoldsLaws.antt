@@ -11,7 +11,7 @@ use Rattle.etcd_model.specs.Store.{Store, kept_store}
 use Rattle.etcd_model.specs.Held.{keep, empty_store, over, outcome_over, Holds}
 use Rattle.model_laws.specs.Holding.{OpeningIsHeld, HeldAfterStep, HeldBeforeSpace}
 use Rattle.model_laws.proofs.HeldLaws.{step_over_kept, before_space_over_kept}
-use Rattle.model_laws.proofs.RunLaws.{opening_is_state, before_is_state, step_is_state}
+use Rattle.model_laws.proofs.StateLaws.{opening_is_state, before_is_state, step_is_state}
 
 pub opening_is_held : OpeningIsHeld
 opening_is_held cluster quota first = record { sound = opening_is_state cluster quota first; same = ap (λ n. over (λ (H : History). empty_store n) (opening cluster quota first)) (first_current first) }

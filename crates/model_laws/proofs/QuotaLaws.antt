@@ -87,7 +87,7 @@ ends_cells (l ∷ ls) S is = let T = finish machine.history S l.id in omega (ari
 
 -- ---- a renewed lease
 
-renewed : (x : Lease) (ls : List Lease) → list_any (λ l. int_eq l.id x.id) ls ≡ true → IsStrictlySortedBy by_id ls → length (put_in by_id ls x) ≡ length ls
+pub renewed : (x : Lease) (ls : List Lease) → list_any (λ l. int_eq l.id x.id) ls ≡ true → IsStrictlySortedBy by_id ls → length (put_in by_id ls x) ≡ length ls
 unfolding IsStrictlySortedBy
 renewed x [] there h = absurd (false≢true there)
 renewed x (l ∷ ls) there h = elim (by_id x l) as (λ o. by_id x l ≡ o → length (beside o x l ls (put_in by_id ls x)) ≡ length (l ∷ ls)) [

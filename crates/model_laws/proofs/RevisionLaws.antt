@@ -7,7 +7,6 @@ use Rattle.std.proofs.lemmas.Bool.{true≢false, false≢true, or_parts}
 use Rattle.std.proofs.lemmas.Bool.Decides.{nat_tests}
 use Rattle.std.proofs.lemmas.List.{append-nil}
 use Rattle.std.proofs.lemmas.List.Folds.{list_any-append}
-use Rattle.std.proofs.lemmas.List.Sums.{sum_by-cons}
 use Rattle.etcd_types.specs.declared.key_value.KeyValue.{KeyValue}
 use Rattle.etcd_types.specs.declared.txn.TxnReq.{TxnReq}
 use Rattle.etcd_types.specs.declared.txn.Op.{Op}
@@ -42,7 +41,7 @@ use Rattle.etcd_model.proofs.HistoryLaws.{current-after}
 use Rattle.etcd_model.proofs.GrowthLaws.{first_none, is_tick, current-machine}
 use Rattle.model_laws.specs.Runs.{FitsRevisions, StepFitsRevisions}
 use Rattle.model_laws.proofs.HeldLaws.{carries, up_after, keep_after, rows_kept_history, after_early, after_allowed, after_machine}
-use Rattle.model_laws.proofs.SpaceLaws.{keep_is_store, finish_takes_keys}
+use Rattle.model_laws.proofs.SpaceLaws.{a_cell_each, keep_is_store, finish_takes_keys}
 use Rattle.model_laws.proofs.RunLaws.{quiet_outcome}
 use Rattle.model_laws.proofs.QuotaLaws.{finish_is_history, look_kept, step_within_quota}
 
@@ -50,10 +49,6 @@ abbrev live_keys : History → ℕ
 live_keys H = length (rows H every_key (current H))
 
 -- ---- each live key has room for its delete
-
-a_cell_each : (rs : List KeyValue) → length rs ≤ sum_by (λ row. cost_delete row.key) rs
-a_cell_each [] = omega arith
-a_cell_each (r ∷ rs) = omega (arith, sum_by-cons (λ (row : KeyValue). cost_delete row.key) r rs, a_cell_each rs)
 
 keys_used : (S : State History) → live_keys S.store ≤ used machine.history S
 keys_used S = omega (arith, a_cell_each (rows S.store every_key (current S.store)))

@@ -41,10 +41,10 @@ use Rattle.etcd_model.specs.Machine as machine
 use Rattle.etcd_model.specs.Machine.{opening}
 use Rattle.etcd_model.proofs.OrderLaws.{any-in_order}
 use Rattle.etcd_model.proofs.GrowthLaws.{store_stays}
-use Rattle.etcd_model.specs.Held.{by_id, IsFull, IsRunning, HasLeases, IsState}
-use Rattle.model_laws.specs.Runs.{OpeningIsState, StepIsState, OpeningIsFull, OpeningHasLeases, OpeningHasSlots, StepIsFull, StepHasLeases, StepHasSlots}
+use Rattle.etcd_model.specs.Held.{by_id, IsFull, IsRunning, HasLeases}
+use Rattle.model_laws.specs.Runs.{OpeningIsFull, OpeningHasLeases, OpeningHasSlots, StepIsFull, StepHasLeases, StepHasSlots}
 use Rattle.model_laws.proofs.RecordedLaws.{all_push, all_weaker}
-use Rattle.model_laws.proofs.HeldLaws.{after_allowed, after_machine, opening_is_history, before_space_is_history, step_is_history}
+use Rattle.model_laws.proofs.HeldLaws.{after_allowed, after_machine}
 use Rattle.model_laws.proofs.LeaseLaws.{same_id, with_lease_ascends, without_lease_ascends, ends_alike}
 
 -- ---- steps that write nothing and leave the leases
@@ -283,7 +283,7 @@ ended_apart P (l ∷ ls) leases all =
       | false ↦ λ e. ((h.0, e), left xs h.1)
     ] refl
 
-or_right : (a c : Bool) → c ≡ true → (a || c) ≡ true
+pub or_right : (a c : Bool) → c ≡ true → (a || c) ≡ true
 or_right true c e = refl
 or_right false c e = e
 
@@ -362,29 +362,3 @@ step_has_leases S step has = after_machine HasLeases S step has (same_leases S (
 pub opening_has_leases : OpeningHasLeases
 unfolding IsStrictlySortedBy
 opening_has_leases cluster quota first = record { ascend = tt; running = tt; moment = omega arith }
-
--- ---- all of it
-
-pub opening_is_state : OpeningIsState
-opening_is_state cluster quota first = record {
-  history = opening_is_history cluster quota first;
-  full = opening_is_full cluster quota first;
-  leases = opening_has_leases cluster quota first;
-  slots = opening_has_slots cluster quota first;
-}
-
-pub before_is_state : (S : State History) (step : Step) → IsState S → IsState (machine.before_space S step).state
-before_is_state S step is = record {
-  history = before_space_is_history S step is.history;
-  full = before_is_full S step is.full;
-  leases = before_has_leases S step is.leases;
-  slots = before_has_slots S step ∙ is.slots;
-}
-
-pub step_is_state : StepIsState
-step_is_state S step is = record {
-  history = step_is_history S step is.history;
-  full = step_is_full S step is.full;
-  leases = step_has_leases S step is.leases;
-  slots = step_has_slots S step ∙ is.slots;
-}

@@ -33,7 +33,7 @@ use Rattle.etcd_model.specs.Store.{Store, IsStore, after, compact, reads_of, rec
 use Rattle.etcd_model.specs.Held.{keep, IsHistory}
 use Rattle.etcd_model.proofs.OrderLaws.{bytes_eq-key_cmp}
 use Rattle.model_laws.specs.Recording.{by_key}
-use Rattle.model_laws.specs.Space.{if_row, room, KeepIsStore, AfterIsStore, CompactIsStore, PutTakesCells, DeleteTakesItsRoom, DeleteTakesNone, FinishTakesNone, FinishTakesKeys, NoPutTakesNone, CompactionTakesNone, RecordsAreUsedCells}
+use Rattle.model_laws.specs.Space.{if_row, room, KeepIsStore, AfterIsStore, CompactIsStore, PutTakesCells, DeleteTakesItsRoom, DeleteTakesNone, FinishTakesNone, FinishTakesKeys, NoPutTakesNone, CompactionTakesNone, RecordsAreUsedCells, KeysAreReserved}
 use Rattle.model_laws.proofs.LastLaws.{true_or_false}
 use Rattle.model_laws.proofs.KeptLaws.{all_kept, kept_rises, kept_true, kept_false}
 use Rattle.model_laws.proofs.RowLaws.{has_key, rows_by_their_keys, not_found, row_found, rows_rise, same_rows, live-key}
@@ -130,7 +130,7 @@ cells_push n xs y own oy low = omega (arith, rows_push (λ row. cost_delete row.
 -- ---- pending changes
 
 -- the records with some changes pending
-abbrev pend : Store → List Change → List Recorded
+abbrev pub pend : Store → List Change → List Recorded
 pend s cs = record_revision (s.current + 1) s.changes cs
 
 own_pend : (s : Store) (cs : List Change) → IsStore s → AllByRecursion OwnRow (pend s cs)
@@ -140,7 +140,7 @@ own_pend s cs is = own_fold s.changes (map (entry_at (s.current + 1)) cs) is.own
 live_next : (s : Store) → IsStore s → (key : List ℕ) → live key s.current s.changes ≡ live key (s.current + 1) s.changes
 live_next s is key = live_later key s.current (s.current + 1) s.changes is.up (omega arith)
 
-row_pending : (s : Store) (cs : List Change) → IsStore s → (key : List ℕ) → (reads_of (after s cs)).row key ≡ live key (s.current + 1) (pend s cs)
+pub row_pending : (s : Store) (cs : List Change) → IsStore s → (key : List ℕ) → (reads_of (after s cs)).row key ≡ live key (s.current + 1) (pend s cs)
 row_pending s [] is key = live_next s is key
 row_pending s (c ∷ cs) is key = refl
 
@@ -315,6 +315,13 @@ compaction_takes_none s r is from to = omega (arith, fewer_records r s.changes, 
 
 pub records_are_used_cells : RecordsAreUsedCells
 records_are_used_cells t = omega arith
+
+pub a_cell_each : (rs : List KeyValue) → length rs ≤ sum_by (λ row. cost_delete row.key) rs
+a_cell_each [] = omega arith
+a_cell_each (r ∷ rs) = omega (arith, sum_by-cons (λ (row : KeyValue). cost_delete row.key) r rs, a_cell_each rs)
+
+pub keys_are_reserved : KeysAreReserved
+keys_are_reserved s = a_cell_each (rows every_key s.current s.changes)
 
 -- ---- stores
 

@@ -1,5 +1,5 @@
 -- Laws: the ID that is chosen for a lease, and the order in which leases end.
-use Rattle.std.specs.Prelude.{◌≡◌, ℕ, ◌<◌, ◌≤◌, pos, ℤ, Bool, true, false, not, List, [], ◌∷◌, filter, map, fold, max, min}
+use Rattle.std.specs.Prelude.{◌≡◌, ◌⊎◌, nat_le, ℕ, ◌+◌, ◌<◌, ◌≤◌, pos, ℤ, Bool, true, false, not, List, [], ◌∷◌, length, filter}
 use Rattle.std.specs.List.{list_any}
 use Rattle.std.specs.List.Sorted.{IsStrictlySortedBy}
 use Rattle.std.specs.Ordering.{int_cmp, int_eq, on}
@@ -11,12 +11,28 @@ use Rattle.etcd_model.specs.declared.state.State.{State}
 use Rattle.etcd_model.specs.Tenant.{Asks}
 use Rattle.etcd_model.specs.Leases.{free_id, run_out, end_cmp, with_lease, finish, tick}
 use Rattle.etcd_model.specs.Held.{by_id}
+use Rattle.model_laws.specs.Recording.{IsIn}
+use Rattle.std.specs.declared.cmp.Ordering.TheVariants.{Less}
 
 -- the ID that is chosen is the least from the counter on that no lease has
 abbrev pub FreeIdIsLeast : Type 0
 FreeIdIsLeast = (counter : ℕ) (leases : List Lease) → IsStrictlySortedBy by_id leases
     → (counter ≤ free_id counter leases) × (has_lease leases (pos (free_id counter leases)) ≡ false)
     × ((n : ℕ) → counter ≤ n → n < free_id counter leases → has_lease leases (pos n) ≡ true)
+
+-- it is above the counter by the number of leases at most
+abbrev pub FreeIdWithin : Type 0
+FreeIdWithin = (counter : ℕ) (leases : List Lease) → free_id counter leases ≤ counter + length leases
+
+-- a grant adds one lease, a renewal none, and one goes at a time
+abbrev pub GrantAddsOne : Type 0
+GrantAddsOne = (moment : ℕ) (leases : List Lease) (id : ℤ) (ttl : ℕ) → has_lease leases id ≡ false → length (with_lease moment leases id ttl) ≡ length leases + 1
+
+abbrev pub RenewAddsNone : Type 0
+RenewAddsNone = (moment : ℕ) (leases : List Lease) (id : ℤ) (ttl : ℕ) → IsStrictlySortedBy by_id leases → has_lease leases id ≡ true → length (with_lease moment leases id ttl) ≡ length leases
+
+abbrev pub FinishTakesOne : Type 0
+FinishTakesOne = (leases : List Lease) (id : ℤ) → IsStrictlySortedBy by_id leases → has_lease leases id ≡ true → length (filter (λ l. not (int_eq l.id id)) leases) + 1 ≡ length leases
 
 -- leases stay in order of their IDs when one is granted or renewed, and when one goes
 abbrev pub WithLeaseAscends : Type 0
@@ -28,6 +44,15 @@ WithoutLeaseAscends = (leases : List Lease) (id : ℤ) → IsStrictlySortedBy by
 -- the leases that have run out are in order of their ends, and then of their IDs
 abbrev pub RunOutAscend : Type 0
 RunOutAscend = (moment : ℕ) (leases : List Lease) → IsStrictlySortedBy end_cmp (run_out moment leases)
+
+-- the first of them is the one that ends before all others that have run out, and where none has there is none
+abbrev pub RunOutFirst : Type 0
+RunOutFirst = (moment : ℕ) (leases : List Lease) (first : Lease) → IsIn first leases → nat_le first.end moment ≡ true
+    → ((l : Lease) → IsIn l leases → nat_le l.end moment ≡ true → (l ≡ first) ⊎ (end_cmp first l ≡ Less))
+    → (rest : List Lease) × (run_out moment leases ≡ first ∷ rest)
+
+abbrev pub RunOutNone : Type 0
+RunOutNone = (moment : ℕ) (leases : List Lease) → ((l : Lease) → IsIn l leases → nat_le l.end moment ≡ false) → run_out moment leases ≡ []
 
 -- once the first of them has gone, the others have run out, in the same order
 abbrev pub RunOutRest : Type 0
