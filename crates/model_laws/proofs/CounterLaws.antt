@@ -1,8 +1,7 @@
 -- The counter of lease IDs stays within its bound, and what leases make of the cells in use.
-use Rattle.std.proofs.Common.{◌≡◌, ℕ, ◌+◌, ◌<◌, ◌≤◌, List, [], ◌∷◌, length, refl, ap, ◌∙◌, sym, arith, map}
+use Rattle.std.proofs.Common.{◌≡◌, ℕ, ◌+◌, ◌<◌, ◌≤◌, List, [], ◌∷◌, length, refl, ap, ◌∙◌, sym, arith}
 use Rattle.std.specs.Prelude.{ℤ, pos, Bool, true, false, not, cond, ◌&&◌, ◌||◌, fold, filter, Option, Some, None, max, min, nat_le, if◌then◌else◌}
 use Rattle.std.specs.List.{list_any}
-use Rattle.std.specs.List.Sorted.{IsStrictlySortedBy}
 use Rattle.std.specs.Ordering.{int_eq, is_eq}
 use Rattle.std.specs.declared.cmp.Ordering.TheVariants.{Less, Equal, Greater}
 use Rattle.std.proofs.lemmas.Bool.{true≢false, or_parts}
@@ -13,17 +12,15 @@ use Rattle.etcd_types.specs.declared.refusal.Refusal.TheVariants.{UsedUp}
 use Rattle.etcd_types.specs.Limits.{last_moment, last_revision, last_lease_id}
 use Rattle.etcd_model.specs.declared.state.Lease.{Lease}
 use Rattle.etcd_model.specs.declared.state.History.{History}
-use Rattle.etcd_model.specs.declared.state.Change.TheVariants.{Delete as Del}
 use Rattle.etcd_model.specs.declared.state.State.{State}
 use Rattle.etcd_model.specs.Order.{beside, put_in}
 use Rattle.etcd_model.specs.Operations.{has_lease}
-use Rattle.etcd_model.specs.Tenant.{used, reads}
-use Rattle.etcd_model.specs.Leases.{lease_at, attached, step_past, free_id, finish, run_out, with_lease}
+use Rattle.etcd_model.specs.Tenant.{used}
+use Rattle.etcd_model.specs.Leases.{lease_at, step_past, free_id, finish, run_out}
 use Rattle.etcd_model.specs.Fields.{fields, refused_if}
-use Rattle.etcd_model.specs.Stepping.{writes, chooses_id, counter_after, early, look_up, outcome, used_up, kept_alive}
+use Rattle.etcd_model.specs.Stepping.{counter_after, early, outcome, used_up, kept_alive}
 use Rattle.etcd_model.specs.History.{current}
 use Rattle.etcd_model.specs.Machine as machine
-use Rattle.etcd_model.specs.Store.{Store, IsStore, kept_store}
 use Rattle.etcd_model.specs.Held.{by_id}
 use Rattle.etcd_model.proofs.GrowthLaws.{first_none}
 use Rattle.model_laws.specs.Leases.{FreeIdWithin, GrantAddsOne, RenewAddsNone, FinishTakesOne}

@@ -1,15 +1,13 @@
 -- The lease that ends first.
-use Rattle.std.proofs.Common.{◌≡◌, ℕ, List, [], ◌∷◌, refl, ap, ◌∙◌, sym, subst, inl, inr, ◌⊎◌}
+use Rattle.std.proofs.Common.{◌≡◌, List, [], ◌∷◌, refl, ap, ◌∙◌, sym, subst, inl, inr, ◌⊎◌}
 use Rattle.std.specs.Prelude.{Bool, true, false, cond, fold, filter, nat_le}
 use Rattle.std.specs.List.{AllByRecursion}
 use Rattle.std.specs.Ordering.{ordering_reverse}
-use Rattle.std.specs.declared.cmp.Ordering.{Ordering}
 use Rattle.std.specs.declared.cmp.Ordering.TheVariants.{Less, Equal, Greater}
-use Rattle.std.proofs.lemmas.Bool.{true≢false}
 use Rattle.std.proofs.lemmas.Cmp.{tied_itself}
 use Rattle.etcd_model.specs.declared.state.Lease.{Lease}
 use Rattle.etcd_model.specs.Order.{beside, put_in, in_order}
-use Rattle.etcd_model.specs.Leases.{end_cmp, run_out}
+use Rattle.etcd_model.specs.Leases.{end_cmp}
 use Rattle.model_laws.specs.Recording.{IsIn}
 use Rattle.model_laws.specs.Leases.{RunOutFirst, RunOutNone}
 use Rattle.model_laws.proofs.LeaseLaws.{end_cmp_total, put_first}

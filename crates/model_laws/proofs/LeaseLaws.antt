@@ -1,10 +1,10 @@
 -- The ID that is chosen for a lease, and the order in which leases end.
-use Rattle.std.proofs.Common.{◌≡◌, ℕ, ◌+◌, ◌<◌, ◌≤◌, List, [], ◌∷◌, length, refl, ap, ◌∙◌, sym, arith, subst, inl, inr, ◌⊎◌}
-use Rattle.std.specs.Prelude.{ℤ, pos, negsuc, Bool, true, false, not, cond, ◌||◌, fold, filter, nat_le, if◌then◌else◌}
-use Rattle.std.specs.List.{AllByRecursion, list_any}
+use Rattle.std.proofs.Common.{◌≡◌, ℕ, ◌+◌, ◌<◌, ◌≤◌, List, [], ◌∷◌, length, refl, ap, ◌∙◌, sym, arith, subst, inl, inr}
+use Rattle.std.specs.Prelude.{ℤ, pos, Bool, true, false, not, cond, ◌||◌, fold, filter, nat_le, if◌then◌else◌}
+use Rattle.std.specs.List.{AllByRecursion}
 use Rattle.std.specs.List.Sorted.{IsStrictlySortedBy}
 use Rattle.std.specs.Cmp.{IsTotalOrder}
-use Rattle.std.specs.Ordering.{int_cmp, int_eq, nat_cmp, is_eq, on, ordering_reverse, ordering_then}
+use Rattle.std.specs.Ordering.{int_cmp, int_eq, nat_cmp, is_eq, ordering_then}
 use Rattle.std.specs.declared.cmp.Ordering.{Ordering}
 use Rattle.std.specs.declared.cmp.Ordering.TheVariants.{Less, Equal, Greater}
 use Rattle.std.proofs.lemmas.Bool.{or_from, false_from_ne_true, true≢false, cases_lt}
@@ -14,7 +14,7 @@ use Rattle.std.proofs.lemmas.List.Kept.{IsStrictlySortedBy-filter}
 use Rattle.etcd_model.specs.declared.state.Lease.{Lease}
 use Rattle.etcd_model.specs.Order.{beside, put_in, in_order}
 use Rattle.etcd_model.specs.Operations.{has_lease}
-use Rattle.etcd_model.specs.Leases.{step_past, free_id, run_out, end_cmp, with_lease}
+use Rattle.etcd_model.specs.Leases.{step_past, end_cmp}
 use Rattle.etcd_model.proofs.OrderLaws.{sorted-put_in, sorted-in_order, below_less}
 use Rattle.etcd_model.specs.Held.{by_id}
 use Rattle.model_laws.specs.Leases.{FreeIdIsLeast, WithLeaseAscends, WithoutLeaseAscends, RunOutAscend, RunOutRest}

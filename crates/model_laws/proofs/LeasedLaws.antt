@@ -1,12 +1,10 @@
 -- No change is of the empty key, and the lease of each live key is there.
-use Rattle.std.proofs.Common.{◌≡◌, ℕ, zero, suc, ◌+◌, ◌≤◌, List, [], ◌∷◌, ◌++◌, length, refl, ap, ◌∙◌, sym, arith, subst, map, inl, inr, ◌⊎◌}
-use Rattle.std.specs.Prelude.{ℤ, pos, Bool, true, false, not, cond, ◌&&◌, ◌||◌, fold, filter, filter_map, find, Option, Some, None, IfSome, max, min, nat_le, is_none, if◌then◌else◌}
-use Rattle.std.specs.List.{All, AllByRecursion, list_any}
-use Rattle.std.specs.List.Sorted.{IsStrictlySortedBy}
-use Rattle.std.specs.Ordering.{int_eq, int_cmp, is_eq}
+use Rattle.std.proofs.Common.{◌≡◌, ℕ, zero, suc, ◌+◌, List, [], ◌∷◌, ◌++◌, refl, ap, ◌∙◌, sym, arith, subst, map, inl, inr, ◌⊎◌}
+use Rattle.std.specs.Prelude.{ℤ, pos, Bool, true, false, not, cond, ◌&&◌, ◌||◌, fold, filter, find, Option, Some, None, IfSome, max, min, nat_le, is_none, if◌then◌else◌}
+use Rattle.std.specs.List.{AllByRecursion, list_any}
+use Rattle.std.specs.Ordering.{int_eq, is_eq}
 use Rattle.std.specs.Str.{bytes_eq}
-use Rattle.std.specs.Cmp.Lexicographic.{bytes_decides}
-use Rattle.std.proofs.lemmas.Bool.{true≢false, false≢true, or_parts, false_from_ne_true}
+use Rattle.std.proofs.lemmas.Bool.{true≢false, or_parts, false_from_ne_true}
 use Rattle.std.proofs.lemmas.Bool.Decides.{nat_tests}
 use Rattle.std.proofs.lemmas.List.{append-nil}
 use Rattle.std.proofs.lemmas.List.Elements.{recursion_from_All}
@@ -14,7 +12,6 @@ use Rattle.std.proofs.lemmas.List.Folds.{list_any-append}
 use Rattle.std.proofs.lemmas.Map.Views.{any-filter_same}
 use Rattle.etcd_types.specs.declared.key_value.KeyValue.{KeyValue}
 use Rattle.etcd_types.specs.declared.kv.PutReq.{PutReq}
-use Rattle.etcd_types.specs.declared.kv.DeleteReq.{DeleteReq}
 use Rattle.etcd_types.specs.declared.txn.Compare.{Compare}
 use Rattle.etcd_types.specs.declared.txn.TxnReq.{TxnReq}
 use Rattle.etcd_types.specs.declared.txn.Op.{Op}
@@ -35,7 +32,7 @@ use Rattle.etcd_model.specs.Order.{put_in}
 use Rattle.etcd_model.specs.History as history
 use Rattle.etcd_model.specs.History.{key_of, current, entries_after, kv, rows, keys, generation, shown_by}
 use Rattle.etcd_model.specs.Interval.{is_in, every_key}
-use Rattle.etcd_model.specs.Reads.{Reads, Look}
+use Rattle.etcd_model.specs.Reads.{Reads}
 use Rattle.etcd_model.specs.Compares.{all_hold}
 use Rattle.etcd_model.specs.Operations.{put_change, kept_lease, op_refusal, ops_refusal, pending_after, branch, has_lease, first_refusal}
 use Rattle.etcd_model.specs.Tenant.{reads}
@@ -52,7 +49,7 @@ use Rattle.etcd_model.proofs.HistoryLaws.{is_past, changes_of, current-after, kv
 use Rattle.etcd_model.proofs.PutLaws.{rows-interval, row_among}
 use Rattle.etcd_model.proofs.GrowthLaws.{first_none, store_stays}
 use Rattle.model_laws.specs.Runs.{OpeningHasKeys, StepHasKeys, OpeningHoldsLeased, StepHoldsLeased}
-use Rattle.model_laws.proofs.RecordedLaws.{all_push, all_append, all_weaker}
+use Rattle.model_laws.proofs.RecordedLaws.{all_push, all_append}
 use Rattle.model_laws.proofs.HeldLaws.{after_allowed, after_machine}
 use Rattle.model_laws.proofs.LeaseLaws.{same_id}
 use Rattle.model_laws.proofs.RunLaws.{or_right, quiet_outcome}

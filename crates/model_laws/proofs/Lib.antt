@@ -18,3 +18,4 @@ pub mod QuotaLaws
 pub mod RevisionLaws
 pub mod CounterLaws
 pub mod OnceStoreLaws
+pub mod OpeningLaws

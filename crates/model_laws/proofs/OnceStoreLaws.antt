@@ -1,8 +1,7 @@
 -- A step's writes over what is kept change no key twice.
 use Rattle.std.proofs.Common.{◌≡◌, ℕ, ◌+◌, ◌≤◌, List, [], ◌∷◌, ◌++◌, length, refl, ap, ◌∙◌, sym, arith, subst, map}
-use Rattle.std.specs.Prelude.{ℤ, Bool, true, false, cond, ◌&&◌, ◌||◌, fold, filter, find, Option, Some, None, nat_le, if◌then◌else◌}
+use Rattle.std.specs.Prelude.{Bool, true, false, cond, ◌&&◌, ◌||◌, fold, filter, find, Some, None, nat_le, if◌then◌else◌}
 use Rattle.std.specs.List.{AllByRecursion, list_any}
-use Rattle.std.specs.List.Sorted.{IsStrictlySortedBy}
 use Rattle.std.specs.Ordering.{int_eq}
 use Rattle.std.specs.Str.{bytes_eq}
 use Rattle.std.specs.Cmp.Lexicographic.{bytes_decides}
@@ -13,24 +12,20 @@ use Rattle.std.proofs.lemmas.List.Kept.{IsStrictlySortedBy-filter}
 use Rattle.std.proofs.lemmas.Map.Views.{any-filter_same}
 use Rattle.std.proofs.lemmas.Simd.{map-map}
 use Rattle.etcd_types.specs.declared.key_value.KeyValue.{KeyValue}
-use Rattle.etcd_types.specs.declared.txn.Op.{Op}
 use Rattle.etcd_model.specs.declared.state.Change.{Change}
 use Rattle.etcd_model.specs.declared.state.Change.TheVariants.{Delete as Del}
 use Rattle.etcd_model.specs.History.{key_of}
 use Rattle.etcd_model.specs.Interval.{is_in, every_key}
-use Rattle.etcd_model.specs.Fields.{has_duplicate}
-use Rattle.etcd_model.specs.Operations.{branch}
 use Rattle.etcd_model.specs.Leases.{attached}
 use Rattle.etcd_model.specs.Changes.{Recorded, entry_at, next_row, live, rows, recorded, record_revision}
 use Rattle.etcd_model.specs.Store.{Store, IsStore, after, reads_of, kept_store}
 use Rattle.etcd_model.proofs.HistoryLaws.{changes_of}
-use Rattle.etcd_model.proofs.GrowthLaws.{first_none}
-use Rattle.etcd_model.proofs.OnceLaws.{Shows, branch_once, taken_branch, deletes_of, no_delete, one_delete, at_most_one, IsDeleteAtMost, ChangesOnce-run, ChangesOnce-opening}
+use Rattle.etcd_model.proofs.OnceLaws.{Shows, branch_once, taken_branch, no_delete, one_delete, at_most_one, IsDeleteAtMost, ChangesOnce-run, ChangesOnce-opening}
 use Rattle.model_laws.specs.Recording.{by_key}
 use Rattle.model_laws.specs.Once.{RunChangesOnce, OpeningChangesOnce, TakenBranchIsDistinct, BranchChangesOnce, FinishChangesOnce, RecordedWhereOnce}
 use Rattle.model_laws.proofs.RowLaws.{has_key, row_found, rows_inside, rows_rise}
 use Rattle.model_laws.proofs.RecordedLaws.{live_push}
-use Rattle.model_laws.proofs.SpaceLaws.{row_pending, pend, after_is_store}
+use Rattle.model_laws.proofs.SpaceLaws.{row_pending, after_is_store}
 
 pub run_changes_once : RunChangesOnce
 run_changes_once = ChangesOnce-run

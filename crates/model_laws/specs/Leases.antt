@@ -1,15 +1,13 @@
 -- Laws: the ID that is chosen for a lease, and the order in which leases end.
-use Rattle.std.specs.Prelude.{◌≡◌, ◌⊎◌, nat_le, ℕ, ◌+◌, ◌<◌, ◌≤◌, pos, ℤ, Bool, true, false, not, List, [], ◌∷◌, length, filter}
-use Rattle.std.specs.List.{list_any}
+use Rattle.std.specs.Prelude.{◌≡◌, ◌⊎◌, nat_le, ℕ, ◌+◌, ◌<◌, ◌≤◌, pos, ℤ, true, false, not, List, [], ◌∷◌, length, filter, fold, max, min}
 use Rattle.std.specs.List.Sorted.{IsStrictlySortedBy}
-use Rattle.std.specs.Ordering.{int_cmp, int_eq, on}
-use Rattle.std.specs.declared.cmp.Ordering.{Ordering}
+use Rattle.std.specs.Ordering.{int_eq}
 use Rattle.etcd_types.specs.Limits.{last_moment}
 use Rattle.etcd_model.specs.declared.state.Lease.{Lease}
 use Rattle.etcd_model.specs.Operations.{has_lease}
 use Rattle.etcd_model.specs.declared.state.State.{State}
-use Rattle.etcd_model.specs.Tenant.{Asks}
 use Rattle.etcd_model.specs.Leases.{free_id, run_out, end_cmp, with_lease, finish, tick}
+use Rattle.etcd_model.specs.Store.{Store, kept_store}
 use Rattle.etcd_model.specs.Held.{by_id}
 use Rattle.model_laws.specs.Recording.{IsIn}
 use Rattle.std.specs.declared.cmp.Ordering.TheVariants.{Less}
@@ -58,3 +56,18 @@ RunOutNone = (moment : ℕ) (leases : List Lease) → ((l : Lease) → IsIn l le
 abbrev pub RunOutRest : Type 0
 RunOutRest = (moment : ℕ) (leases : List Lease) (first : Lease) (rest : List Lease) → IsStrictlySortedBy by_id leases
     → run_out moment leases ≡ first ∷ rest → run_out moment (filter (λ l. not (int_eq l.id first.id)) leases) ≡ rest
+
+-- the leases that have run out at the tenant's moment end, each in its turn
+abbrev pub ends : State Store → State Store
+ends t = fold (λ u l. finish kept_store u l.id) t (run_out t.moment t.leases)
+
+-- a tick is a later moment, and then that
+abbrev pub TickIsEnds : Type 0
+TickIsEnds = (t : State Store) (m : ℕ) → tick kept_store t m ≡ ends (record t { moment = max t.moment (min m last_moment) })
+
+-- where none has run out nothing ends, and else the first ends, and then the others
+abbrev pub EndsNone : Type 0
+EndsNone = (t : State Store) → run_out t.moment t.leases ≡ [] → ends t ≡ t
+
+abbrev pub EndsOneByOne : Type 0
+EndsOneByOne = (t : State Store) (first : Lease) (rest : List Lease) → IsStrictlySortedBy by_id t.leases → run_out t.moment t.leases ≡ first ∷ rest → ends t ≡ ends (finish kept_store t first.id)

@@ -1,12 +1,8 @@
 -- Laws: what holds of every state that a run from an opening comes to.
-use Rattle.std.specs.Prelude.{◌≡◌, ℕ, ◌+◌, ◌<◌, ◌≤◌, ℤ, pos, Bool, true, List, length, max, int_le}
-use Rattle.std.specs.List.{All, AllByRecursion}
-use Rattle.std.specs.List.Sorted.{IsStrictlySortedBy}
+use Rattle.std.specs.Prelude.{◌≡◌, ℕ, ◌+◌, ◌≤◌, List, length, max}
 use Rattle.etcd_types.specs.declared.step.Step.{Step}
-use Rattle.etcd_types.specs.Limits.{last_moment, last_revision, last_lease_id, max_ttl, watch_slots}
-use Rattle.etcd_model.specs.declared.state.Lease.{Lease}
+use Rattle.etcd_types.specs.Limits.{last_revision, last_lease_id, watch_slots}
 use Rattle.etcd_model.specs.declared.state.History.{History}
-use Rattle.etcd_model.specs.declared.state.Change.{Change}
 use Rattle.etcd_model.specs.History.{current, rows}
 use Rattle.etcd_model.specs.Interval.{every_key}
 use Rattle.etcd_model.specs.declared.state.State.{State}
@@ -82,3 +78,16 @@ OpeningFitsCounter = (cluster quota first bound : ℕ) → FitsCounter bound (op
 
 abbrev pub StepFitsCounter : Type 0
 StepFitsCounter = (S : State History) (step : Step) (bound : ℕ) → used history S ≤ bound → FitsCounter bound S → FitsCounter bound (machine S step).state
+
+-- ---- a run from an opening
+
+-- what holds of every state S of a run, in a tenant of so many cells
+pub record IsOfRun (quota : ℕ) (S : State History) : Type 0 where
+  pub state : IsState S
+  pub used : used history S ≤ quota
+  pub revisions : FitsRevisions quota S
+  pub counter : FitsCounter quota S
+
+-- where the first revision is one at which a write can begin, or the next
+abbrev pub RunFromOpening : Type 0
+RunFromOpening = (cluster quota first : ℕ) (steps : List Step) → first ≤ last_revision → IsOfRun quota (state_after (opening cluster quota first) steps)

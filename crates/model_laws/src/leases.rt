@@ -1,5 +1,5 @@
 //! The ID that is chosen for a lease, and the order in which leases end.
-ghost use Rattle.model_laws.specs.Leases.{FinishTakesOne, FreeIdIsLeast, FreeIdWithin, GrantAddsOne, RenewAddsNone, RunOutAscend, RunOutFirst, RunOutNone, RunOutRest, WithLeaseAscends, WithoutLeaseAscends};
+ghost use Rattle.model_laws.specs.Leases.{EndsNone, EndsOneByOne, FinishTakesOne, FreeIdIsLeast, FreeIdWithin, GrantAddsOne, RenewAddsNone, RunOutAscend, RunOutFirst, RunOutNone, RunOutRest, TickIsEnds, WithLeaseAscends, WithoutLeaseAscends};
 
 /// The ID that is chosen is the least from the counter on that no lease has.
 pub fn free_id_is_least()
@@ -54,4 +54,19 @@ pub fn renew_adds_none()
 /// The end of a lease takes that one alone.
 pub fn finish_takes_one()
     ensures { FinishTakesOne }
+{}
+
+/// A tick is a later moment, and then the end of what has run out.
+pub fn tick_is_ends()
+    ensures { TickIsEnds }
+{}
+
+/// Where no lease has run out nothing ends.
+pub fn ends_none()
+    ensures { EndsNone }
+{}
+
+/// Else the first ends, and then the others.
+pub fn ends_one_by_one()
+    ensures { EndsOneByOne }
 {}

@@ -1,5 +1,5 @@
 //! What holds of every state that a run from an opening comes to.
-ghost use Rattle.model_laws.specs.Runs.{OpeningFitsCounter, OpeningHasKeys, OpeningHasLeases, OpeningHasSlots, OpeningHoldsLeased, OpeningIsFull, OpeningIsState, RunWithinQuota, StepFitsCounter, StepFitsRevisions, StepHasKeys, StepHasLeases, StepHasSlots, StepHoldsLeased, StepIsFull, StepIsState, StepWithinQuota};
+ghost use Rattle.model_laws.specs.Runs.{OpeningFitsCounter, OpeningHasKeys, OpeningHasLeases, OpeningHasSlots, OpeningHoldsLeased, OpeningIsFull, OpeningIsState, RunFromOpening, RunWithinQuota, StepFitsCounter, StepFitsRevisions, StepHasKeys, StepHasLeases, StepHasSlots, StepHoldsLeased, StepIsFull, StepIsState, StepWithinQuota};
 
 /// An opening has no empty revision.
 pub fn opening_is_full()
@@ -84,4 +84,9 @@ pub fn opening_fits_counter()
 /// With each step the counter of lease IDs is within its bound.
 pub fn step_fits_counter()
     ensures { StepFitsCounter }
+{}
+
+/// So every state of a run from an opening is within its quota, and its numbers within their bounds.
+pub fn run_from_opening()
+    ensures { RunFromOpening }
 {}
