@@ -29,7 +29,7 @@ use Rattle.etcd_model.specs.declared.state.Lease.{Lease}
 use Rattle.etcd_model.specs.Order.{key_cmp}
 use Rattle.etcd_model.specs.History.{History, Change, Del, key_of, current, after, kv, keys, rows}
 use Rattle.etcd_model.specs.Interval.{is_in, every_key}
-use Rattle.etcd_model.specs.Reads.{Reads}
+use Rattle.etcd_model.specs.Reads.{Reads, Look}
 use Rattle.etcd_model.specs.Compares.{all_hold}
 use Rattle.etcd_model.specs.Fields.{fields, refused_if, is_empty, op_lacks_key, gives_value, gives_lease, has_over, is_nested, puts, deletes, has_twice, has_duplicate}
 use Rattle.etcd_model.specs.Operations.{put_change, pending_after, branch, first_refusal}
@@ -45,10 +45,10 @@ use Rattle.etcd_model.proofs.GrowthLaws.{chosen, after_before_space, after_step,
 
 -- ---- deletes of ascending rows
 
-abbrev deletes_of : List KeyValue → List Change
+abbrev pub deletes_of : List KeyValue → List Change
 deletes_of rs = map (λ row. Del row.key) rs
 
-no_delete : (key : List ℕ) (rs : List KeyValue) → list_any (λ row. bytes_eq row.key key) rs ≡ false → changes_of key (deletes_of rs) ≡ []
+pub no_delete : (key : List ℕ) (rs : List KeyValue) → list_any (λ row. bytes_eq row.key key) rs ≡ false → changes_of key (deletes_of rs) ≡ []
 no_delete key [] h = refl
 no_delete key (r ∷ rs) h =
     let parts = or_parts (bytes_eq r.key key) (list_any (λ row. bytes_eq row.key key) rs) h in
@@ -59,11 +59,11 @@ no_later_row r key is [] h = refl
 no_later_row r key is (z ∷ zs) h = or_from (bytes_eq z.key key) (list_any (λ row. bytes_eq row.key key) zs) (later_key key z.key (ap (λ k. key_cmp k z.key) (sym is) ∙ h.0)) (no_later_row r key is zs h.1)
 
 -- none of some changes, or the one delete of a key
-abbrev IsDeleteAtMost : List Change → Type 0
+abbrev pub IsDeleteAtMost : List Change → Type 0
 IsDeleteAtMost cs = (cs ≡ []) ⊎ ((k : List ℕ) × (cs ≡ Del k ∷ []))
 
 -- of the deletes of ascending rows one at most is of a key
-one_delete : (key : List ℕ) (rs : List KeyValue) → IsStrictlySortedBy by_key rs → IsDeleteAtMost (changes_of key (deletes_of rs))
+pub one_delete : (key : List ℕ) (rs : List KeyValue) → IsStrictlySortedBy by_key rs → IsDeleteAtMost (changes_of key (deletes_of rs))
 unfolding IsStrictlySortedBy
 one_delete key [] h = inl refl
 one_delete key (r ∷ rs) h = elim (bytes_eq r.key key) as (λ b. bytes_eq r.key key ≡ b → IsDeleteAtMost (cond b (Del r.key ∷ changes_of key (deletes_of rs)) (changes_of key (deletes_of rs)))) [
@@ -71,18 +71,98 @@ one_delete key (r ∷ rs) h = elim (bytes_eq r.key key) as (λ b. bytes_eq r.key
   | false ↦ λ e. one_delete key rs h.1
 ] refl
 
-at_most_one : (cs : List Change) → IsDeleteAtMost cs → length cs ≤ 1
+pub at_most_one : (cs : List Change) → IsDeleteAtMost cs → length cs ≤ 1
 at_most_one cs (inl e) = omega (arith, ap length e)
 at_most_one cs (inr (k, e)) = omega (arith, ap length e)
 
 -- ---- the operations of a branch, for one key
 
-module _ (H : History) (key : List ℕ) where
-  abbrev look : List Change → Reads
-  look pending = reads_of (after H pending)
+-- what is read of a key with some changes pending: once it is deleted it is not live, and a delete finds each live key of its interval once
+pub record Shows (look : Look) (key : List ℕ) : Type 0 where
+  pub gone : (pending : List Change) (k : List ℕ) → changes_of key pending ≡ Del k ∷ [] → (look pending).row key ≡ None
+  pub ascend : (pending : List Change) (first end : List ℕ) → IsStrictlySortedBy by_key ((look pending).rows first end)
+  pub not_live : (pending : List Change) (first end : List ℕ) → (look pending).row key ≡ None → changes_of key (deletes_of ((look pending).rows first end)) ≡ []
+  pub not_inside : (pending : List Change) (first end : List ℕ) → is_in first end key ≡ false → changes_of key (deletes_of ((look pending).rows first end)) ≡ []
 
+module _ (look : Look) (key : List ℕ) (shows : Shows look key) where
+  -- where the pending changes of the key are a delete at most, and so are those that follow, which are none if the key is not live
+  settled_append : (pending cs : List Change) → IsDeleteAtMost (changes_of key pending) → IsDeleteAtMost (changes_of key cs) → ((look pending).row key ≡ None → changes_of key cs ≡ []) → IsDeleteAtMost (changes_of key (pending ++ cs))
+  settled_append pending cs (inl e) d none =
+      subst IsDeleteAtMost (sym (filter-append (λ (c : Change). bytes_eq (key_of c) key) pending cs ∙ ap (λ xs. xs ++ changes_of key cs) e)) d
+  settled_append pending cs (inr (k, e)) d none =
+      let gone = none (shows.gone pending k e) in
+      inr (k, filter-append (λ (c : Change). bytes_eq (key_of c) key) pending cs ∙ ap (λ xs. xs ++ changes_of key cs) e ∙ ap (λ xs. Del k ∷ xs) gone)
+
+  -- where no put is of the key
+  settled : (ops : List Op) (pending : List Change) → list_any (λ p. bytes_eq p.key key) (puts ops) ≡ false → IsDeleteAtMost (changes_of key pending) → IsDeleteAtMost (changes_of key (pending_after look pending ops))
+  settled [] pending h d = d
+  settled (RangeOp q ∷ ops) pending h d = settled ops (pending ++ []) h (settled_append pending [] d (inl refl) (λ e. refl))
+  settled (PutOp p ∷ ops) pending h d =
+      let c = put_change p ((look pending).row p.key) in
+      let parts = or_parts (bytes_eq p.key key) (list_any (λ (o : PutReq). bytes_eq o.key key) (puts ops)) h in
+      let other : changes_of key (c ∷ []) ≡ [] = ap (λ b. cond b (c ∷ []) []) parts.0 in
+      settled ops (pending ++ c ∷ []) parts.1 (settled_append pending (c ∷ []) d (inl other) (λ e. other))
+  settled (DeleteOp o ∷ ops) pending h d =
+      let rs = (look pending).rows o.key o.range_end in
+      settled ops (pending ++ deletes_of rs) h (settled_append pending (deletes_of rs) d (one_delete key rs (shows.ascend pending o.key o.range_end)) (shows.not_live pending o.key o.range_end))
+  settled (Nested ∷ ops) pending h d = settled ops (pending ++ []) h (settled_append pending [] d (inl refl) (λ e. refl))
+
+  longer : (pending cs : List Change) → length (changes_of key (pending ++ cs)) ≡ length (changes_of key pending) + length (changes_of key cs)
+  longer pending cs = ap length (filter-append (λ (c : Change). bytes_eq (key_of c) key) pending cs) ∙ length-append (changes_of key pending) (changes_of key cs)
+
+  -- where no delete covers the key, each put of it is one change
+  counted : (ops : List Op) (pending : List Change) → list_any (λ d. is_in d.key d.range_end key) (deletes ops) ≡ false → length (changes_of key (pending_after look pending ops)) ≡ length (changes_of key pending) + length (filter (λ p. bytes_eq p.key key) (puts ops))
+  counted [] pending h = omega arith
+  counted (RangeOp q ∷ ops) pending h = omega (arith, counted ops (pending ++ []) h, longer pending [])
+  counted (PutOp p ∷ ops) pending h =
+      let c = put_change p ((look pending).row p.key) in
+      omega (arith, counted ops (pending ++ c ∷ []) h, longer pending (c ∷ []), one c (bytes_eq p.key key) (filter (λ (o : PutReq). bytes_eq o.key key) (puts ops)))
+    where
+      one : (c : Change) (b : Bool) (ps : List PutReq) → length (cond b (p ∷ ps) ps) ≡ length (cond b (c ∷ []) []) + length ps
+      one c true ps = omega arith
+      one c false ps = omega arith
+  counted (DeleteOp o ∷ ops) pending h =
+      let rs = (look pending).rows o.key o.range_end in
+      let parts = or_parts (is_in o.key o.range_end key) (list_any (λ (d : DeleteReq). is_in d.key d.range_end key) (deletes ops)) h in
+      omega (arith, counted ops (pending ++ deletes_of rs) parts.1, longer pending (deletes_of rs), ap length (shows.not_inside pending o.key o.range_end parts.0))
+  counted (Nested ∷ ops) pending h = omega (arith, counted ops (pending ++ []) h, longer pending [])
+
+  put_once : (ps : List PutReq) → has_twice ps ≡ false → length (filter (λ p. bytes_eq p.key key) ps) ≤ 1
+  put_once [] h = omega arith
+  put_once (p ∷ ps) h =
+      let parts = or_parts (list_any (λ (q : PutReq). bytes_eq q.key p.key) ps) (has_twice ps) h in
+      elim (bytes_eq p.key key) as (λ b. bytes_eq p.key key ≡ b → length (cond b (p ∷ filter (λ (q : PutReq). bytes_eq q.key key) ps) (filter (λ (q : PutReq). bytes_eq q.key key) ps)) ≤ 1) [
+        | true ↦ λ e.
+            let no_other : list_any (λ (q : PutReq). bytes_eq q.key key) ps ≡ false = ap (λ k. list_any (λ (q : PutReq). bytes_eq q.key k) ps) (sym ((bytes_decides p.key key).0 e)) ∙ parts.0 in
+            omega (arith, ap length (filter-none (λ (q : PutReq). bytes_eq q.key key) ps no_other))
+        | false ↦ λ e. put_once ps parts.1
+      ] refl
+
+  -- a key that a delete covers is not put
+  not_put : (ps : List PutReq) (ds : List DeleteReq) → list_any (λ p. list_any (λ d. is_in d.key d.range_end p.key) ds) ps ≡ false → list_any (λ d. is_in d.key d.range_end key) ds ≡ true → list_any (λ p. bytes_eq p.key key) ps ≡ false
+  not_put [] ds h covered = refl
+  not_put (p ∷ ps) ds h covered =
+      let covers : List ℕ → Bool = λ k. list_any (λ (d : DeleteReq). is_in d.key d.range_end k) ds in
+      let parts = or_parts (covers p.key) (list_any (λ (q : PutReq). covers q.key) ps) h in
+      or_from (bytes_eq p.key key) (list_any (λ (q : PutReq). bytes_eq q.key key) ps)
+      (false_from_ne_true (bytes_eq p.key key) (λ t. true≢false (sym covered ∙ ap covers (sym ((bytes_decides p.key key).0 t)) ∙ parts.0)))
+      (not_put ps ds parts.1 covered)
+
+  -- a branch with no duplicate changes the key once at most
+  pub branch_once : (ops : List Op) → has_duplicate ops ≡ false → length (changes_of key (pending_after look [] ops)) ≤ 1
+  branch_once ops h =
+      let covers : List ℕ → Bool = λ k. list_any (λ (d : DeleteReq). is_in d.key d.range_end k) (deletes ops) in
+      let parts = or_parts (has_twice (puts ops)) (list_any (λ (p : PutReq). covers p.key) (puts ops)) h in
+      elim (covers key) as (λ b. covers key ≡ b → length (changes_of key (pending_after look [] ops)) ≤ 1) [
+        | true ↦ λ e. at_most_one (changes_of key (pending_after look [] ops)) (settled ops [] (not_put (puts ops) (deletes ops) parts.1 e) (inl refl))
+        | false ↦ λ e. omega (arith, counted ops [] e, put_once (puts ops) parts.0)
+      ] refl
+
+-- ---- the reads of a history
+
+module _ (H : History) (key : List ℕ) where
   -- the row of the key with some changes pending
-  row-pending : (pending : List Change) → (look pending).row key ≡ fold (next_row (current H + 1)) (kv H key (current H)) (changes_of key pending)
+  row-pending : (pending : List Change) → (reads_of (after H pending)).row key ≡ fold (next_row (current H + 1)) (kv H key (current H)) (changes_of key pending)
   row-pending [] = refl
   row-pending (c ∷ cs) = ap (kv (after H (c ∷ cs)) key) (current-after H c cs) ∙ kv-after H (c ∷ cs) key
 
@@ -109,81 +189,13 @@ module _ (H : History) (key : List ℕ) where
       (λ row t. false_from_ne_true (bytes_eq row.key key) (λ s. true≢false (sym t ∙ ap interval ((bytes_decides row.key key).0 s) ∙ h)))
       (filter passes all) (filter_passes passes all))
 
-  -- where the pending changes of the key are a delete at most, and so are those that follow, which are none if the key is not live
-  settled_append : (pending cs : List Change) → IsDeleteAtMost (changes_of key pending) → IsDeleteAtMost (changes_of key cs) → ((look pending).row key ≡ None → changes_of key cs ≡ []) → IsDeleteAtMost (changes_of key (pending ++ cs))
-  settled_append pending cs (inl e) d none =
-      subst IsDeleteAtMost (sym (filter-append (λ (c : Change). bytes_eq (key_of c) key) pending cs ∙ ap (λ xs. xs ++ changes_of key cs) e)) d
-  settled_append pending cs (inr (k, e)) d none =
-      let gone = none (row-pending pending ∙ ap (fold (next_row (current H + 1)) (kv H key (current H))) e) in
-      inr (k, filter-append (λ (c : Change). bytes_eq (key_of c) key) pending cs ∙ ap (λ xs. xs ++ changes_of key cs) e ∙ ap (λ xs. Del k ∷ xs) gone)
-
-  -- where no put is of the key
-  settled : (ops : List Op) (pending : List Change) → list_any (λ p. bytes_eq p.key key) (puts ops) ≡ false → IsDeleteAtMost (changes_of key pending) → IsDeleteAtMost (changes_of key (pending_after look pending ops))
-  settled [] pending h d = d
-  settled (RangeOp q ∷ ops) pending h d = settled ops (pending ++ []) h (settled_append pending [] d (inl refl) (λ e. refl))
-  settled (PutOp p ∷ ops) pending h d =
-      let c = put_change p ((look pending).row p.key) in
-      let parts = or_parts (bytes_eq p.key key) (list_any (λ (o : PutReq). bytes_eq o.key key) (puts ops)) h in
-      let other : changes_of key (c ∷ []) ≡ [] = ap (λ b. cond b (c ∷ []) []) parts.0 in
-      settled ops (pending ++ c ∷ []) parts.1 (settled_append pending (c ∷ []) d (inl other) (λ e. other))
-  settled (DeleteOp o ∷ ops) pending h d =
-      let T = after H pending in
-      let inside : List ℕ → Bool = is_in o.key o.range_end in
-      let rs = rows T inside (current T) in
-      settled ops (pending ++ deletes_of rs) h (settled_append pending (deletes_of rs) d (one_delete key rs (rows_ascend T inside (current T))) (not_live T inside (current T)))
-  settled (Nested ∷ ops) pending h d = settled ops (pending ++ []) h (settled_append pending [] d (inl refl) (λ e. refl))
-
-  longer : (pending cs : List Change) → length (changes_of key (pending ++ cs)) ≡ length (changes_of key pending) + length (changes_of key cs)
-  longer pending cs = ap length (filter-append (λ (c : Change). bytes_eq (key_of c) key) pending cs) ∙ length-append (changes_of key pending) (changes_of key cs)
-
-  -- where no delete covers the key, each put of it is one change
-  counted : (ops : List Op) (pending : List Change) → list_any (λ d. is_in d.key d.range_end key) (deletes ops) ≡ false → length (changes_of key (pending_after look pending ops)) ≡ length (changes_of key pending) + length (filter (λ p. bytes_eq p.key key) (puts ops))
-  counted [] pending h = omega arith
-  counted (RangeOp q ∷ ops) pending h = omega (arith, counted ops (pending ++ []) h, longer pending [])
-  counted (PutOp p ∷ ops) pending h =
-      let c = put_change p ((look pending).row p.key) in
-      omega (arith, counted ops (pending ++ c ∷ []) h, longer pending (c ∷ []), one c (bytes_eq p.key key) (filter (λ (o : PutReq). bytes_eq o.key key) (puts ops)))
-    where
-      one : (c : Change) (b : Bool) (ps : List PutReq) → length (cond b (p ∷ ps) ps) ≡ length (cond b (c ∷ []) []) + length ps
-      one c true ps = omega arith
-      one c false ps = omega arith
-  counted (DeleteOp o ∷ ops) pending h =
-      let T = after H pending in
-      let rs = rows T (is_in o.key o.range_end) (current T) in
-      let parts = or_parts (is_in o.key o.range_end key) (list_any (λ (d : DeleteReq). is_in d.key d.range_end key) (deletes ops)) h in
-      omega (arith, counted ops (pending ++ deletes_of rs) parts.1, longer pending (deletes_of rs), ap length (not_inside T (is_in o.key o.range_end) (current T) parts.0))
-  counted (Nested ∷ ops) pending h = omega (arith, counted ops (pending ++ []) h, longer pending [])
-
-  put_once : (ps : List PutReq) → has_twice ps ≡ false → length (filter (λ p. bytes_eq p.key key) ps) ≤ 1
-  put_once [] h = omega arith
-  put_once (p ∷ ps) h =
-      let parts = or_parts (list_any (λ (q : PutReq). bytes_eq q.key p.key) ps) (has_twice ps) h in
-      elim (bytes_eq p.key key) as (λ b. bytes_eq p.key key ≡ b → length (cond b (p ∷ filter (λ (q : PutReq). bytes_eq q.key key) ps) (filter (λ (q : PutReq). bytes_eq q.key key) ps)) ≤ 1) [
-        | true ↦ λ e.
-            let no_other : list_any (λ (q : PutReq). bytes_eq q.key key) ps ≡ false = ap (λ k. list_any (λ (q : PutReq). bytes_eq q.key k) ps) (sym ((bytes_decides p.key key).0 e)) ∙ parts.0 in
-            omega (arith, ap length (filter-none (λ (q : PutReq). bytes_eq q.key key) ps no_other))
-        | false ↦ λ e. put_once ps parts.1
-      ] refl
-
-  -- a key that a delete covers is not put
-  not_put : (ps : List PutReq) (ds : List DeleteReq) → list_any (λ p. list_any (λ d. is_in d.key d.range_end p.key) ds) ps ≡ false → list_any (λ d. is_in d.key d.range_end key) ds ≡ true → list_any (λ p. bytes_eq p.key key) ps ≡ false
-  not_put [] ds h covered = refl
-  not_put (p ∷ ps) ds h covered =
-      let covers : List ℕ → Bool = λ k. list_any (λ (d : DeleteReq). is_in d.key d.range_end k) ds in
-      let parts = or_parts (covers p.key) (list_any (λ (q : PutReq). covers q.key) ps) h in
-      or_from (bytes_eq p.key key) (list_any (λ (q : PutReq). bytes_eq q.key key) ps)
-      (false_from_ne_true (bytes_eq p.key key) (λ t. true≢false (sym covered ∙ ap covers (sym ((bytes_decides p.key key).0 t)) ∙ parts.0)))
-      (not_put ps ds parts.1 covered)
-
-  -- a branch with no duplicate changes the key once at most
-  branch_once : (ops : List Op) → has_duplicate ops ≡ false → length (changes_of key (pending_after look [] ops)) ≤ 1
-  branch_once ops h =
-      let covers : List ℕ → Bool = λ k. list_any (λ (d : DeleteReq). is_in d.key d.range_end k) (deletes ops) in
-      let parts = or_parts (has_twice (puts ops)) (list_any (λ (p : PutReq). covers p.key) (puts ops)) h in
-      elim (covers key) as (λ b. covers key ≡ b → length (changes_of key (pending_after look [] ops)) ≤ 1) [
-        | true ↦ λ e. at_most_one (changes_of key (pending_after look [] ops)) (settled ops [] (not_put (puts ops) (deletes ops) parts.1 e) (inl refl))
-        | false ↦ λ e. omega (arith, counted ops [] e, put_once (puts ops) parts.0)
-      ] refl
+  pub shows : Shows (λ pending. reads_of (after H pending)) key
+  shows = record {
+    gone = λ pending k e. row-pending pending ∙ ap (fold (next_row (current H + 1)) (kv H key (current H))) e;
+    ascend = λ pending first end. rows_ascend (after H pending) (is_in first end) (current (after H pending));
+    not_live = λ pending first end. not_live (after H pending) (is_in first end) (current (after H pending));
+    not_inside = λ pending first end. not_inside (after H pending) (is_in first end) (current (after H pending));
+  }
 
 -- ---- every step
 
@@ -216,7 +228,7 @@ not_refused true r h = cc
 not_refused false r h = refl
 
 -- the branch that is taken has no duplicate, since neither has
-taken_branch : (R : Reads) (t : TxnReq) → fields (Txn t) ≡ None → has_duplicate (branch R t) ≡ false
+pub taken_branch : (R : Reads) (t : TxnReq) → fields (Txn t) ≡ None → has_duplicate (branch R t) ≡ false
 taken_branch R t h =
     let ops = t.success ++ t.failure in
     let duplicate = has_duplicate t.success || has_duplicate t.failure in
@@ -239,7 +251,7 @@ outcome_once S (Delete d) once h =
     once_after H (pending history S (DeleteOp d ∷ [])) once (λ key. at_most_one (changes_of key (deletes_of (rows H inside (current H)))) (one_delete key (rows H inside (current H)) (rows_ascend H inside (current H))))
 outcome_once S (Txn t) once h =
     let ops = branch (reads history S) t in
-    once_after S.store (pending history S ops) once (λ key. branch_once S.store key ops (taken_branch (reads history S) t h))
+    once_after S.store (pending history S ops) once (λ key. branch_once (history.look S.store) key (shows S.store key) ops (taken_branch (reads history S) t h))
 outcome_once S (Compact r) once h = once
 outcome_once S (Revoke id) once h = finish_once S id once
 outcome_once S (Tick m) once h =

@@ -1,14 +1,16 @@
 -- What a running tenant holds of the written machine's state: all of it, but of the history what is kept.
-use Rattle.std.specs.Prelude.{◌≡◌, ℕ, ◌+◌, ◌<◌, ◌≤◌, ℤ, pos, true, List, [], length, int_le}
+use Rattle.std.specs.Prelude.{◌≡◌, ℕ, ◌+◌, ◌<◌, ◌≤◌, ℤ, pos, Bool, true, false, ◌||◌, List, [], length, int_le, IfSome}
 use Rattle.std.specs.List.{AllByRecursion}
 use Rattle.std.specs.List.Sorted.{IsStrictlySortedBy}
-use Rattle.std.specs.Ordering.{int_cmp, on}
+use Rattle.std.specs.Ordering.{int_cmp, int_eq, on}
 use Rattle.std.specs.declared.cmp.Ordering.{Ordering}
 use Rattle.etcd_types.specs.Limits.{last_moment, max_ttl, watch_slots}
 use Rattle.etcd_model.specs.declared.state.Lease.{Lease}
-use Rattle.etcd_model.specs.History.{History, current}
+use Rattle.etcd_model.specs.History.{History, current, key_of, kv}
 use Rattle.etcd_model.specs.Changes.{changes_of, kept, ChangesOnce}
 use Rattle.etcd_model.specs.Store.{Store}
+use Rattle.etcd_model.specs.Fields.{is_empty}
+use Rattle.etcd_model.specs.Operations.{has_lease}
 use Rattle.etcd_model.specs.Tenant.{State, Outcome}
 
 -- what is kept of a history
@@ -54,10 +56,24 @@ pub record HasLeases (S : State History) : Type 0 where
   pub running : AllByRecursion (IsRunning S.moment) S.leases
   pub moment : S.moment ≤ last_moment
 
+-- no change is of the empty key
+abbrev pub HasKeys : History → Type 0
+HasKeys H = AllByRecursion (λ cs. AllByRecursion (λ c. is_empty (key_of c) ≡ false) cs) H.revisions
+
+-- no lease, or one that is there
+abbrev pub is_leased : List Lease → ℤ → Bool
+is_leased leases id = int_eq id (pos 0) || has_lease leases id
+
+-- the lease of each live key is there
+abbrev pub HoldsLeased : State History → Type 0
+HoldsLeased S = (key : List ℕ) → IfSome (kv S.store key (current S.store)) (λ row. is_leased S.leases row.lease ≡ true)
+
 pub record IsState (S : State History) : Type 0 where
   pub history : IsHistory S.store
   pub full : IsFull S.store
+  pub keys : HasKeys S.store
   pub leases : HasLeases S
+  pub leased : HoldsLeased S
   pub slots : length S.slots ≡ watch_slots
 
 -- ---- holding

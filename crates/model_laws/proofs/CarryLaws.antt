@@ -1,5 +1,5 @@
 -- One machine over two stores, of which the second answers as the first and follows it.
-use Rattle.std.proofs.Common.{◌≡◌, ℕ, ◌+◌, ◌-◌, ◌*◌, ◌≤◌, List, [], ◌∷◌, length, refl, ap, ◌∙◌, sym, map}
+use Rattle.std.proofs.Common.{◌≡◌, ℕ, ◌+◌, ◌-◌, ◌*◌, ◌≤◌, List, [], ◌∷◌, length, refl, ap, ◌∙◌, map}
 use Rattle.std.specs.Prelude.{ℤ, pos, negsuc, Bool, true, false, not, ◌&&◌, ◌||◌, fold, filter, Option, Some, None, max, min, nat_le, nat_lt, slice_get, slice_set, if◌then◌else◌}
 use Rattle.std.specs.Prelude.{int_le, int_lt}
 use Rattle.std.proofs.Common.{arith}
@@ -37,11 +37,11 @@ use Rattle.etcd_model.specs.Reads.{Reads, Look}
 use Rattle.etcd_model.specs.Compares.{all_hold}
 use Rattle.etcd_model.specs.Operations.{op_refusal, ops_refusal, op_reply, pending_after, replies, branch, first_refusal}
 use Rattle.etcd_model.specs.declared.state.State.{State}
-use Rattle.etcd_model.specs.Tenant.{Asks, Outcome, reads, current, header, header_over, used, stays}
+use Rattle.etcd_model.specs.Tenant.{Asks, Outcome, reads, header, used, stays}
 use Rattle.etcd_model.specs.Leases.{lease_at, attached, finish, tick, run_out, with_lease, granted_ttl}
 use Rattle.etcd_model.specs.Watches.{created, given, taken, told, watch_of, with_slot, free_slot, first_of, event_of, bare}
 use Rattle.etcd_model.specs.Fields.{fields, refused_if}
-use Rattle.etcd_model.specs.Stepping.{writes, chooses_id, may_add, adds, with_header, compact_refusal, compacted_at, grant_id, counter_after, used_up, look_up, pending, single, transaction, compaction, grant, revoke, kept_alive, time_left, alarm_of, outcome, decided, early, before_space, within_quota, unless_alarmed, machine}
+use Rattle.etcd_model.specs.Stepping.{writes, chooses_id, may_add, adds, with_header, compact_refusal, compacted_at, grant_id, counter_after, look_up, pending, single, transaction, compaction, grant, revoke, kept_alive, time_left, alarm_of, outcome, decided, early, before_space, within_quota, unless_alarmed, machine}
 use Rattle.etcd_model.specs.Held.{over, outcome_over}
 use Rattle.etcd_model.proofs.GrowthLaws.{first_none}
 

@@ -1,7 +1,7 @@
 -- What is kept of a history answers as the history does, and follows it.
-use Rattle.std.proofs.Common.{◌≡◌, ℕ, ◌+◌, ◌<◌, ◌≤◌, List, [], ◌∷◌, ◌++◌, refl, ap, ◌∙◌, sym, arith, subst, map, inl, inr, ◌⊎◌}
+use Rattle.std.proofs.Common.{◌≡◌, ℕ, ◌+◌, ◌<◌, ◌≤◌, List, [], ◌∷◌, ◌++◌, refl, ap, ◌∙◌, sym, arith, subst, map, inl, inr}
 use Rattle.std.proofs.Math.Path.{fun_ext}
-use Rattle.std.specs.Prelude.{ℤ, Bool, true, false, cond, ◌&&◌, fold, filter, sum_by, Option, Some, None, max, min, nat_le, nat_lt, if◌then◌else◌}
+use Rattle.std.specs.Prelude.{Bool, true, false, cond, ◌&&◌, fold, filter, sum_by, Option, Some, None, max, min, nat_lt, if◌then◌else◌}
 use Rattle.std.specs.List.{AllByRecursion}
 use Rattle.std.proofs.lemmas.Bool.{lt-leb, cases_lt}
 use Rattle.std.proofs.lemmas.Bool.Decides.{nat_tests}
@@ -23,7 +23,6 @@ use Rattle.etcd_model.specs.History.{key_of, current, entries, kv}
 use Rattle.etcd_model.specs.Interval.{is_in, every_key}
 use Rattle.etcd_model.specs.Kept as over_history
 use Rattle.etcd_model.specs.Kept.{cost, cost_delete}
-use Rattle.etcd_model.specs.Reads.{Reads, Look}
 use Rattle.etcd_model.specs.declared.state.State.{State}
 use Rattle.etcd_model.specs.Tenant.{Outcome, reads}
 use Rattle.etcd_model.specs.Watches.{is_ahead, passes}
@@ -34,19 +33,19 @@ use Rattle.etcd_model.specs.Stepping as stepping
 use Rattle.etcd_model.specs.Stepping.{early, look_up, outcome, pending, decided}
 use Rattle.etcd_model.specs.Machine as machine
 use Rattle.etcd_model.specs.Machine.{opening}
-use Rattle.etcd_model.specs.Changes.{Recorded, ChangesOnce, OwnRow, entry_at, entry_of, change_of, changes_of, recorded, record_change, record_revision, live, rows, keeps, kept, Rises}
+use Rattle.etcd_model.specs.Changes.{Recorded, ChangesOnce, entry_at, entry_of, change_of, changes_of, recorded, record_revision, live, rows, keeps, kept, Rises}
 use Rattle.etcd_model.specs.Store as store
 use Rattle.etcd_model.specs.Store.{Store, kept_store}
-use Rattle.etcd_model.specs.Held.{keep, over, outcome_over, IsHistory}
+use Rattle.etcd_model.specs.Held.{keep, IsHistory}
 use Rattle.etcd_model.proofs.HistoryLaws.{current-after}
-use Rattle.etcd_model.proofs.GrowthLaws.{after_before_space, after_step, store_stays, first_none}
-use Rattle.etcd_model.proofs.OnceLaws.{outcome_once, ChangesOnce-machine, ChangesOnce-opening}
-use Rattle.model_laws.specs.Holding.{KeepAfter, KeepCompact, KeepReads, KeepCells, OpeningIsHistory, StepIsHistory, StepOverKept, BeforeSpaceOverKept}
+use Rattle.etcd_model.proofs.GrowthLaws.{after_before_space, store_stays, first_none}
+use Rattle.etcd_model.proofs.OnceLaws.{outcome_once, ChangesOnce-opening}
+use Rattle.model_laws.specs.Holding.{KeepAfter, KeepCompact, KeepReads, KeepLook, KeepAhead, KeepRowAt, KeepCells, OpeningIsHistory, StepIsHistory, StepOverKept, BeforeSpaceOverKept}
 use Rattle.model_laws.proofs.LastLaws.{true_or_false}
 use Rattle.model_laws.proofs.KeptLaws.{kept_append, kept_kept, kept_true, kept_false, live_kept}
 use Rattle.model_laws.proofs.RecordedLaws.{all_push, all_weaker, changes_are_entries, changes_after, changes_rise, changes_up_to_current, changes_own_their_rows, live_of_changes, rows_of_changes}
 use Rattle.model_laws.proofs.HistoryKeptLaws.{rows_kept, recorded_kept, kept_of_changes}
-use Rattle.model_laws.proofs.CarryLaws.{Carries, SameCells, carried, carried_before_space, up_to_current}
+use Rattle.model_laws.proofs.CarryLaws.{Carries, carried, carried_before_space, up_to_current}
 
 -- ---- one more revision
 
@@ -144,6 +143,15 @@ carries H le = record {
   ahead = fun_ext (λ w. guarded w.next H.compacted [] (filter (is_ahead w) (map entry_of (kept H.compacted (changes_of H)))) (filter (is_ahead w) (entries H)) (λ from. ahead_kept w H.compacted (changes_of H) from ∙ ap (filter (is_ahead w)) (changes_are_entries H)));
   row_at = fun_ext (λ key. fun_ext (λ r. guarded r H.compacted None (live key r (kept H.compacted (changes_of H))) (kv H key r) (live_kept_history H key r)));
 }
+
+pub keep_look : KeepLook
+keep_look H le = (carries H le).look
+
+pub keep_ahead : KeepAhead
+keep_ahead H le = (carries H le).ahead
+
+pub keep_row_at : KeepRowAt
+keep_row_at H le = (carries H le).row_at
 
 -- ---- a history as runs make it
 

@@ -1,24 +1,22 @@
 -- What is kept of the recorded changes, against what is kept of the history.
-use Rattle.std.proofs.Common.{◌≡◌, ℕ, ◌+◌, ◌<◌, ◌≤◌, List, [], ◌∷◌, ◌++◌, length, refl, ap, ◌∙◌, sym, arith, subst, append_assoc, map, inl, inr, ◌⊎◌}
+use Rattle.std.proofs.Common.{◌≡◌, ℕ, ◌+◌, ◌<◌, ◌≤◌, List, [], ◌∷◌, ◌++◌, length, refl, ap, ◌∙◌, sym, arith, subst, append_assoc, map, inl, inr}
 use Rattle.std.specs.Prelude.{Bool, true, false, not, cond, ◌&&◌, ◌||◌, filter, Option, Some, None, is_some, nat_le, nat_eq, option_map, if◌then◌else◌}
 use Rattle.std.specs.Str.{bytes_eq}
 use Rattle.std.specs.List.{AllByRecursion, list_any, All}
 use Rattle.std.specs.Cmp.Lexicographic.{bytes_decides}
-use Rattle.std.proofs.lemmas.Bool.{and_parts, le-leb, lt-leb, cases_lt, and_right, true≢false}
+use Rattle.std.proofs.lemmas.Bool.{and_parts, le-leb, cases_lt, and_right, true≢false}
 use Rattle.std.proofs.lemmas.Bool.Decides.{nat_tests}
 use Rattle.std.proofs.lemmas.List.Elements.{All-head, All-tail}
 use Rattle.etcd_types.specs.declared.key_value.KeyValue.{KeyValue}
 use Rattle.etcd_model.specs.declared.state.History.{History}
 use Rattle.etcd_model.specs.declared.state.Change.{Change}
 use Rattle.etcd_model.specs.declared.state.Entry.{Entry}
-use Rattle.etcd_model.specs.declared.state.Change.TheVariants.{Put as Set, Delete as Del}
-use Rattle.etcd_model.specs.History.{key_of, is_put, entries, entries_after, last_change}
-use Rattle.etcd_model.specs.Kept as over_history
+use Rattle.etcd_model.specs.History.{key_of, is_put, entries_after, last_change}
 use Rattle.etcd_model.specs.Kept.{is_last_put, is_kept}
-use Rattle.etcd_model.specs.Changes.{Recorded, OwnRow, ChangesOnce, entry_at, entry_of, change_of, change_by, changes_of, recorded, next_row, last_by, is_up_to, last, live, keeps, kept, rows, Rises, or_before}
+use Rattle.etcd_model.specs.Changes.{Recorded, OwnRow, entry_at, entry_of, change_of, change_by, changes_of, next_row, last_by, is_up_to, last, keeps, kept, or_before}
 use Rattle.model_laws.specs.Keeping.{KeptOfChanges, RowsOfKept, RecordedOverKept}
-use Rattle.model_laws.proofs.LastLaws.{true_or_false, some_or_none, none_any, any_none, all_last, last_passes, last_push}
-use Rattle.model_laws.proofs.KeptLaws.{same_key, kept_true, kept_false, all_kept, live_kept, last_here}
+use Rattle.model_laws.proofs.LastLaws.{true_or_false, some_or_none, none_any, any_none, all_last, last_passes}
+use Rattle.model_laws.proofs.KeptLaws.{same_key, all_kept, live_kept, last_here}
 use Rattle.model_laws.proofs.RowLaws.{same_rows}
 use Rattle.model_laws.proofs.RecordedLaws.{all_append, all_weaker, changes_are_entries, last_of_changes}
 

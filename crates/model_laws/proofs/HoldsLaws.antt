@@ -1,6 +1,5 @@
 -- Whatever state a tenant held, after a step it holds the state afterwards.
 use Rattle.std.proofs.Common.{◌≡◌, ℕ, ◌+◌, ap, ◌∙◌, arith}
-use Rattle.etcd_types.specs.declared.reply.Reply.{Reply}
 use Rattle.etcd_model.specs.declared.state.History.{History}
 use Rattle.etcd_model.specs.declared.state.State.{State}
 use Rattle.etcd_model.specs.Tenant.{Outcome}
@@ -8,10 +7,10 @@ use Rattle.etcd_model.specs.Stepping as stepping
 use Rattle.etcd_model.specs.Machine as machine
 use Rattle.etcd_model.specs.Machine.{opening}
 use Rattle.etcd_model.specs.Store.{Store, kept_store}
-use Rattle.etcd_model.specs.Held.{keep, empty_store, over, outcome_over, Holds}
+use Rattle.etcd_model.specs.Held.{keep, empty_store, over, outcome_over}
 use Rattle.model_laws.specs.Holding.{OpeningIsHeld, HeldAfterStep, HeldBeforeSpace}
 use Rattle.model_laws.proofs.HeldLaws.{step_over_kept, before_space_over_kept}
-use Rattle.model_laws.proofs.RunLaws.{opening_is_state, before_is_state, step_is_state}
+use Rattle.model_laws.proofs.StateLaws.{opening_is_state, before_is_state, step_is_state}
 
 pub opening_is_held : OpeningIsHeld
 opening_is_held cluster quota first = record { sound = opening_is_state cluster quota first; same = ap (λ n. over (λ (H : History). empty_store n) (opening cluster quota first)) (first_current first) }

@@ -1,9 +1,9 @@
 -- The last of a list that passes.
-use Rattle.std.proofs.Common.{◌≡◌, ℕ, ◌≤◌, List, [], ◌∷◌, ◌++◌, Bool, true, false, Option, Some, None, if◌then◌else◌, sym, ap, ◌∙◌, refl, subst, arith, inl, inr, ◌⊎◌, map}
-use Rattle.std.specs.Prelude.{option_and_then, option_map, filter, cond}
+use Rattle.std.proofs.Common.{◌≡◌, List, [], ◌∷◌, ◌++◌, Bool, true, false, Option, Some, None, if◌then◌else◌, sym, ap, ◌∙◌, refl, subst, arith, inl, inr, ◌⊎◌, map}
+use Rattle.std.specs.Prelude.{option_map, filter, cond}
 use Rattle.std.specs.List.{list_any, AllByRecursion, last_or}
 use Rattle.std.proofs.lemmas.Option.{cond_some}
-use Rattle.etcd_model.specs.Changes.{Recorded, or_before, last_by}
+use Rattle.etcd_model.specs.Changes.{or_before, last_by}
 
 pub or_some : {X : Type 0} (o q : Option X) (y : X) → or_before o q ≡ Some y → (o ≡ Some y) ⊎ ((o ≡ None) × (q ≡ Some y))
 or_some None q y h = inr (refl, h)

@@ -1,10 +1,10 @@
 -- The ID that is chosen for a lease, and the order in which leases end.
-use Rattle.std.proofs.Common.{◌≡◌, ℕ, ◌+◌, ◌<◌, ◌≤◌, List, [], ◌∷◌, length, refl, ap, ◌∙◌, sym, arith, subst, inl, inr, ◌⊎◌}
-use Rattle.std.specs.Prelude.{ℤ, pos, negsuc, Bool, true, false, not, cond, ◌||◌, fold, filter, nat_le, if◌then◌else◌}
-use Rattle.std.specs.List.{AllByRecursion, list_any}
+use Rattle.std.proofs.Common.{◌≡◌, ℕ, ◌+◌, ◌<◌, ◌≤◌, List, [], ◌∷◌, length, refl, ap, ◌∙◌, sym, arith, subst, inl, inr}
+use Rattle.std.specs.Prelude.{ℤ, pos, Bool, true, false, not, cond, ◌||◌, fold, filter, nat_le, if◌then◌else◌}
+use Rattle.std.specs.List.{AllByRecursion}
 use Rattle.std.specs.List.Sorted.{IsStrictlySortedBy}
 use Rattle.std.specs.Cmp.{IsTotalOrder}
-use Rattle.std.specs.Ordering.{int_cmp, int_eq, nat_cmp, is_eq, on, ordering_reverse, ordering_then}
+use Rattle.std.specs.Ordering.{int_cmp, int_eq, nat_cmp, is_eq, ordering_then}
 use Rattle.std.specs.declared.cmp.Ordering.{Ordering}
 use Rattle.std.specs.declared.cmp.Ordering.TheVariants.{Less, Equal, Greater}
 use Rattle.std.proofs.lemmas.Bool.{or_from, false_from_ne_true, true≢false, cases_lt}
@@ -14,7 +14,7 @@ use Rattle.std.proofs.lemmas.List.Kept.{IsStrictlySortedBy-filter}
 use Rattle.etcd_model.specs.declared.state.Lease.{Lease}
 use Rattle.etcd_model.specs.Order.{beside, put_in, in_order}
 use Rattle.etcd_model.specs.Operations.{has_lease}
-use Rattle.etcd_model.specs.Leases.{step_past, free_id, run_out, end_cmp, with_lease}
+use Rattle.etcd_model.specs.Leases.{step_past, end_cmp}
 use Rattle.etcd_model.proofs.OrderLaws.{sorted-put_in, sorted-in_order, below_less}
 use Rattle.etcd_model.specs.Held.{by_id}
 use Rattle.model_laws.specs.Leases.{FreeIdIsLeast, WithLeaseAscends, WithoutLeaseAscends, RunOutAscend, RunOutRest}
@@ -22,7 +22,7 @@ use Rattle.model_laws.specs.Leases.{FreeIdIsLeast, WithLeaseAscends, WithoutLeas
 pub by_id_total : IsTotalOrder by_id
 by_id_total = on_total (λ (l : Lease). l.id) int_cmp_total
 
-end_cmp_total : IsTotalOrder end_cmp
+pub end_cmp_total : IsTotalOrder end_cmp
 end_cmp_total = then_total (on_total (λ (l : Lease). l.end) nat_cmp_total) (on_total (λ (l : Lease). l.id) int_cmp_total)
 
 pub with_lease_ascends : WithLeaseAscends
@@ -109,20 +109,21 @@ filter-swap p q (x ∷ xs) = step (filter-swap p q xs) (p x) (q x) refl refl
     step rest false true e f = ap (λ b. cond b (x ∷ filter p (filter q xs)) (filter p (filter q xs))) e ∙ rest
     step rest false false e f = rest
 
+-- before all that come after it
+pub put_first : {X : Type 0} (cmp : X → X → Ordering) (x : X) (zs : List X) → AllByRecursion (λ z. cmp x z ≡ Less) zs → put_in cmp zs x ≡ x ∷ zs
+put_first cmp x [] h = refl
+put_first cmp x (z ∷ zs) h = ap (λ o. beside o x z zs (put_in cmp zs x)) h.0
+
 module _ {X : Type 0} (cmp : X → X → Ordering) (total : IsTotalOrder cmp) (p : X → Bool) (tied : (x y : X) → cmp x y ≡ Equal → p x ≡ p y) where
   all_filter : (P : X → Type 0) (xs : List X) → AllByRecursion P xs → AllByRecursion P (filter p xs)
   all_filter P [] all = tt
   all_filter P (x ∷ xs) all = elim (p x) as (λ b. AllByRecursion P (cond b (x ∷ filter p xs) (filter p xs))) [ true ↦ (all.0, all_filter P xs all.1) | false ↦ all_filter P xs all.1 ]
 
-  put_first : (x : X) (zs : List X) → AllByRecursion (λ z. cmp x z ≡ Less) zs → put_in cmp zs x ≡ x ∷ zs
-  put_first x [] h = refl
-  put_first x (z ∷ zs) h = ap (λ o. beside o x z zs (put_in cmp zs x)) h.0
-
   filter-put_in : (x : X) (ys : List X) → IsStrictlySortedBy cmp ys → filter p (put_in cmp ys x) ≡ cond (p x) (put_in cmp (filter p ys) x) (filter p ys)
   unfolding IsStrictlySortedBy
   filter-put_in x [] h = refl
   filter-put_in x (y ∷ ys) h = elim (cmp x y) as (λ o. cmp x y ≡ o → filter p (beside o x y ys (put_in cmp ys x)) ≡ cond (p x) (put_in cmp (filter p (y ∷ ys)) x) (filter p (y ∷ ys))) [
-    | Less ↦ λ e. ap (λ zs. cond (p x) zs (filter p (y ∷ ys))) (sym (put_first x (filter p (y ∷ ys)) (all_filter (λ z. cmp x z ≡ Less) (y ∷ ys) (e, below_less cmp total x y e ys h.0))))
+    | Less ↦ λ e. ap (λ zs. cond (p x) zs (filter p (y ∷ ys))) (sym (put_first cmp x (filter p (y ∷ ys)) (all_filter (λ z. cmp x z ≡ Less) (y ∷ ys) (e, below_less cmp total x y e ys h.0))))
     | Equal ↦ λ e. equal e (p x) (p y) (tied x y e)
     | Greater ↦ λ e. ap (λ zs. cond (p y) (y ∷ zs) zs) (filter-put_in x ys h.1) ∙ greater e (p x) (p y)
   ] refl
@@ -179,7 +180,7 @@ no_id_above id (l ∷ ls) all =
     not_itself : int_cmp id id ≡ Less → ⊥
     not_itself e = let same : int_cmp id id ≡ Equal = tied_itself int_cmp_total id in let bad : ⊥ = cc in bad
 
-one_of_id : (id : ℤ) (ls : List Lease) → IsStrictlySortedBy by_id ls → length (filter (has_id id) ls) ≤ 1
+pub one_of_id : (id : ℤ) (ls : List Lease) → IsStrictlySortedBy by_id ls → length (filter (has_id id) ls) ≤ 1
 unfolding IsStrictlySortedBy
 one_of_id id [] h = omega arith
 one_of_id id (l ∷ ls) h = elim (int_eq l.id id) as (λ b. int_eq l.id id ≡ b → length (cond b (l ∷ filter (has_id id) ls) (filter (has_id id) ls)) ≤ 1) [

@@ -1,5 +1,6 @@
 pub mod LastLaws
 pub mod KeptLaws
+pub mod LastIsLaws
 pub mod RecordedLaws
 pub mod RowLaws
 pub mod HistoryKeptLaws
@@ -8,7 +9,13 @@ pub mod HeldLaws
 pub mod SpaceLaws
 pub mod WorldLaws
 pub mod LeaseLaws
+pub mod DueLaws
 pub mod RunLaws
+pub mod LeasedLaws
+pub mod StateLaws
 pub mod HoldsLaws
 pub mod QuotaLaws
 pub mod RevisionLaws
+pub mod CounterLaws
+pub mod OnceStoreLaws
+pub mod OpeningLaws

@@ -1,15 +1,14 @@
 -- No step passes the greater of the quota and the cells that were in use.
-use Rattle.std.proofs.Common.{◌≡◌, ℕ, ◌+◌, ◌≤◌, List, [], ◌∷◌, ◌++◌, length, refl, ap, ◌∙◌, sym, arith, subst, map, inl, inr, ◌⊎◌}
-use Rattle.std.specs.Prelude.{ℤ, Bool, true, false, not, cond, ◌&&◌, ◌||◌, fold, filter, find, Option, Some, None, max, min, nat_le, nat_lt, if◌then◌else◌}
+use Rattle.std.proofs.Common.{◌≡◌, ℕ, ◌+◌, ◌≤◌, List, [], ◌∷◌, length, refl, ap, ◌∙◌, sym, arith, map}
+use Rattle.std.specs.Prelude.{ℤ, Bool, true, false, not, cond, ◌&&◌, ◌||◌, fold, filter, find, Option, Some, None, max, min, nat_lt, if◌then◌else◌}
 use Rattle.std.specs.List.{AllByRecursion, list_any}
 use Rattle.std.specs.List.Sorted.{IsStrictlySortedBy}
-use Rattle.std.specs.Ordering.{int_eq, int_cmp, ordering_reverse}
-use Rattle.std.specs.declared.cmp.Ordering.{Ordering}
+use Rattle.std.specs.Ordering.{int_eq, int_cmp}
 use Rattle.std.specs.declared.cmp.Ordering.TheVariants.{Less, Equal, Greater}
 use Rattle.std.proofs.lemmas.Bool.{true≢false, false≢true, false_from_ne_true, or_from}
-use Rattle.std.proofs.lemmas.Bool.Decides.{nat_tests, Decides-int_eq}
+use Rattle.std.proofs.lemmas.Bool.Decides.{nat_tests}
 use Rattle.etcd_types.specs.declared.txn.Op.{Op}
-use Rattle.etcd_types.specs.declared.txn.Op.TheVariants.{Put as PutOp, Delete as DeleteOp}
+use Rattle.etcd_types.specs.declared.txn.Op.TheVariants.{Delete as DeleteOp}
 use Rattle.etcd_types.specs.declared.step.Step.{Step}
 use Rattle.etcd_types.specs.declared.step.Step.TheVariants.{Put, Delete, Txn, Compact, Grant, Revoke, KeepAlive, Tick}
 use Rattle.etcd_types.specs.declared.refusal.Refusal.{Refusal}
@@ -24,11 +23,11 @@ use Rattle.etcd_model.specs.declared.state.State.{State}
 use Rattle.etcd_model.specs.Order.{beside, put_in}
 use Rattle.etcd_model.specs.History as history
 use Rattle.etcd_model.specs.History.{current}
-use Rattle.etcd_model.specs.Reads.{Reads, Look}
+use Rattle.etcd_model.specs.Reads.{Look}
 use Rattle.etcd_model.specs.Kept as over_history
 use Rattle.etcd_model.specs.Operations.{branch, pending_after, adds_any, first_refusal}
 use Rattle.etcd_model.specs.Tenant.{Outcome, reads, used}
-use Rattle.etcd_model.specs.Leases.{lease_at, attached, finish, run_out, with_lease}
+use Rattle.etcd_model.specs.Leases.{lease_at, attached, finish, run_out}
 use Rattle.etcd_model.specs.Fields.{fields}
 use Rattle.etcd_model.specs.Stepping as stepping
 use Rattle.etcd_model.specs.Stepping.{adds, may_add, early, look_up, outcome, pending, kept_alive, compacted_at}
@@ -42,7 +41,7 @@ use Rattle.etcd_model.proofs.OrderLaws.{below_less}
 use Rattle.etcd_model.proofs.GrowthLaws.{first_none}
 use Rattle.etcd_model.proofs.OnceLaws.{outcome_once, finish_once}
 use Rattle.model_laws.specs.Runs.{StepWithinQuota, RunWithinQuota}
-use Rattle.model_laws.proofs.CarryLaws.{Carries, above, up_to_current}
+use Rattle.model_laws.proofs.CarryLaws.{above, up_to_current}
 use Rattle.model_laws.proofs.HeldLaws.{up_after, carries, keep_after, keep_compact, keep_cells, step_is_history}
 use Rattle.model_laws.proofs.SpaceLaws.{keep_is_store, no_put_takes_none, finish_takes_none, compaction_takes_none}
 use Rattle.model_laws.proofs.LeaseLaws.{by_id_total, same_id}
@@ -87,7 +86,7 @@ ends_cells (l ∷ ls) S is = let T = finish machine.history S l.id in omega (ari
 
 -- ---- a renewed lease
 
-renewed : (x : Lease) (ls : List Lease) → list_any (λ l. int_eq l.id x.id) ls ≡ true → IsStrictlySortedBy by_id ls → length (put_in by_id ls x) ≡ length ls
+pub renewed : (x : Lease) (ls : List Lease) → list_any (λ l. int_eq l.id x.id) ls ≡ true → IsStrictlySortedBy by_id ls → length (put_in by_id ls x) ≡ length ls
 unfolding IsStrictlySortedBy
 renewed x [] there h = absurd (false≢true there)
 renewed x (l ∷ ls) there h = elim (by_id x l) as (λ o. by_id x l ≡ o → length (beside o x l ls (put_in by_id ls x)) ≡ length (l ∷ ls)) [

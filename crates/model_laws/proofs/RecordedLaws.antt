@@ -11,7 +11,6 @@ use Rattle.std.proofs.lemmas.List.Sums.{fold-append}
 use Rattle.etcd_types.specs.declared.key_value.KeyValue.{KeyValue}
 use Rattle.etcd_model.specs.Interval.{every_key}
 use Rattle.etcd_model.specs.History as history
-use Rattle.etcd_model.specs.declared.state.History.{History}
 use Rattle.etcd_model.specs.declared.state.Change.{Change}
 use Rattle.etcd_model.specs.declared.state.Entry.{Entry}
 use Rattle.etcd_model.specs.declared.state.Change.TheVariants.{Put as Set, Delete as Del}
@@ -19,7 +18,7 @@ use Rattle.etcd_model.specs.History.{key_of, entries, entries_after, current, kv
 use Rattle.etcd_model.specs.Changes.{Recorded, OwnRow, entry_at, next_row, change_by, entry_of, last_by, is_up_to, last, live, rows, Rises, recorded, record_change, changes_of}
 use Rattle.etcd_model.proofs.HistoryLaws.{is_past, next_by, entries-after, all_current, kv_by_changes}
 use Rattle.etcd_model.proofs.PutLaws.{rows_ascend, rows-interval, row_among, rows-one_key}
-use Rattle.model_laws.specs.Recording.{by_key, ChangesAreEntries, ChangesAfter, ChangesRise, ChangesUpToCurrent, ChangesOwnTheirRows, LastOfChanges, LiveOfChanges, RowsOfChanges, RowsAscend, RowsOfOneKey}
+use Rattle.model_laws.specs.Recording.{ChangesAreEntries, ChangesAfter, ChangesRise, ChangesUpToCurrent, ChangesOwnTheirRows, LastOfChanges, LiveOfChanges, RowsOfChanges, RowsAscend, RowsOfOneKey}
 use Rattle.model_laws.proofs.LastLaws.{last_push, last_alike, last_map, last_filter}
 use Rattle.model_laws.proofs.RowLaws.{rows_by_their_keys, rows_inside, rows_rise, row_found}
 

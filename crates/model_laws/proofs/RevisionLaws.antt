@@ -1,20 +1,16 @@
 -- The revisions and the live keys together stay within a bound.
-use Rattle.std.proofs.Common.{◌≡◌, ℕ, ◌+◌, ◌<◌, ◌≤◌, List, [], ◌∷◌, ◌++◌, length, refl, ap, ◌∙◌, sym, arith, subst, map, inl, inr, ◌⊎◌}
-use Rattle.std.specs.Prelude.{ℤ, Bool, true, false, ◌&&◌, ◌||◌, fold, sum_by, Option, Some, None, max, min, nat_le, if◌then◌else◌}
+use Rattle.std.proofs.Common.{◌≡◌, ℕ, ◌+◌, ◌<◌, ◌≤◌, List, [], ◌∷◌, ◌++◌, length, refl, ap, ◌∙◌, sym, arith, subst, map}
+use Rattle.std.specs.Prelude.{ℤ, Bool, true, false, ◌&&◌, ◌||◌, fold, Option, Some, None, max, min, nat_le, if◌then◌else◌}
 use Rattle.std.specs.List.{list_any}
-use Rattle.std.specs.Ordering.{int_eq}
 use Rattle.std.proofs.lemmas.Bool.{true≢false, false≢true, or_parts}
 use Rattle.std.proofs.lemmas.Bool.Decides.{nat_tests}
 use Rattle.std.proofs.lemmas.List.{append-nil}
 use Rattle.std.proofs.lemmas.List.Folds.{list_any-append}
-use Rattle.std.proofs.lemmas.List.Sums.{sum_by-cons}
-use Rattle.etcd_types.specs.declared.key_value.KeyValue.{KeyValue}
 use Rattle.etcd_types.specs.declared.txn.TxnReq.{TxnReq}
 use Rattle.etcd_types.specs.declared.txn.Op.{Op}
 use Rattle.etcd_types.specs.declared.txn.Op.TheVariants.{Range as RangeOp, Put as PutOp, Delete as DeleteOp, Nested}
 use Rattle.etcd_types.specs.declared.step.Step.{Step}
 use Rattle.etcd_types.specs.declared.step.Step.TheVariants.{Put, Delete, Txn, Compact, Grant, Revoke, KeepAlive, Tick}
-use Rattle.etcd_types.specs.declared.refusal.Refusal.{Refusal}
 use Rattle.etcd_types.specs.declared.refusal.Refusal.TheVariants.{UsedUp}
 use Rattle.etcd_types.specs.Limits.{last_moment, last_revision, last_lease_id}
 use Rattle.etcd_model.specs.declared.state.Lease.{Lease}
@@ -25,15 +21,13 @@ use Rattle.etcd_model.specs.declared.state.State.{State}
 use Rattle.etcd_model.specs.History as history
 use Rattle.etcd_model.specs.History.{current, rows}
 use Rattle.etcd_model.specs.Interval.{every_key}
-use Rattle.etcd_model.specs.Kept as over_history
-use Rattle.etcd_model.specs.Kept.{cost, cost_delete}
 use Rattle.etcd_model.specs.Reads.{Reads, Look}
 use Rattle.etcd_model.specs.Compares.{all_hold}
-use Rattle.etcd_model.specs.Operations.{branch, pending_after, first_refusal}
+use Rattle.etcd_model.specs.Operations.{branch, pending_after}
 use Rattle.etcd_model.specs.Tenant.{reads, used}
 use Rattle.etcd_model.specs.Leases.{lease_at, attached, finish, run_out}
 use Rattle.etcd_model.specs.Fields.{fields, refused_if}
-use Rattle.etcd_model.specs.Stepping.{writes, writes_op, chooses_id, early, look_up, outcome, pending, used_up, kept_alive}
+use Rattle.etcd_model.specs.Stepping.{writes, writes_op, chooses_id, early, outcome, pending, used_up, kept_alive}
 use Rattle.etcd_model.specs.Machine as machine
 use Rattle.etcd_model.specs.Changes as changes
 use Rattle.etcd_model.specs.Store as store
@@ -41,8 +35,8 @@ use Rattle.etcd_model.specs.Held.{keep, IsHistory, HasLeases}
 use Rattle.etcd_model.proofs.HistoryLaws.{current-after}
 use Rattle.etcd_model.proofs.GrowthLaws.{first_none, is_tick, current-machine}
 use Rattle.model_laws.specs.Runs.{FitsRevisions, StepFitsRevisions}
-use Rattle.model_laws.proofs.HeldLaws.{carries, up_after, keep_after, rows_kept_history, after_early, after_allowed, after_machine}
-use Rattle.model_laws.proofs.SpaceLaws.{keep_is_store, finish_takes_keys}
+use Rattle.model_laws.proofs.HeldLaws.{keep_after, rows_kept_history, after_early, after_allowed, after_machine}
+use Rattle.model_laws.proofs.SpaceLaws.{a_cell_each, keep_is_store, finish_takes_keys}
 use Rattle.model_laws.proofs.RunLaws.{quiet_outcome}
 use Rattle.model_laws.proofs.QuotaLaws.{finish_is_history, look_kept, step_within_quota}
 
@@ -50,10 +44,6 @@ abbrev live_keys : History → ℕ
 live_keys H = length (rows H every_key (current H))
 
 -- ---- each live key has room for its delete
-
-a_cell_each : (rs : List KeyValue) → length rs ≤ sum_by (λ row. cost_delete row.key) rs
-a_cell_each [] = omega arith
-a_cell_each (r ∷ rs) = omega (arith, sum_by-cons (λ (row : KeyValue). cost_delete row.key) r rs, a_cell_each rs)
 
 keys_used : (S : State History) → live_keys S.store ≤ used machine.history S
 keys_used S = omega (arith, a_cell_each (rows S.store every_key (current S.store)))

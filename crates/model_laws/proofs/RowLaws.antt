@@ -1,5 +1,5 @@
 -- Rows by their keys: ascending rows are one list where each key has one row in both, or none.
-use Rattle.std.proofs.Common.{◌≡◌, ℕ, ◌≤◌, List, [], ◌∷◌, refl, ap, ◌∙◌, sym, subst}
+use Rattle.std.proofs.Common.{◌≡◌, ℕ, List, [], ◌∷◌, refl, ap, ◌∙◌, sym, subst}
 use Rattle.std.specs.Prelude.{Bool, true, false, cond, filter, filter_map, find, Option, Some, None, IfSome, nat_le, map, option_and_then, ◌&&◌, ◌||◌}
 use Rattle.std.specs.Str.{bytes_eq}
 use Rattle.std.specs.List.{AllByRecursion, list_any}
@@ -7,19 +7,18 @@ use Rattle.std.specs.List.Sorted.{IsStrictlySortedBy}
 use Rattle.std.specs.Cmp.{IsTotalOrder}
 use Rattle.std.specs.Cmp.Lexicographic.{nat_list_cmp_total, bytes_decides}
 use Rattle.std.specs.Ordering.{ordering_reverse}
-use Rattle.std.specs.declared.cmp.Ordering.{Ordering}
 use Rattle.std.specs.declared.cmp.Ordering.TheVariants.{Less, Equal, Greater}
 use Rattle.std.proofs.lemmas.Bool.{or_parts, and_parts}
 use Rattle.std.proofs.lemmas.List.Kept.{IsStrictlySortedBy-filter}
 use Rattle.etcd_types.specs.declared.key_value.KeyValue.{KeyValue}
-use Rattle.etcd_model.specs.Order.{key_cmp, in_order}
+use Rattle.etcd_model.specs.Order.{key_cmp}
 use Rattle.etcd_model.specs.Interval.{every_key}
-use Rattle.etcd_model.specs.Changes.{Recorded, OwnRow, last_by, is_up_to, last, live, keys, rows}
+use Rattle.etcd_model.specs.Changes.{Recorded, OwnRow, is_up_to, last, live, keys, rows}
 use Rattle.etcd_model.proofs.OrderLaws.{below_less, tied_keys, keys_in_order, any-keys_in_order}
 use Rattle.etcd_model.proofs.RowLaws.{later_key, sorted-rows, filter-rows, find-rows}
 use Rattle.etcd_model.proofs.PutLaws.{every_one}
 use Rattle.model_laws.specs.Recording.{by_key, RowsByTheirKeys}
-use Rattle.model_laws.proofs.LastLaws.{last_passes, some_or_none, any_none, all_last}
+use Rattle.model_laws.proofs.LastLaws.{last_passes, any_none, all_last}
 
 -- the test for the row of a key
 abbrev pub has_key : List ℕ → KeyValue → Bool

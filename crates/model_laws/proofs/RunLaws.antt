@@ -1,12 +1,11 @@
 -- What holds of every state that a run from an opening comes to.
-use Rattle.std.proofs.Common.{◌≡◌, ℕ, ◌+◌, ◌<◌, ◌≤◌, List, [], ◌∷◌, ◌++◌, length, refl, ap, ◌∙◌, sym, arith, subst, map, inl, inr, ◌⊎◌}
-use Rattle.std.specs.Prelude.{ℤ, pos, negsuc, Bool, true, false, not, cond, ◌&&◌, ◌||◌, fold, filter, find, Option, Some, None, max, min, nat_le, nat_lt, int_le, int_lt, slice_get, slice_set, if◌then◌else◌}
+use Rattle.std.proofs.Common.{◌≡◌, ℕ, ◌+◌, ◌<◌, ◌≤◌, List, [], ◌∷◌, length, refl, ap, ◌∙◌, sym, arith, subst, map, inl, inr}
+use Rattle.std.specs.Prelude.{ℤ, pos, negsuc, Bool, true, false, not, cond, ◌||◌, fold, filter, find, Option, Some, None, max, min, nat_le, nat_lt, int_le, int_lt, slice_get, slice_set, if◌then◌else◌}
 use Rattle.std.specs.List.{AllByRecursion, list_any}
 use Rattle.std.specs.List.Sorted.{IsStrictlySortedBy}
-use Rattle.std.specs.Ordering.{int_eq, int_cmp, nat_cmp, is_eq}
-use Rattle.std.specs.declared.cmp.Ordering.{Ordering}
+use Rattle.std.specs.Ordering.{int_eq}
 use Rattle.std.specs.declared.cmp.Ordering.TheVariants.{Less, Equal, Greater}
-use Rattle.std.proofs.lemmas.Bool.{true≢false, false≢true, false_from_ne_true, or_from, or_parts, cases_lt}
+use Rattle.std.proofs.lemmas.Bool.{true≢false, false≢true, or_from, cases_lt}
 use Rattle.std.proofs.lemmas.Bool.Decides.{nat_tests, Decides-int_eq}
 use Rattle.std.proofs.lemmas.List.{length-set}
 use Rattle.etcd_types.specs.declared.txn.Op.TheVariants.{Put as PutOp, Delete as DeleteOp}
@@ -16,14 +15,14 @@ use Rattle.etcd_types.specs.declared.watch.WatchReq.{WatchReq}
 use Rattle.etcd_types.specs.declared.alarm.AlarmAction.{AlarmAction}
 use Rattle.etcd_types.specs.declared.alarm.AlarmAction.TheVariants.{Get, Activate, Deactivate}
 use Rattle.etcd_types.specs.declared.alarm.AlarmKind.{AlarmKind}
-use Rattle.etcd_types.specs.declared.alarm.AlarmKind.TheVariants.{Any, NoSpace as SpaceAlarm, Corrupt}
+use Rattle.etcd_types.specs.declared.alarm.AlarmKind.TheVariants.{Any, NoSpace as SpaceAlarm}
 use Rattle.etcd_types.specs.declared.key_value.Event.{Event}
 use Rattle.etcd_types.specs.declared.refusal.Refusal.TheVariants.{TtlTooLarge}
 use Rattle.etcd_types.specs.declared.reply.Reply.TheVariants.{Canceled}
-use Rattle.etcd_types.specs.Limits.{last_moment, max_ttl, watch_slots}
+use Rattle.etcd_types.specs.Limits.{last_moment, max_ttl}
 use Rattle.etcd_model.specs.declared.state.Lease.{Lease}
 use Rattle.etcd_model.specs.declared.state.Watch.{Watch as Watching}
-use Rattle.etcd_model.specs.Order.{beside, put_in, in_order}
+use Rattle.etcd_model.specs.Order.{beside, put_in}
 use Rattle.etcd_model.specs.History as history
 use Rattle.etcd_model.specs.declared.state.History.{History}
 use Rattle.etcd_model.specs.declared.state.Change.{Change}
@@ -32,20 +31,20 @@ use Rattle.etcd_model.specs.declared.state.Change.TheVariants.{Delete as Del}
 use Rattle.etcd_model.specs.History.{current}
 use Rattle.etcd_model.specs.Operations.{branch}
 use Rattle.etcd_model.specs.declared.state.State.{State}
-use Rattle.etcd_model.specs.Tenant.{Outcome, reads, header, used}
+use Rattle.etcd_model.specs.Tenant.{Outcome, reads, header}
 use Rattle.etcd_model.specs.Leases.{lease_at, attached, finish, run_out, end_cmp, with_lease, granted_ttl}
 use Rattle.etcd_model.specs.Watches.{with_slot, created, given, taken, free_slot, first_of, event_of}
 use Rattle.etcd_model.specs.Fields.{fields, refused_if}
-use Rattle.etcd_model.specs.Stepping.{look_up, outcome, pending, grant_id, kept_alive, alarm_of}
+use Rattle.etcd_model.specs.Stepping.{outcome, pending, grant_id, kept_alive, alarm_of}
 use Rattle.etcd_model.specs.Machine as machine
 use Rattle.etcd_model.specs.Machine.{opening}
 use Rattle.etcd_model.proofs.OrderLaws.{any-in_order}
 use Rattle.etcd_model.proofs.GrowthLaws.{store_stays}
-use Rattle.etcd_model.specs.Held.{by_id, IsFull, IsRunning, HasLeases, IsState}
-use Rattle.model_laws.specs.Runs.{OpeningIsState, StepIsState, OpeningIsFull, OpeningHasLeases, OpeningHasSlots, StepIsFull, StepHasLeases, StepHasSlots}
+use Rattle.etcd_model.specs.Held.{by_id, IsFull, IsRunning, HasLeases}
+use Rattle.model_laws.specs.Runs.{OpeningIsFull, OpeningHasLeases, OpeningHasSlots, StepIsFull, StepHasLeases, StepHasSlots}
 use Rattle.model_laws.proofs.RecordedLaws.{all_push, all_weaker}
-use Rattle.model_laws.proofs.HeldLaws.{after_allowed, after_machine, opening_is_history, before_space_is_history, step_is_history}
-use Rattle.model_laws.proofs.LeaseLaws.{same_id, with_lease_ascends, without_lease_ascends, ends_alike}
+use Rattle.model_laws.proofs.HeldLaws.{after_allowed, after_machine}
+use Rattle.model_laws.proofs.LeaseLaws.{with_lease_ascends, without_lease_ascends, ends_alike}
 
 -- ---- steps that write nothing and leave the leases
 
@@ -283,7 +282,7 @@ ended_apart P (l ∷ ls) leases all =
       | false ↦ λ e. ((h.0, e), left xs h.1)
     ] refl
 
-or_right : (a c : Bool) → c ≡ true → (a || c) ≡ true
+pub or_right : (a c : Bool) → c ≡ true → (a || c) ≡ true
 or_right true c e = refl
 or_right false c e = e
 
@@ -362,29 +361,3 @@ step_has_leases S step has = after_machine HasLeases S step has (same_leases S (
 pub opening_has_leases : OpeningHasLeases
 unfolding IsStrictlySortedBy
 opening_has_leases cluster quota first = record { ascend = tt; running = tt; moment = omega arith }
-
--- ---- all of it
-
-pub opening_is_state : OpeningIsState
-opening_is_state cluster quota first = record {
-  history = opening_is_history cluster quota first;
-  full = opening_is_full cluster quota first;
-  leases = opening_has_leases cluster quota first;
-  slots = opening_has_slots cluster quota first;
-}
-
-pub before_is_state : (S : State History) (step : Step) → IsState S → IsState (machine.before_space S step).state
-before_is_state S step is = record {
-  history = before_space_is_history S step is.history;
-  full = before_is_full S step is.full;
-  leases = before_has_leases S step is.leases;
-  slots = before_has_slots S step ∙ is.slots;
-}
-
-pub step_is_state : StepIsState
-step_is_state S step is = record {
-  history = step_is_history S step is.history;
-  full = step_is_full S step is.full;
-  leases = step_has_leases S step is.leases;
-  slots = step_has_slots S step ∙ is.slots;
-}

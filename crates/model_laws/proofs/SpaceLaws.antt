@@ -1,6 +1,6 @@
 -- What a change makes of the cells in use.
-use Rattle.std.proofs.Common.{◌≡◌, ℕ, ◌+◌, ◌-◌, ◌≤◌, List, [], ◌∷◌, ◌++◌, length, refl, ap, ◌∙◌, sym, arith, subst, map, append_assoc, inl, inr, ◌⊎◌}
-use Rattle.std.specs.Prelude.{ℤ, Bool, true, false, not, cond, ◌&&◌, fold, filter, filter_map, find, sum_by, Option, Some, None, nat_le, if◌then◌else◌}
+use Rattle.std.proofs.Common.{◌≡◌, ℕ, ◌+◌, ◌≤◌, List, [], ◌∷◌, ◌++◌, length, refl, ap, ◌∙◌, sym, arith, subst, map, append_assoc, inl, inr}
+use Rattle.std.specs.Prelude.{Bool, true, false, not, cond, ◌&&◌, fold, filter, filter_map, find, sum_by, Option, Some, None, nat_le, if◌then◌else◌}
 use Rattle.std.specs.Str.{bytes_eq}
 use Rattle.std.specs.List.{AllByRecursion, cons_option}
 use Rattle.std.specs.Ordering.{is_eq, int_eq}
@@ -8,32 +8,27 @@ use Rattle.std.proofs.lemmas.Simd.{map-map}
 use Rattle.std.specs.List.Sorted.{IsStrictlySortedBy}
 use Rattle.std.specs.Cmp.Lexicographic.{bytes_decides}
 use Rattle.std.specs.declared.cmp.Ordering.TheVariants.{Less}
-use Rattle.std.proofs.lemmas.Bool.{le-leb, or_parts, false_from_ne_true, true≢false}
+use Rattle.std.proofs.lemmas.Bool.{le-leb, false_from_ne_true, true≢false}
 use Rattle.std.proofs.lemmas.List.{append-nil, map-append, length-map}
 use Rattle.std.proofs.lemmas.List.Kept.{IsStrictlySortedBy-filter}
 use Rattle.std.proofs.lemmas.List.Sums.{fold-append, sum_by-cons, sum_by_push}
 use Rattle.etcd_types.specs.declared.key_value.KeyValue.{KeyValue}
-use Rattle.etcd_types.specs.declared.kv.DeleteReq.{DeleteReq}
 use Rattle.etcd_types.specs.declared.txn.Op.{Op}
 use Rattle.etcd_types.specs.declared.txn.Op.TheVariants.{Range as RangeOp, Put as PutOp, Delete as DeleteOp, Nested}
-use Rattle.etcd_model.specs.declared.state.History.{History}
 use Rattle.etcd_model.specs.declared.state.Change.{Change}
-use Rattle.etcd_model.specs.declared.state.Entry.{Entry}
 use Rattle.etcd_model.specs.declared.state.Change.TheVariants.{Put as Set, Delete as Del}
 use Rattle.etcd_model.specs.History.{key_of, current}
 use Rattle.etcd_model.specs.Order.{key_cmp}
 use Rattle.etcd_model.specs.Interval.{is_in, every_key}
-use Rattle.etcd_model.specs.Kept.{cost, cost_put, cost_delete}
+use Rattle.etcd_model.specs.Kept.{cost, cost_delete}
 use Rattle.etcd_model.specs.Operations.{and_changes, pending_after, adds_any}
-use Rattle.etcd_model.specs.declared.state.State.{State}
-use Rattle.etcd_model.specs.Tenant.{used}
 use Rattle.etcd_model.specs.Leases.{attached}
-use Rattle.etcd_model.specs.Changes.{Recorded, OwnRow, keys, Rises, entry_at, change_by, change_of, changes_of, next_row, is_up_to, live, rows, recorded, record_change, record_revision, kept, keeps}
-use Rattle.etcd_model.specs.Store.{Store, IsStore, after, compact, reads_of, record_cells, reserved_cells, cells, kept_store}
-use Rattle.etcd_model.specs.Held.{keep, IsHistory}
+use Rattle.etcd_model.specs.Changes.{Recorded, OwnRow, keys, Rises, entry_at, change_by, change_of, changes_of, next_row, live, rows, recorded, record_change, record_revision, kept, keeps}
+use Rattle.etcd_model.specs.Store.{Store, IsStore, after, reads_of, record_cells, reserved_cells, cells, kept_store}
+use Rattle.etcd_model.specs.Held.{keep}
 use Rattle.etcd_model.proofs.OrderLaws.{bytes_eq-key_cmp}
 use Rattle.model_laws.specs.Recording.{by_key}
-use Rattle.model_laws.specs.Space.{if_row, room, KeepIsStore, AfterIsStore, CompactIsStore, PutTakesCells, DeleteTakesItsRoom, DeleteTakesNone, FinishTakesNone, FinishTakesKeys, NoPutTakesNone, CompactionTakesNone, RecordsAreUsedCells}
+use Rattle.model_laws.specs.Space.{if_row, room, KeepIsStore, AfterIsStore, CompactIsStore, PutTakesCells, DeleteTakesItsRoom, DeleteTakesNone, FinishTakesNone, FinishTakesKeys, NoPutTakesNone, CompactionTakesNone, RecordsAreUsedCells, KeysAreReserved}
 use Rattle.model_laws.proofs.LastLaws.{true_or_false}
 use Rattle.model_laws.proofs.KeptLaws.{all_kept, kept_rises, kept_true, kept_false}
 use Rattle.model_laws.proofs.RowLaws.{has_key, rows_by_their_keys, not_found, row_found, rows_rise, same_rows, live-key}
@@ -130,7 +125,7 @@ cells_push n xs y own oy low = omega (arith, rows_push (λ row. cost_delete row.
 -- ---- pending changes
 
 -- the records with some changes pending
-abbrev pend : Store → List Change → List Recorded
+abbrev pub pend : Store → List Change → List Recorded
 pend s cs = record_revision (s.current + 1) s.changes cs
 
 own_pend : (s : Store) (cs : List Change) → IsStore s → AllByRecursion OwnRow (pend s cs)
@@ -140,7 +135,7 @@ own_pend s cs is = own_fold s.changes (map (entry_at (s.current + 1)) cs) is.own
 live_next : (s : Store) → IsStore s → (key : List ℕ) → live key s.current s.changes ≡ live key (s.current + 1) s.changes
 live_next s is key = live_later key s.current (s.current + 1) s.changes is.up (omega arith)
 
-row_pending : (s : Store) (cs : List Change) → IsStore s → (key : List ℕ) → (reads_of (after s cs)).row key ≡ live key (s.current + 1) (pend s cs)
+pub row_pending : (s : Store) (cs : List Change) → IsStore s → (key : List ℕ) → (reads_of (after s cs)).row key ≡ live key (s.current + 1) (pend s cs)
 row_pending s [] is key = live_next s is key
 row_pending s (c ∷ cs) is key = refl
 
@@ -315,6 +310,13 @@ compaction_takes_none s r is from to = omega (arith, fewer_records r s.changes, 
 
 pub records_are_used_cells : RecordsAreUsedCells
 records_are_used_cells t = omega arith
+
+pub a_cell_each : (rs : List KeyValue) → length rs ≤ sum_by (λ row. cost_delete row.key) rs
+a_cell_each [] = omega arith
+a_cell_each (r ∷ rs) = omega (arith, sum_by-cons (λ (row : KeyValue). cost_delete row.key) r rs, a_cell_each rs)
+
+pub keys_are_reserved : KeysAreReserved
+keys_are_reserved s = a_cell_each (rows every_key s.current s.changes)
 
 -- ---- stores
 

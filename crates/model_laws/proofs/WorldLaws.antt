@@ -1,10 +1,10 @@
 -- What a tenant is answered alone is a function of its state and its own events.
-use Rattle.std.proofs.Common.{◌≡◌, ℕ, List, [], ◌∷◌, refl, ap, ◌∙◌, sym}
+use Rattle.std.proofs.Common.{◌≡◌, List, [], ◌∷◌, refl, ap, ◌∙◌, sym}
 use Rattle.std.specs.Prelude.{Bool, true, false, cond, filter}
 use Rattle.std.proofs.lemmas.List.Elements.{filter-append}
 use Rattle.etcd_model.specs.declared.state.History.{History}
 use Rattle.etcd_model.specs.declared.state.State.{State}
-use Rattle.etcd_model.specs.Alone.{Event, Turn, is_own, own, asked, alone, alone_after}
+use Rattle.etcd_model.specs.Alone.{is_own, own, asked, alone, alone_after}
 use Rattle.model_laws.specs.Worlds.{OwnOfOwn, OwnOfAppended, TwoWorlds}
 
 filter_twice : {X : Type 0} (p : X → Bool) (xs : List X) → filter p (filter p xs) ≡ filter p xs

@@ -6,12 +6,10 @@ use Rattle.etcd_model.specs.declared.state.History.{History}
 use Rattle.etcd_model.specs.declared.state.Change.{Change}
 use Rattle.etcd_model.specs.History.{current}
 use Rattle.etcd_model.specs.declared.state.State.{State}
-use Rattle.etcd_model.specs.Tenant.{Outcome}
 use Rattle.etcd_model.specs.Machine as machine
 use Rattle.etcd_model.specs.Machine.{opening}
 use Rattle.etcd_model.specs.Stepping as stepping
 use Rattle.etcd_model.specs.Kept as over_history
-use Rattle.etcd_model.specs.Changes.{ChangesOnce}
 use Rattle.etcd_model.specs.Store as store
 use Rattle.etcd_model.specs.Store.{Store, kept_store}
 use Rattle.etcd_model.specs.Held.{keep, empty_store, over, outcome_over, IsHistory, Holds}
@@ -26,6 +24,17 @@ KeepCompact = (H : History) (r : ℕ) → H.compacted ≤ r → store.compact (k
 
 abbrev pub KeepReads : Type 0
 KeepReads = (H : History) → H.compacted ≤ current H → store.reads_of (keep H) ≡ machine.reads_of H
+
+-- with changes pending too
+abbrev pub KeepLook : Type 0
+KeepLook = (H : History) → H.compacted ≤ current H → kept_store.look (keep H) ≡ machine.history.look H
+
+-- what a watch is still to be told of, and what a key was before a change
+abbrev pub KeepAhead : Type 0
+KeepAhead = (H : History) → H.compacted ≤ current H → kept_store.ahead (keep H) ≡ machine.history.ahead H
+
+abbrev pub KeepRowAt : Type 0
+KeepRowAt = (H : History) → H.compacted ≤ current H → kept_store.row_at (keep H) ≡ machine.history.row_at H
 
 abbrev pub KeepCells : Type 0
 KeepCells = (H : History) → IsHistory H → store.cells (keep H) ≡ over_history.cells H

@@ -1,12 +1,10 @@
 -- Laws: what a compaction keeps, and what can still be read of it.
-use Rattle.std.specs.Prelude.{◌≡◌, ℕ, ◌<◌, ◌≤◌, Bool, List, [], ◌∷◌, ◌++◌, map, filter}
+use Rattle.std.specs.Prelude.{◌≡◌, ℕ, ◌<◌, ◌≤◌, Bool, List, ◌++◌, map}
 use Rattle.std.specs.List.{AllByRecursion}
-use Rattle.etcd_model.specs.History as history
 use Rattle.etcd_model.specs.declared.state.History.{History}
-use Rattle.etcd_model.specs.declared.state.Change.{Change}
 use Rattle.etcd_model.specs.declared.state.Entry.{Entry}
 use Rattle.etcd_model.specs.Kept as over_history
-use Rattle.etcd_model.specs.Changes.{Recorded, OwnRow, ChangesOnce, entry_of, changes_of, recorded, last, live, rows, since, kept, Rises}
+use Rattle.etcd_model.specs.Changes.{Recorded, OwnRow, ChangesOnce, entry_of, changes_of, recorded, live, rows, since, kept, Rises}
 
 -- changes after the compaction are kept as they come
 abbrev pub KeptOfAppended : Type 0

@@ -5,3 +5,4 @@ pub mod Space
 pub mod Worlds
 pub mod Leases
 pub mod Runs
+pub mod Once

@@ -1,5 +1,5 @@
 -- Laws: the recorded changes of a history are the history.
-use Rattle.std.specs.Prelude.{◌≡◌, ℕ, ◌+◌, ◌≤◌, Bool, List, [], ◌∷◌, map, find, Option, Some, option_map}
+use Rattle.std.specs.Prelude.{◌≡◌, ℕ, ◌+◌, ◌≤◌, ◌⊎◌, Bool, true, List, [], ◌∷◌, map, find, Some, None, option_map}
 use Rattle.std.specs.List.{AllByRecursion}
 use Rattle.std.specs.List.Sorted.{IsStrictlySortedBy}
 use Rattle.std.specs.Option.{option_to_list}
@@ -12,7 +12,7 @@ use Rattle.etcd_model.specs.History as history
 use Rattle.etcd_model.specs.declared.state.History.{History}
 use Rattle.etcd_model.specs.declared.state.Change.{Change}
 use Rattle.etcd_model.specs.History.{entries, current, last_change, kv}
-use Rattle.etcd_model.specs.Changes.{Recorded, OwnRow, entry_of, changes_of, record_revision, last, live, rows, Rises}
+use Rattle.etcd_model.specs.Changes.{Recorded, OwnRow, entry_of, changes_of, record_revision, is_up_to, last, live, rows, Rises}
 
 -- with their revisions alone they are the changes of the history, in order
 abbrev pub ChangesAreEntries : Type 0
@@ -42,6 +42,24 @@ LiveOfChanges = (H : History) (key : List ℕ) (r : ℕ) → live key r (changes
 
 abbrev pub RowsOfChanges : Type 0
 RowsOfChanges = (H : History) (interval : List ℕ → Bool) (r : ℕ) → rows interval r (changes_of H) ≡ history.rows H interval r
+
+-- ---- the last change of a key, among those that a store finds
+
+-- q is one of a list
+abbrev pub IsIn : {X : Type 0} → X → List X → Type 0
+IsIn q [] = ⊥
+IsIn q (x ∷ xs) = (q ≡ x) ⊎ IsIn q xs
+
+-- It is the one of the greatest revision up to r, where that is alone of its key and revision.
+abbrev pub LastIs : Type 0
+LastIs = (xs : List Recorded) (key : List ℕ) (r : ℕ) (k : Recorded) → Rises xs → IsIn k xs → is_up_to key r k ≡ true
+    → ((w : Recorded) → IsIn w xs → is_up_to key r w ≡ true → w.revision ≤ k.revision)
+    → ((w : Recorded) → IsIn w xs → w.key ≡ k.key → w.revision ≡ k.revision → w ≡ k)
+    → last key r xs ≡ Some k
+
+-- where none is up to r there is none
+abbrev pub LastOfNone : Type 0
+LastOfNone = (xs : List Recorded) (key : List ℕ) (r : ℕ) → ((w : Recorded) → IsIn w xs → is_up_to key r w ≡ true → ⊥) → last key r xs ≡ None
 
 -- ---- rows
 

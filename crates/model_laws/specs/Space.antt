@@ -1,13 +1,10 @@
 -- Laws: what a step makes of the cells in use.
-use Rattle.std.specs.Prelude.{◌≡◌, ℕ, ◌+◌, ◌-◌, ◌≤◌, Bool, true, false, not, ℤ, List, [], ◌∷◌, ◌++◌, length, map, Option, Some, None}
+use Rattle.std.specs.Prelude.{◌≡◌, ℕ, ◌+◌, ◌-◌, ◌≤◌, true, false, ℤ, List, [], ◌∷◌, ◌++◌, length, map, Option, Some, None}
 use Rattle.std.specs.List.Sorted.{IsStrictlySortedBy}
-use Rattle.std.specs.Ordering.{int_cmp, on}
-use Rattle.std.specs.declared.cmp.Ordering.{Ordering}
 use Rattle.etcd_types.specs.declared.key_value.KeyValue.{KeyValue}
 use Rattle.etcd_types.specs.declared.kv.DeleteReq.{DeleteReq}
 use Rattle.etcd_types.specs.declared.txn.Op.{Op}
 use Rattle.etcd_types.specs.declared.txn.Op.TheVariants.{Delete as DeleteOp}
-use Rattle.etcd_model.specs.declared.state.Lease.{Lease}
 use Rattle.etcd_model.specs.declared.state.History.{History}
 use Rattle.etcd_model.specs.declared.state.Change.{Change}
 use Rattle.etcd_model.specs.declared.state.Change.TheVariants.{Put as Set, Delete as Del}
@@ -15,11 +12,11 @@ use Rattle.etcd_model.specs.Kept.{cost_put, cost_delete}
 use Rattle.etcd_model.specs.Operations.{and_changes, pending_after, adds_any, has_lease}
 use Rattle.etcd_model.specs.declared.state.State.{State}
 use Rattle.etcd_model.specs.Tenant.{used}
-use Rattle.etcd_model.specs.Leases.{attached}
+use Rattle.etcd_model.specs.Leases.{attached, finish}
 use Rattle.etcd_model.specs.Interval.{every_key}
 use Rattle.etcd_model.specs.Changes.{rows}
 use Rattle.etcd_model.specs.Store.{Store, IsStore, after, compact, reads_of, record_cells, reserved_cells, cells, kept_store}
-use Rattle.etcd_model.specs.Held.{keep, IsHistory}
+use Rattle.etcd_model.specs.Held.{keep, IsHistory, by_id}
 
 -- ---- stores as appends and compactions make them
 
@@ -71,6 +68,10 @@ FinishTakesKeys = (s : Store) (id : ℤ) → IsStore s
     → length (rows every_key (after s (map Del (attached (reads_of s) id))).current (after s (map Del (attached (reads_of s) id))).changes) + length (attached (reads_of s) id)
     ≡ length (rows every_key s.current s.changes)
 
+-- so the end of a lease frees the cell of the lease itself
+abbrev pub FinishFreesACell : Type 0
+FinishFreesACell = (t : State Store) (id : ℤ) → IsStore t.store → IsStrictlySortedBy by_id t.leases → has_lease t.leases id ≡ true → used kept_store (finish kept_store t id) + 1 ≡ used kept_store t
+
 -- and a compaction takes none
 abbrev pub CompactionTakesNone : Type 0
 CompactionTakesNone = (s : Store) (r : ℕ) → IsStore s → s.compacted ≤ r → r ≤ s.current → cells (compact s r) ≤ cells s
@@ -78,3 +79,7 @@ CompactionTakesNone = (s : Store) (r : ℕ) → IsStore s → s.compacted ≤ r 
 -- the cells of the records are those in use without the reserved ones
 abbrev pub RecordsAreUsedCells : Type 0
 RecordsAreUsedCells = (t : State Store) → record_cells t.store.changes + length t.leases ≡ used kept_store t - reserved_cells t.store.current t.store.changes
+
+-- there is a reserved cell for each live key at least
+abbrev pub KeysAreReserved : Type 0
+KeysAreReserved = (s : Store) → length (rows every_key s.current s.changes) ≤ reserved_cells s.current s.changes

@@ -1,5 +1,5 @@
 //! What is kept of a history answers as the history does: a step over it is the step over the history.
-ghost use Rattle.model_laws.specs.Holding.{BeforeSpaceOverKept, HeldAfterStep, HeldBeforeSpace, KeepAfter, KeepCells, KeepCompact, KeepReads, OpeningIsHeld, OpeningIsHistory, StepIsHistory, StepOverKept};
+ghost use Rattle.model_laws.specs.Holding.{BeforeSpaceOverKept, HeldAfterStep, HeldBeforeSpace, KeepAfter, KeepAhead, KeepCells, KeepCompact, KeepLook, KeepReads, KeepRowAt, OpeningIsHeld, OpeningIsHistory, StepIsHistory, StepOverKept};
 
 /// One more revision of what is kept is what is kept with one more revision.
 pub fn keep_after()
@@ -14,6 +14,21 @@ pub fn keep_compact()
 /// What can be read of what is kept is what can be read of the history.
 pub fn keep_reads()
     ensures { KeepReads }
+{}
+
+/// So it is with changes pending.
+pub fn keep_look()
+    ensures { KeepLook }
+{}
+
+/// What is kept tells a watch what the history tells it.
+pub fn keep_ahead()
+    ensures { KeepAhead }
+{}
+
+/// What is kept shows of a key before a change what the history shows.
+pub fn keep_row_at()
+    ensures { KeepRowAt }
 {}
 
 /// What is kept takes the cells that the history counts.

@@ -7,6 +7,7 @@
 pub mod holding;
 pub mod keeping;
 pub mod leases;
+pub mod once;
 pub mod recording;
 pub mod runs;
 pub mod space;

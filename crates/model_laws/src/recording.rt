@@ -1,5 +1,5 @@
 //! The recorded changes of a history are the history.
-ghost use Rattle.model_laws.specs.Recording.{ChangesAfter, ChangesAreEntries, ChangesOwnTheirRows, ChangesRise, ChangesUpToCurrent, LastOfChanges, LiveOfChanges, RowsAscend, RowsByTheirKeys, RowsOfChanges, RowsOfOneKey};
+ghost use Rattle.model_laws.specs.Recording.{ChangesAfter, ChangesAreEntries, ChangesOwnTheirRows, ChangesRise, ChangesUpToCurrent, LastIs, LastOfChanges, LastOfNone, LiveOfChanges, RowsAscend, RowsByTheirKeys, RowsOfChanges, RowsOfOneKey};
 
 /// With their revisions alone, the recorded changes are the changes of the history, in order.
 pub fn changes_are_entries()
@@ -29,6 +29,16 @@ pub fn changes_own_their_rows()
 /// The last recorded change of a key up to a revision is its last change.
 pub fn last_of_changes()
     ensures { LastOfChanges }
+{}
+
+/// The last change of a key is the one of the greatest revision.
+pub fn last_is()
+    ensures { LastIs }
+{}
+
+/// Where no change of a key is up to a revision, there is no last one.
+pub fn last_of_none()
+    ensures { LastOfNone }
 {}
 
 /// What a key shows among the recorded changes is its key-value.

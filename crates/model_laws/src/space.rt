@@ -1,5 +1,5 @@
 //! What a step makes of the cells in use.
-ghost use Rattle.model_laws.specs.Space.{AfterIsStore, CompactIsStore, CompactionTakesNone, DeleteTakesItsRoom, DeleteTakesNone, FinishTakesKeys, FinishTakesNone, KeepIsStore, NoPutTakesNone, PutTakesCells, RecordsAreUsedCells};
+ghost use Rattle.model_laws.specs.Space.{AfterIsStore, CompactIsStore, CompactionTakesNone, DeleteTakesItsRoom, DeleteTakesNone, FinishFreesACell, FinishTakesKeys, FinishTakesNone, KeepIsStore, KeysAreReserved, NoPutTakesNone, PutTakesCells, RecordsAreUsedCells};
 
 /// What is kept of a history is a store as appends and compactions make it.
 pub fn keep_is_store()
@@ -54,4 +54,14 @@ pub fn compaction_takes_none()
 /// The records take the cells in use without the reserved ones.
 pub fn records_are_used_cells()
     ensures { RecordsAreUsedCells }
+{}
+
+/// The end of a lease frees the cell of the lease itself.
+pub fn finish_frees_a_cell()
+    ensures { FinishFreesACell }
+{}
+
+/// There is a reserved cell for each live key at least.
+pub fn keys_are_reserved()
+    ensures { KeysAreReserved }
 {}

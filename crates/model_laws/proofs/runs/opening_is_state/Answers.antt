@@ -1,4 +1,4 @@
-use Rattle.model_laws.proofs.RunLaws.{opening_is_state}
+use Rattle.model_laws.proofs.StateLaws.{opening_is_state}
 use Rattle.model_laws.proofs.runs.opening_is_state.Goals as goal
 
 pub returns : goal.returns

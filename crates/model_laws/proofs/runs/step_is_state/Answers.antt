@@ -1,4 +1,4 @@
-use Rattle.model_laws.proofs.RunLaws.{step_is_state}
+use Rattle.model_laws.proofs.StateLaws.{step_is_state}
 use Rattle.model_laws.proofs.runs.step_is_state.Goals as goal
 
 pub returns : goal.returns

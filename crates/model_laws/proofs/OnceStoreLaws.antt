@@ -1,0 +1,136 @@
+-- A step's writes over what is kept change no key twice.
+use Rattle.std.proofs.Common.{◌≡◌, ℕ, ◌+◌, ◌≤◌, List, [], ◌∷◌, ◌++◌, length, refl, ap, ◌∙◌, sym, arith, subst, map}
+use Rattle.std.specs.Prelude.{Bool, true, false, cond, ◌&&◌, ◌||◌, fold, filter, find, Some, None, nat_le, if◌then◌else◌}
+use Rattle.std.specs.List.{AllByRecursion, list_any}
+use Rattle.std.specs.Ordering.{int_eq}
+use Rattle.std.specs.Str.{bytes_eq}
+use Rattle.std.specs.Cmp.Lexicographic.{bytes_decides}
+use Rattle.std.proofs.lemmas.Bool.{le-leb, or_parts, or_from, true≢false, false_from_ne_true}
+use Rattle.std.proofs.Common.{append_assoc}
+use Rattle.std.proofs.lemmas.List.{append-nil}
+use Rattle.std.proofs.lemmas.List.Kept.{IsStrictlySortedBy-filter}
+use Rattle.std.proofs.lemmas.Map.Views.{any-filter_same}
+use Rattle.std.proofs.lemmas.Simd.{map-map}
+use Rattle.etcd_types.specs.declared.key_value.KeyValue.{KeyValue}
+use Rattle.etcd_model.specs.declared.state.Change.{Change}
+use Rattle.etcd_model.specs.declared.state.Change.TheVariants.{Delete as Del}
+use Rattle.etcd_model.specs.History.{key_of}
+use Rattle.etcd_model.specs.Interval.{is_in, every_key}
+use Rattle.etcd_model.specs.Leases.{attached}
+use Rattle.etcd_model.specs.Changes.{Recorded, entry_at, next_row, live, rows, recorded, record_revision}
+use Rattle.etcd_model.specs.Store.{Store, IsStore, after, reads_of, kept_store}
+use Rattle.etcd_model.proofs.HistoryLaws.{changes_of}
+use Rattle.etcd_model.proofs.OnceLaws.{Shows, branch_once, taken_branch, no_delete, one_delete, at_most_one, IsDeleteAtMost, ChangesOnce-run, ChangesOnce-opening}
+use Rattle.model_laws.specs.Recording.{by_key}
+use Rattle.model_laws.specs.Once.{RunChangesOnce, OpeningChangesOnce, TakenBranchIsDistinct, BranchChangesOnce, FinishChangesOnce, RecordedWhereOnce}
+use Rattle.model_laws.proofs.RowLaws.{has_key, row_found, rows_inside, rows_rise}
+use Rattle.model_laws.proofs.RecordedLaws.{live_push}
+use Rattle.model_laws.proofs.SpaceLaws.{row_pending, after_is_store}
+
+pub run_changes_once : RunChangesOnce
+run_changes_once = ChangesOnce-run
+
+pub opening_changes_once : OpeningChangesOnce
+opening_changes_once = ChangesOnce-opening
+
+pub taken_branch_is_distinct : TakenBranchIsDistinct
+taken_branch_is_distinct = taken_branch
+
+-- ---- a key with changes pending
+
+-- the changes of a revision, one after another, make a key's row
+live_revision : (key : List ℕ) (n : ℕ) (xs : List Recorded) (cs : List Change) → live key n (record_revision n xs cs) ≡ fold (next_row n) (live key n xs) (changes_of key cs)
+live_revision key n xs [] = refl
+live_revision key n xs (c ∷ cs) =
+    let y = recorded xs (entry_at n c) in
+    let here : nat_le n n ≡ true = le-leb n n (omega arith) in
+    live_revision key n (xs ++ y ∷ []) cs
+    ∙ ap (λ o. fold (next_row n) o (changes_of key cs)) (live_push key n xs y ∙ ap (λ (t : Bool). if bytes_eq (key_of c) key && t then y.row else live key n xs) here)
+    ∙ elim (bytes_eq (key_of c) key) as (λ b. bytes_eq (key_of c) key ≡ b → fold (next_row n) (if b && true then y.row else live key n xs) (changes_of key cs) ≡ fold (next_row n) (live key n xs) (cond b (c ∷ changes_of key cs) (changes_of key cs))) [
+      | true ↦ λ e. ap (λ k. fold (next_row n) (next_row n (live k n xs) c) (changes_of key cs)) ((bytes_decides (key_of c) key).0 e)
+      | false ↦ λ e. refl
+    ] refl
+
+none_found : (key : List ℕ) (rs : List KeyValue) → find (has_key key) rs ≡ None → list_any (has_key key) rs ≡ false
+none_found key [] h = refl
+none_found key (r ∷ rs) h = step (none_found key rs) (bytes_eq r.key key) h
+  where
+    step : (find (has_key key) rs ≡ None → list_any (has_key key) rs ≡ false) → (b : Bool) → cond b (Some r) (find (has_key key) rs) ≡ None → (b || list_any (has_key key) rs) ≡ false
+    step rest true e = let bad : ⊥ = cc in absurd bad
+    step rest false e = rest e
+
+none_passing : (key : List ℕ) (q : KeyValue → Bool) (rs : List KeyValue) → list_any (has_key key) rs ≡ false → list_any (has_key key) (filter q rs) ≡ false
+none_passing key q [] h = refl
+none_passing key q (r ∷ rs) h =
+    let parts = or_parts (bytes_eq r.key key) (list_any (has_key key) rs) h in
+    let rest = none_passing key q rs parts.1 in
+    elim (q r) as (λ b. list_any (has_key key) (cond b (r ∷ filter q rs) (filter q rs)) ≡ false) [ true ↦ or_from (bytes_eq r.key key) (list_any (has_key key) (filter q rs)) parts.0 rest | false ↦ rest ]
+
+shows : (s : Store) → IsStore s → (key : List ℕ) → Shows (kept_store.look s) key
+shows s is key = record {
+  gone = λ pending k e. row_pending s pending is key ∙ live_revision key (s.current + 1) s.changes pending ∙ ap (fold (next_row (s.current + 1)) (live key (s.current + 1) s.changes)) e;
+  ascend = λ pending first end. let T = after s pending in rows_rise T.changes (after_is_store s pending is).own T.current (is_in first end);
+  not_live = λ pending first end h.
+      let T = after s pending in
+      let own = (after_is_store s pending is).own in
+      let all = rows every_key T.current T.changes in
+      no_delete key (rows (is_in first end) T.current T.changes)
+      (ap (list_any (has_key key)) (rows_inside T.changes own T.current (is_in first end))
+      ∙ none_passing key (λ row. is_in first end row.key) all (none_found key all (row_found T.changes own T.current key ∙ h)));
+  not_inside = λ pending first end h.
+      let T = after s pending in
+      let own = (after_is_store s pending is).own in
+      let all = rows every_key T.current T.changes in
+      no_delete key (rows (is_in first end) T.current T.changes)
+      (ap (list_any (has_key key)) (rows_inside T.changes own T.current (is_in first end))
+      ∙ any-filter_same (has_key key) (λ (row : KeyValue). is_in first end row.key) false (λ row t. ap (is_in first end) ((bytes_decides row.key key).0 t) ∙ h) all);
+}
+
+pub branch_changes_once : BranchChangesOnce
+branch_changes_once s ops is distinct key = branch_once (kept_store.look s) key (shows s is key) ops distinct
+
+pub finish_changes_once : FinishChangesOnce
+finish_changes_once s id is key =
+    let held : KeyValue → Bool = λ row. int_eq row.lease id in
+    let rs = rows (is_in (0 ∷ []) (0 ∷ [])) s.current s.changes in
+    at_most_one (changes_of key (map Del (attached (reads_of s) id)))
+    (subst (λ cs. IsDeleteAtMost (changes_of key cs)) (sym (map-map Del (λ (row : KeyValue). row.key) (filter held rs)))
+    (one_delete key (filter held rs) (IsStrictlySortedBy-filter by_key held rs (rows_rise s.changes is.own s.current (is_in (0 ∷ []) (0 ∷ []))))))
+
+-- ---- where each key is there once
+
+keys_apart : (key : List ℕ) (cs : List Change) → length (changes_of key cs) ≤ 0 → AllByRecursion (λ d. bytes_eq (key_of d) key ≡ false) cs
+keys_apart key [] few = tt
+keys_apart key (d ∷ ds) few = elim (bytes_eq (key_of d) key) as (λ b. bytes_eq (key_of d) key ≡ b → length (cond b (d ∷ changes_of key ds) (changes_of key ds)) ≤ 0 → AllByRecursion (λ c. bytes_eq (key_of c) key ≡ false) (d ∷ ds)) [
+  | true ↦ λ e h. absurd (omega (arith, h))
+  | false ↦ λ e h. (e, keys_apart key ds h)
+] refl few
+
+-- a change of another key is recorded as before
+recorded_other : (n : ℕ) (xs : List Recorded) (y : Recorded) (c : Change) → bytes_eq (key_of c) y.key ≡ false → recorded (xs ++ y ∷ []) (entry_at n c) ≡ recorded xs (entry_at n c)
+recorded_other n xs y c apart =
+    let other : bytes_eq y.key (key_of c) ≡ false = false_from_ne_true (bytes_eq y.key (key_of c)) (λ t. true≢false (sym ((bytes_decides (key_of c) y.key).1 (sym ((bytes_decides y.key (key_of c)).0 t))) ∙ apart)) in
+    ap (λ o. record { key = key_of c; revision = n; row = next_row n o c }) (live_push (key_of c) n xs y ∙ ap (λ (b : Bool). if b && nat_le y.revision n then y.row else live (key_of c) n xs) other)
+
+others_recorded : (n : ℕ) (xs : List Recorded) (y : Recorded) (cs : List Change) → AllByRecursion (λ d. bytes_eq (key_of d) y.key ≡ false) cs → map (λ c. recorded (xs ++ y ∷ []) (entry_at n c)) cs ≡ map (λ c. recorded xs (entry_at n c)) cs
+others_recorded n xs y [] apart = refl
+others_recorded n xs y (c ∷ cs) apart =
+    ap (λ (x : Recorded). x ∷ map (λ d. recorded (xs ++ y ∷ []) (entry_at n d)) cs) (recorded_other n xs y c apart.0)
+    ∙ ap (λ ys. recorded xs (entry_at n c) ∷ ys) (others_recorded n xs y cs apart.1)
+
+pub recorded_where_once : RecordedWhereOnce
+recorded_where_once n xs [] once = sym (append-nil xs)
+recorded_where_once n xs (c ∷ cs) once =
+    let y = recorded xs (entry_at n c) in
+    let apart = keys_apart (key_of c) cs (no_more (bytes_eq (key_of c) (key_of c)) ((bytes_decides (key_of c) (key_of c)).1 refl) (once (key_of c))) in
+    recorded_where_once n (xs ++ y ∷ []) cs (λ key. fewer key (bytes_eq (key_of c) key) (once key))
+    ∙ ap (λ ys. (xs ++ y ∷ []) ++ ys) (others_recorded n xs y cs apart)
+    ∙ append_assoc xs (y ∷ []) (map (λ d. recorded xs (entry_at n d)) cs)
+  where
+    no_more : (b : Bool) → b ≡ true → length (cond b (c ∷ changes_of (key_of c) cs) (changes_of (key_of c) cs)) ≤ 1 → length (changes_of (key_of c) cs) ≤ 0
+    no_more true t h = omega (arith, h)
+    no_more false t h = absurd (true≢false (sym t))
+
+    fewer : (key : List ℕ) (b : Bool) → length (cond b (c ∷ changes_of key cs) (changes_of key cs)) ≤ 1 → length (changes_of key cs) ≤ 1
+    fewer key true h = omega (arith, h)
+    fewer key false h = h
