@@ -10,3 +10,4 @@ pub mod Fronts
 pub mod Turning
 pub mod Rewriting
 pub mod Starting
+pub mod Zones

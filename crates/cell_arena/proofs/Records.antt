@@ -152,8 +152,8 @@ seen_free t seen is = sym (ap (λ (h : Held). h.free) is)
 pub seen_reserved : (t : Table) (seen : Held) → held_of t ≡ seen → seen.reserved ≡ t.reserved
 seen_reserved t seen is = sym (ap (λ (h : Held). h.reserved) is)
 
-pub seen_drawn : (t : Table) (seen : Held) → held_of t ≡ seen → seen.drawn ≡ t.drawn
-seen_drawn t seen is = sym (ap (λ (h : Held). h.drawn) is)
+pub seen_drawn : (t : Table) (seen : Held) → IsTable t → held_of t ≡ seen → seen.drawn ≡ t.drawn
+seen_drawn t seen table is = sym (ap (λ (h : Held). h.drawn) is) ∙ sym table.busy
 
 -- what holds of the record of a head
 pub at_some : (at : ℕ → Cell) (k : ℕ) (kind : Kind) (head : HeadCell) (P : Record → Type 0) → at k ≡ Head kind head → P (record_with kind head (chain_bytes at (head_pieces head) head.first)) → IfSome (record_at at k) P

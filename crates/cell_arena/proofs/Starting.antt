@@ -16,7 +16,7 @@ use Rattle.cell_arena.specs.declared.table.Table.{Table}
 use Rattle.cell_arena.specs.Chain.{IsBare, AllBare, IsLinked, Record, cell_at, link_of, record_of}
 use Rattle.cell_arena.specs.Held.{Held, held_of, IsSound}
 use Rattle.cell_arena.specs.Order.{IsOrder, count_of}
-use Rattle.cell_arena.specs.Table.{IsTable, IsSlot, slot_cells, hidden, table_at, free_of, used_of}
+use Rattle.cell_arena.specs.Table.{IsTable, IsSlot, slot_cells, hidden, table_at, free_of, used_of, busy_of}
 use Rattle.cell_arena.proofs.Records.{empty_is, get_held}
 use Rattle.cell_arena.proofs.Tables.{none_listed}
 
@@ -80,6 +80,7 @@ bare_slot slot place bare =
 pub bare_table : (t : Table) → AllBare t.slots.items → length t.slots.items ≤ 2 ^ 14 → IsOrder t.order → count_of t.order ≡ length t.slots.items → t.ready ≡ 0 → t.drawn ≡ 0 → t.used ≡ 0 → t.reserved ≤ length t.slots.items → IsTable t
 bare_table t all few order size ready drawn used reserved =
     let none_free = bare_sum free_of t.slots.items (λ slot bare. bare.free) all in
+    let none_busy = bare_sum busy_of t.slots.items (λ slot bare. omega (arith, none_in slot bare)) all in
     let none_used = bare_sum used_of t.slots.items (λ slot bare. none_in slot bare) all in
     record {
       few = few;
@@ -89,6 +90,7 @@ bare_table t all few order size ready drawn used reserved =
       drawn = omega arith;
       reserved = reserved;
       slots = λ s slot less read. subst (λ r. IsSlot r t.drawn (get_or t.order.place.items s 0) slot) (sym ready) (subst (λ d. IsSlot 0 d (get_or t.order.place.items s 0) slot) (sym drawn) (bare_slot slot (get_or t.order.place.items s 0) (bare_at t.slots.items all s slot less read)));
+      busy = drawn ∙ sym none_busy;
       held = used ∙ sym none_used;
       used = omega (arith, none_free);
     }
@@ -117,8 +119,9 @@ bare_sound t table all = record {
     no_link : (i n : ℕ) → link_of (table_at t i) ≡ Some n → ⊥
     no_link i n names = let none = ap link_of (bare_cell t all i) in cc
 
-pub bare_held : (t : Table) (cells : ℕ) → AllBare t.slots.items → t.reserved ≡ cells / 64 → t.drawn ≡ 0 → t.used ≡ 0 → cells % 64 ≡ 0 → held_of t ≡ record { records = empty; free = cells; reserved = cells / 64; drawn = 0 }
-bare_held t cells all reserved drawn used whole =
+pub bare_held : (t : Table) (cells : ℕ) → IsTable t → AllBare t.slots.items → t.reserved ≡ cells / 64 → t.drawn ≡ 0 → t.used ≡ 0 → cells % 64 ≡ 0 → held_of t ≡ record { records = empty; free = cells; reserved = cells / 64; drawn = 0 }
+bare_held t cells table all reserved drawn used whole =
     let records : (held_of t).records ≡ empty = empty_is (held_of t).records (λ q. get_held t q ∙ ap (record_of (table_at t)) (bare_cell t all q)) in
     let free : 64 * t.reserved - t.used ≡ cells = omega (arith, reserved, used, whole) in
-    λ i. record { records = records i; free = free i; reserved = reserved i; drawn = drawn i }
+    let none : sum_by busy_of t.slots.items ≡ 0 = sym table.busy ∙ drawn in
+    λ i. record { records = records i; free = free i; reserved = reserved i; drawn = none i }

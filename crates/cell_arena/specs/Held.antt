@@ -1,5 +1,5 @@
 -- What a contract sees of a region.
-use Rattle.std.specs.Prelude.{◌≡◌, ℕ, zero, suc, ◌+◌, ◌-◌, ◌*◌, ◌/◌, ◌<◌, ◌≤◌, List, [], ◌∷◌, ◌++◌, take, length, Option, Some, None, ℤ, refl}
+use Rattle.std.specs.Prelude.{◌≡◌, ℕ, zero, suc, ◌+◌, ◌-◌, ◌*◌, ◌/◌, ◌<◌, ◌≤◌, List, [], ◌∷◌, ◌++◌, take, length, sum_by, Option, Some, None, ℤ, refl}
 use Rattle.std.specs.Ordering.{nat_cmp}
 use Rattle.std.specs.FinMap.{FinMap, from_entries}
 use Rattle.std.specs.Coded.{Coded, code_by, coded×, coded_ℕ, coded_ℤ, coded_list, coded_option}
@@ -10,10 +10,10 @@ use Rattle.cell_arena.specs.declared.cell.Kind.TheVariants.{Put, Delete, Lease}
 use Rattle.cell_arena.specs.declared.cell.Fields.{Fields}
 use Rattle.cell_arena.specs.declared.table.Table.{Table}
 use Rattle.cell_arena.specs.Chain.{IsLinked, record_at, Record, pieces}
-use Rattle.cell_arena.specs.Table.{IsTable, table_at}
+use Rattle.cell_arena.specs.Table.{IsTable, table_at, busy_of}
 
--- the records by their head cells, how many cells are free of those reserved, and how many
--- segments are reserved and drawn
+-- the records by their head cells, how many cells are free of those reserved, how many segments
+-- are reserved, and how many have a cell in use, which are the drawn ones
 pub record Held : Type 0 where
   pub records : FinMap nat_cmp Record
   pub free : ℕ
@@ -40,7 +40,7 @@ kind_code = code_by ℕ coded_ℕ kind_number kind_from kind_again
 
 abbrev pub fields_code : Coded Fields
 fields_code =
-    code_by ((ℤ × ℤ) × (ℤ × ℤ)) (coded× (coded× coded_ℤ coded_ℤ) (coded× coded_ℤ coded_ℤ))
+    code_by ((ℕ × ℕ) × (ℕ × ℤ)) (coded× (coded× coded_ℕ coded_ℕ) (coded× coded_ℕ coded_ℤ))
     (λ f. ((f.revision, f.create_revision), (f.version, f.lease)))
     (λ p. record { revision = p.0.0; create_revision = p.0.1; version = p.1.0; lease = p.1.1 })
     (λ _. refl)
@@ -80,7 +80,7 @@ held_of t = record {
   records = records_of (table_at t) (64 * length t.slots.items);
   free = 64 * t.reserved - t.used;
   reserved = t.reserved;
-  drawn = t.drawn;
+  drawn = sum_by busy_of t.slots.items;
 }
 
 -- how many cells are in use

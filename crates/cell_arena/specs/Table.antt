@@ -1,5 +1,5 @@
 -- A table of segments.
-use Rattle.std.specs.Prelude.{◌≡◌, ℕ, ◌+◌, ◌-◌, ◌*◌, ◌/◌, ◌%◌, ◌^◌, ◌<◌, ◌≤◌, List, [], map, max, length, Option, Some, None, sum_by, slice_get, slice_index_or}
+use Rattle.std.specs.Prelude.{◌≡◌, ℕ, ◌+◌, ◌-◌, ◌*◌, ◌/◌, ◌%◌, ◌^◌, ◌<◌, ◌≤◌, min, List, [], map, max, length, Option, Some, None, sum_by, slice_get, slice_index_or}
 use Rattle.cell_arena.specs.declared.cell.Cell.{Cell}
 use Rattle.cell_arena.specs.declared.cell.Cell.TheVariants.{Free, Head, Rest}
 use Rattle.cell_arena.specs.declared.slot.Slot.{Slot}
@@ -38,6 +38,10 @@ free_of slot = slot.free
 abbrev pub used_of : Slot → ℕ
 used_of slot = length slot.cells.items - slot.free
 
+-- 1 where a cell is in use, and else 0
+abbrev pub busy_of : Slot → ℕ
+busy_of slot = min 1 (used_of slot)
+
 -- first the slots with free cells, then the full ones, then those without a segment
 pub record IsTable (t : Table) : Type 0 where
   pub few : length t.slots.items ≤ 2 ^ 14
@@ -47,6 +51,7 @@ pub record IsTable (t : Table) : Type 0 where
   pub drawn : t.drawn ≤ t.reserved
   pub reserved : t.reserved ≤ length t.slots.items
   pub slots : (s : ℕ) (slot : Slot) → s < length t.slots.items → slice_index_or t.slots.items s slot ≡ slot → IsSlot t.ready t.drawn (place_of t.order s) slot
+  pub busy : t.drawn ≡ sum_by busy_of t.slots.items
   pub held : t.used ≡ sum_by used_of t.slots.items
   pub used : t.used + sum_by free_of t.slots.items ≡ 64 * t.drawn
 

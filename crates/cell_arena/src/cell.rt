@@ -18,11 +18,11 @@ pub enum Kind {
 #[derive(Clone, Copy, Debug, PartialEq, Eq)]
 pub struct Fields {
     /// The revision that made the record.
-    pub revision: i64,
+    pub revision: u64,
     /// The revision that made its key, when it was last made.
-    pub create_revision: i64,
+    pub create_revision: u64,
     /// How many puts its key has had since then.
-    pub version: i64,
+    pub version: u64,
     /// The lease that it is attached to, or 0; of a lease its ID.
     pub lease: i64,
 }

@@ -14,66 +14,66 @@ use etcd_types::CellNo;
 
 // Copies the first cells of a chain, each before the one that was copied before it.
 fn copy_cells<S: Segments>(
-    t: &mut Table,
+    table: &mut Table,
     segments: &mut S,
     first: Link,
     cells: usize,
     count: usize,
 ) -> Link
-    requires table { IsTable t.old }
-    requires linked { IsLinked (table_at t.old) }
-    requires chain { IsChain (table_at t.old) cells first }
+    requires table { IsTable table.old }
+    requires linked { IsLinked (table_at table.old) }
+    requires chain { IsChain (table_at table.old) cells first }
     requires fits { count ≤ cells }
-    requires room { t.old.used + count ≤ 64 * t.old.reserved }
-    requires left { S.left segments.old + t.old.drawn ≡ t.old.reserved }
-    ensures table { IsTable t.new }
-    ensures linked { IsLinked (table_at t.new) }
-    ensures chain { IsChain (table_at t.new) count result }
-    ensures loose { IsLoose (table_at t.new) result }
-    ensures bytes { turned_bytes (table_at t.new) count result ≡ take (count * 48) (chain_bytes (table_at t.old) cells first) }
-    ensures used { t.new.used ≡ t.old.used + count }
-    ensures kept { SameRecords (table_at t.old) (table_at t.new) }
-    ensures reserved { t.new.reserved ≡ t.old.reserved }
-    ensures length { length t.new.slots.items ≡ length t.old.slots.items }
-    ensures left { S.left segments.new + t.new.drawn ≡ S.left segments.old + t.old.drawn }
-    ensures room { S.room segments.new + t.old.drawn ≡ S.room segments.old + t.new.drawn }
+    requires room { table.old.used + count ≤ 64 * table.old.reserved }
+    requires left { S.left segments.old + table.old.drawn ≡ table.old.reserved }
+    ensures table { IsTable table.new }
+    ensures linked { IsLinked (table_at table.new) }
+    ensures chain { IsChain (table_at table.new) count result }
+    ensures loose { IsLoose (table_at table.new) result }
+    ensures bytes { turned_bytes (table_at table.new) count result ≡ take (count * 48) (chain_bytes (table_at table.old) cells first) }
+    ensures used { table.new.used ≡ table.old.used + count }
+    ensures kept { SameRecords (table_at table.old) (table_at table.new) }
+    ensures reserved { table.new.reserved ≡ table.old.reserved }
+    ensures length { length table.new.slots.items ≡ length table.old.slots.items }
+    ensures left { S.left segments.new + table.new.drawn ≡ S.left segments.old + table.old.drawn }
+    ensures room { S.room segments.new + table.old.drawn ≡ S.room segments.old + table.new.drawn }
     ensures others { S.others segments.new ≡ S.others segments.old }
-    ensures draws { t.new.drawn ≡ max t.old.drawn (segments_for t.new.used) }
+    ensures draws { table.new.drawn ≡ max table.old.drawn (segments_for table.new.used) }
 {
     let mut source = first;
     let mut back = Link::none();
     'copying: for _i in 0..count {
-        let (_at, bytes, next) = rest_at(t, source);
+        let (_at, bytes, next) = rest_at(table, source);
         let cell = Cell::Rest(*bytes, back);
-        back = Link::to(table::put(t, segments, cell));
+        back = Link::to(table::put(table, segments, cell));
         source = next;
     }
     back
 }
 
 // Links the cells of a chain the other way round.
-fn turn_chain(t: &mut Table, first: Link, count: usize) -> Link
-    requires table { IsTable t.old }
-    requires linked { IsLinked (table_at t.old) }
-    requires chain { IsChain (table_at t.old) count first }
-    requires loose { IsLoose (table_at t.old) first }
-    ensures table { IsTable t.new }
-    ensures linked { IsLinked (table_at t.new) }
-    ensures chain { IsChain (table_at t.new) count result }
-    ensures loose { IsLoose (table_at t.new) result }
-    ensures bytes { chain_bytes (table_at t.new) count result ≡ turned_bytes (table_at t.old) count first }
-    ensures used { t.new.used ≡ t.old.used }
-    ensures drawn { t.new.drawn ≡ t.old.drawn }
-    ensures kept { SameRecords (table_at t.old) (table_at t.new) }
-    ensures reserved { t.new.reserved ≡ t.old.reserved }
-    ensures length { length t.new.slots.items ≡ length t.old.slots.items }
+fn turn_chain(table: &mut Table, first: Link, count: usize) -> Link
+    requires table { IsTable table.old }
+    requires linked { IsLinked (table_at table.old) }
+    requires chain { IsChain (table_at table.old) count first }
+    requires loose { IsLoose (table_at table.old) first }
+    ensures table { IsTable table.new }
+    ensures linked { IsLinked (table_at table.new) }
+    ensures chain { IsChain (table_at table.new) count result }
+    ensures loose { IsLoose (table_at table.new) result }
+    ensures bytes { chain_bytes (table_at table.new) count result ≡ turned_bytes (table_at table.old) count first }
+    ensures used { table.new.used ≡ table.old.used }
+    ensures drawn { table.new.drawn ≡ table.old.drawn }
+    ensures kept { SameRecords (table_at table.old) (table_at table.new) }
+    ensures reserved { table.new.reserved ≡ table.old.reserved }
+    ensures length { length table.new.slots.items ≡ length table.old.slots.items }
 {
     let mut back = first;
     let mut next = Link::none();
     'turning: for _i in 0..count {
-        let (at, bytes, rest) = rest_at(t, back);
+        let (at, bytes, rest) = rest_at(table, back);
         let cell = Cell::Rest(*bytes, next);
-        table::rewrite(t, at, cell);
+        table::rewrite(table, at, cell);
         next = Link::to(at);
         back = rest;
     }
@@ -82,38 +82,38 @@ fn turn_chain(t: &mut Table, first: Link, count: usize) -> Link
 
 // Adds a delete record of the key of another record.
 pub fn place_delete<S: Segments>(
-    t: &mut Table,
+    table: &mut Table,
     segments: &mut S,
     of: CellNo,
     fields: Fields,
 ) -> CellNo
-    requires table { IsTable t.old }
-    requires linked { IsLinked (table_at t.old) }
-    requires head { is_head (table_at t.old of) ≡ true }
-    requires room { IfSome (record_at (table_at t.old) of) (λ r. t.old.used + (1 + cells_for (length r.key)) ≤ 64 * t.old.reserved) }
-    requires left { S.left segments.old + t.old.drawn ≡ t.old.reserved }
-    ensures table { IsTable t.new }
-    ensures linked { IsLinked (table_at t.new) }
-    ensures used { IfSome (record_at (table_at t.old) of) (λ r. t.new.used ≡ t.old.used + (1 + cells_for (length r.key))) }
-    ensures fresh { record_at (table_at t.old) result ≡ None }
-    ensures placed { IfSome (record_at (table_at t.old) of) (λ r. record_at (table_at t.new) result ≡ Some (record { kind = Kind.Delete; fields = fields; key = r.key; value = []; older = None })) }
-    ensures kept { SameRecordsBut result (table_at t.old) (table_at t.new) }
-    ensures reserved { t.new.reserved ≡ t.old.reserved }
-    ensures length { length t.new.slots.items ≡ length t.old.slots.items }
-    ensures left { S.left segments.new + t.new.drawn ≡ S.left segments.old + t.old.drawn }
-    ensures room { S.room segments.new + t.old.drawn ≡ S.room segments.old + t.new.drawn }
+    requires table { IsTable table.old }
+    requires linked { IsLinked (table_at table.old) }
+    requires head { is_head (table_at table.old of) ≡ true }
+    requires room { IfSome (record_at (table_at table.old) of) (λ r. table.old.used + (1 + cells_for (length r.key)) ≤ 64 * table.old.reserved) }
+    requires left { S.left segments.old + table.old.drawn ≡ table.old.reserved }
+    ensures table { IsTable table.new }
+    ensures linked { IsLinked (table_at table.new) }
+    ensures used { IfSome (record_at (table_at table.old) of) (λ r. table.new.used ≡ table.old.used + (1 + cells_for (length r.key))) }
+    ensures fresh { record_at (table_at table.old) result ≡ None }
+    ensures placed { IfSome (record_at (table_at table.old) of) (λ r. record_at (table_at table.new) result ≡ Some (record { kind = Kind.Delete; fields = fields; key = r.key; value = []; older = None })) }
+    ensures kept { SameRecordsBut result (table_at table.old) (table_at table.new) }
+    ensures reserved { table.new.reserved ≡ table.old.reserved }
+    ensures length { length table.new.slots.items ≡ length table.old.slots.items }
+    ensures left { S.left segments.new + table.new.drawn ≡ S.left segments.old + table.old.drawn }
+    ensures room { S.room segments.new + table.old.drawn ≡ S.room segments.old + table.new.drawn }
     ensures others { S.others segments.new ≡ S.others segments.old }
-    ensures draws { t.new.drawn ≡ max t.old.drawn (segments_for t.new.used) }
+    ensures draws { table.new.drawn ≡ max table.old.drawn (segments_for table.new.used) }
 {
-    let (_kind, head) = head_at(t, of);
+    let (_kind, head) = head_at(table, of);
     let key_len = head.key_len;
     let source = head.first;
     let cells = pieces(key_len as usize + head.value_len as usize);
     let count = pieces(key_len as usize);
-    let back = copy_cells(t, segments, source, cells, count);
-    let first = turn_chain(t, back, count);
+    let back = copy_cells(table, segments, source, cells, count);
+    let first = turn_chain(table, back, count);
     table::put(
-        t,
+        table,
         segments,
         Cell::Head(
             Kind::Delete,

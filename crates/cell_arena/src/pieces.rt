@@ -18,9 +18,9 @@ fn fill(out: &mut [u8], at: usize, from: &[u8]) -> usize
     ensures count { result ≡ min (length out.old - at) (length from.now) }
     ensures bytes { out.new ≡ take at out.old ++ (take result from.now ++ drop (at + result) out.old) }
 {
-    let n = from.len().min(out.len() - at);
-    out[at..at + n].copy_from_slice(&from[..n]);
-    n
+    let count = from.len().min(out.len() - at);
+    out[at..at + count].copy_from_slice(&from[..count]);
+    count
 }
 
 // The first bytes of one text followed by another.
@@ -29,8 +29,8 @@ fn piece_of(front: &[u8], back: &[u8]) -> [u8; 48]
     ensures bytes { take (length front.now + length back.now) result ≡ take 48 (front.now ++ back.now) }
 {
     let mut out = [0; 48];
-    let n = fill(&mut out, 0, front);
-    fill(&mut out, n, back);
+    let filled = fill(&mut out, 0, front);
+    fill(&mut out, filled, back);
     out
 }
 

@@ -15,23 +15,23 @@ use etcd_types::Mem;
 use std::cmp::Ordering;
 
 // Gives a part of a chain's bytes, a piece a cell.
-pub fn read_part<S: Sink>(t: &Table, part: Part, sink: &mut S) -> Mem<()>
-    requires { IsPart (table_at t.now) part }
-    ensures ok { OnOk result (S.taken sink.new ≡ S.taken sink.old ++ part_bytes (table_at t.now) part) }
-    ensures err { OnErr result (IsFrontOf (part_bytes (table_at t.now) part) (S.taken sink.old) (S.taken sink.new)) }
+pub fn read_part<S: Sink>(table: &Table, part: Part, sink: &mut S) -> Mem<()>
+    requires { IsPart (table_at table.now) part }
+    ensures ok { OnOk result (S.taken sink.new ≡ S.taken sink.old ++ part_bytes (table_at table.now) part) }
+    ensures err { OnErr result (IsFrontOf (part_bytes (table_at table.now) part) (S.taken sink.old) (S.taken sink.new)) }
 {
     let mut link = part.first;
     let mut cells_left = part.cells;
     let mut skip = part.from;
     let mut left = part.count;
     'reading: while left > 0 {
-        let (_at, bytes, next) = rest_at(t, link);
+        let (_at, bytes, next) = rest_at(table, link);
         cells_left -= 1;
         link = next;
         if skip < CELL_BYTES {
-            let n = left.min(CELL_BYTES - skip);
-            sink.put(&bytes[skip..skip + n])?;
-            left -= n;
+            let wanted = left.min(CELL_BYTES - skip);
+            sink.put(&bytes[skip..skip + wanted])?;
+            left -= wanted;
             skip = 0;
         } else {
             skip -= CELL_BYTES;
@@ -41,9 +41,9 @@ pub fn read_part<S: Sink>(t: &Table, part: Part, sink: &mut S) -> Mem<()>
 }
 
 // How a part of a chain's bytes stands to a text, in byte order.
-pub fn compare_part(t: &Table, part: Part, text: &[u8]) -> Ordering
-    requires { IsPart (table_at t.now) part }
-    ensures { result ≡ slice_cmp nat_cmp (part_bytes (table_at t.now) part) text.now }
+pub fn compare_part(table: &Table, part: Part, text: &[u8]) -> Ordering
+    requires { IsPart (table_at table.now) part }
+    ensures { result ≡ slice_cmp nat_cmp (part_bytes (table_at table.now) part) text.now }
 {
     let mut link = part.first;
     let mut cells_left = part.cells;
@@ -51,18 +51,18 @@ pub fn compare_part(t: &Table, part: Part, text: &[u8]) -> Ordering
     let mut left = part.count;
     let mut rest = text;
     'comparing: while left > 0 {
-        let (_at, bytes, next) = rest_at(t, link);
+        let (_at, bytes, next) = rest_at(table, link);
         cells_left -= 1;
         link = next;
         if skip < CELL_BYTES {
-            let n = left.min(CELL_BYTES - skip);
-            let m = n.min(rest.len());
-            match bytes[skip..skip + n].cmp(&rest[..m]) {
+            let wanted = left.min(CELL_BYTES - skip);
+            let compared = wanted.min(rest.len());
+            match bytes[skip..skip + wanted].cmp(&rest[..compared]) {
                 Ordering::Equal => {}
                 unequal => return unequal,
             }
-            rest = &rest[m..];
-            left -= n;
+            rest = &rest[compared..];
+            left -= wanted;
             skip = 0;
         } else {
             skip -= CELL_BYTES;

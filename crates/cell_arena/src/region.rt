@@ -120,6 +120,7 @@ impl Region {
         ensures free { IfSome (map.get self.old.records cell) (λ r. self.new.free ≡ self.old.free + cost r) }
         ensures reserved { self.new.reserved ≡ self.old.reserved }
         ensures fewer { self.new.drawn ≤ self.old.drawn }
+        ensures busy { self.new.drawn ≤ used_cells self.new }
         ensures left { S.left segments.new + self.new.drawn ≡ S.left segments.old + self.old.drawn }
         ensures room { S.room segments.new + self.old.drawn ≡ S.room segments.old + self.new.drawn }
         ensures others { S.others segments.new ≡ S.others segments.old }

@@ -28,7 +28,7 @@ pub struct Table {
 // A table with so many slots, and no segment.
 pub fn new(alloc: Global, slots: u32) -> Mem<Table>
     requires { slots ≤ 2 ^ 14 }
-    ensures { IfOk result (λ t. IsTable t × AllBare t.slots.items × (length t.slots.items ≡ slots) × (t.reserved ≡ slots) × (t.drawn ≡ 0) × (t.used ≡ 0)) }
+    ensures { IfOk result (λ table. IsTable table × AllBare table.slots.items × (length table.slots.items ≡ slots) × (table.reserved ≡ slots) × (table.drawn ≡ 0) × (table.used ≡ 0)) }
 {
     let order = order::new(alloc, slots)?;
     let mut all = Vec::with_capacity(alloc, slots as usize)?;
@@ -47,185 +47,188 @@ pub fn new(alloc: Global, slots: u32) -> Mem<Table>
 }
 
 // A cell that is in use.
-pub fn look(t: &Table, at: CellNo) -> &Cell
-    requires { is_free (table_at t.now at) ≡ false }
-    ensures { table_at t.now at ≡ result.now }
+pub fn look(table: &Table, at: CellNo) -> &Cell
+    requires { is_free (table_at table.now at) ≡ false }
+    ensures { table_at table.now at ≡ result.now }
 {
-    &t.slots[at.slot() as usize].cells[at.place() as usize]
+    &table.slots[at.slot() as usize].cells[at.place() as usize]
 }
 
 // Writes a free cell of the segments that are drawn.
-fn put_open(t: &mut Table, cell: Cell) -> CellNo
-    requires table { IsTable t.old }
-    requires ready { 0 < t.old.ready }
+fn put_open(table: &mut Table, cell: Cell) -> CellNo
+    requires table { IsTable table.old }
+    requires ready { 0 < table.old.ready }
     requires used { is_free cell ≡ false }
-    ensures table { IsTable t.new }
-    ensures was_free { is_free (table_at t.old result) ≡ true }
-    ensures written { Writes (table_at t.old) (table_at t.new) result cell }
-    ensures used { t.new.used ≡ t.old.used + 1 }
-    ensures drawn { t.new.drawn ≡ t.old.drawn }
-    ensures reserved { t.new.reserved ≡ t.old.reserved }
-    ensures length { length t.new.slots.items ≡ length t.old.slots.items }
+    ensures table { IsTable table.new }
+    ensures was_free { is_free (table_at table.old result) ≡ true }
+    ensures written { Writes (table_at table.old) (table_at table.new) result cell }
+    ensures used { table.new.used ≡ table.old.used + 1 }
+    ensures drawn { table.new.drawn ≡ table.old.drawn }
+    ensures reserved { table.new.reserved ≡ table.old.reserved }
+    ensures length { length table.new.slots.items ≡ length table.old.slots.items }
 {
-    let s = t.order.order[0];
-    let c = &mut t.slots[s as usize];
-    let p = slot::store(c, cell);
-    let left = c.free;
-    t.used += 1;
+    let number = table.order.order[0];
+    let slot = &mut table.slots[number as usize];
+    let place = slot::store(slot, cell);
+    let left = slot.free;
+    table.used += 1;
     if left == 0 {
-        t.ready -= 1;
-        order::swap(&mut t.order, 0, t.ready);
-        return CellNo::at(s, p);
+        table.ready -= 1;
+        order::swap(&mut table.order, 0, table.ready);
+        return CellNo::at(number, place);
     }
-    CellNo::at(s, p)
+    CellNo::at(number, place)
 }
 
 // Draws a segment, and writes one of its cells.
-fn put_drawn<S: Segments>(t: &mut Table, segments: &mut S, cell: Cell) -> CellNo
-    requires table { IsTable t.old }
-    requires none_ready { t.old.ready ≡ 0 }
-    requires some { t.old.drawn < t.old.reserved }
+fn put_drawn<S: Segments>(table: &mut Table, segments: &mut S, cell: Cell) -> CellNo
+    requires table { IsTable table.old }
+    requires none_ready { table.old.ready ≡ 0 }
+    requires some { table.old.drawn < table.old.reserved }
     requires left { 0 < S.left segments.old }
     requires used { is_free cell ≡ false }
-    ensures table { IsTable t.new }
-    ensures was_free { is_free (table_at t.old result) ≡ true }
-    ensures written { Writes (table_at t.old) (table_at t.new) result cell }
-    ensures used { t.new.used ≡ t.old.used + 1 }
-    ensures drawn { t.new.drawn ≡ t.old.drawn + 1 }
-    ensures reserved { t.new.reserved ≡ t.old.reserved }
-    ensures length { length t.new.slots.items ≡ length t.old.slots.items }
+    ensures table { IsTable table.new }
+    ensures was_free { is_free (table_at table.old result) ≡ true }
+    ensures written { Writes (table_at table.old) (table_at table.new) result cell }
+    ensures used { table.new.used ≡ table.old.used + 1 }
+    ensures drawn { table.new.drawn ≡ table.old.drawn + 1 }
+    ensures reserved { table.new.reserved ≡ table.old.reserved }
+    ensures length { length table.new.slots.items ≡ length table.old.slots.items }
     ensures left { S.left segments.new + 1 ≡ S.left segments.old }
     ensures room { S.room segments.new ≡ S.room segments.old + 1 }
     ensures others { S.others segments.new ≡ S.others segments.old }
 {
-    let s = t.order.order[t.drawn as usize];
-    let mut c = slot::clean(segments.draw());
-    let p = slot::store(&mut c, cell);
-    t.slots[s as usize] = c;
-    order::swap(&mut t.order, 0, t.drawn);
-    t.ready = 1;
-    t.drawn += 1;
-    t.used += 1;
-    CellNo::at(s, p)
+    let number = table.order.order[table.drawn as usize];
+    let mut slot = slot::clean(segments.draw());
+    let place = slot::store(&mut slot, cell);
+    table.slots[number as usize] = slot;
+    order::swap(&mut table.order, 0, table.drawn);
+    table.ready = 1;
+    table.drawn += 1;
+    table.used += 1;
+    CellNo::at(number, place)
 }
 
 // Writes a free cell. A segment is drawn only where no cell of the drawn ones is free.
-pub fn put<S: Segments>(t: &mut Table, segments: &mut S, cell: Cell) -> CellNo
-    requires table { IsTable t.old }
-    requires room { t.old.used < 64 * t.old.reserved }
-    requires left { S.left segments.old + t.old.drawn ≡ t.old.reserved }
+pub fn put<S: Segments>(table: &mut Table, segments: &mut S, cell: Cell) -> CellNo
+    requires table { IsTable table.old }
+    requires room { table.old.used < 64 * table.old.reserved }
+    requires left { S.left segments.old + table.old.drawn ≡ table.old.reserved }
     requires used { is_free cell ≡ false }
-    ensures table { IsTable t.new }
-    ensures was_free { is_free (table_at t.old result) ≡ true }
-    ensures written { Writes (table_at t.old) (table_at t.new) result cell }
-    ensures used { t.new.used ≡ t.old.used + 1 }
-    ensures reserved { t.new.reserved ≡ t.old.reserved }
-    ensures length { length t.new.slots.items ≡ length t.old.slots.items }
-    ensures left { S.left segments.new + t.new.drawn ≡ S.left segments.old + t.old.drawn }
-    ensures room { S.room segments.new + t.old.drawn ≡ S.room segments.old + t.new.drawn }
+    ensures table { IsTable table.new }
+    ensures was_free { is_free (table_at table.old result) ≡ true }
+    ensures written { Writes (table_at table.old) (table_at table.new) result cell }
+    ensures used { table.new.used ≡ table.old.used + 1 }
+    ensures reserved { table.new.reserved ≡ table.old.reserved }
+    ensures length { length table.new.slots.items ≡ length table.old.slots.items }
+    ensures left { S.left segments.new + table.new.drawn ≡ S.left segments.old + table.old.drawn }
+    ensures room { S.room segments.new + table.old.drawn ≡ S.room segments.old + table.new.drawn }
     ensures others { S.others segments.new ≡ S.others segments.old }
-    ensures draws { t.new.drawn ≡ max t.old.drawn (segments_for t.new.used) }
+    ensures draws { table.new.drawn ≡ max table.old.drawn (segments_for table.new.used) }
 {
-    if t.ready > 0 {
-        put_open(t, cell)
+    if table.ready > 0 {
+        put_open(table, cell)
     } else {
-        put_drawn(t, segments, cell)
+        put_drawn(table, segments, cell)
     }
 }
 
 // Frees a cell of a segment that has others in use.
-fn free_in(t: &mut Table, s: u32, p: u32)
-    requires table { IsTable t.old }
-    requires small { p < 64 }
-    requires used { is_free (table_at t.old (s * 64 + p)) ≡ false }
-    requires others { (c : Slot) → slice_index_or t.old.slots.items s c ≡ c → c.free ≢ 63 }
-    ensures table { IsTable t.new }
-    ensures written { Writes (table_at t.old) (table_at t.new) (s * 64 + p) (Cell.Free None) }
-    ensures used { t.new.used + 1 ≡ t.old.used }
-    ensures drawn { t.new.drawn ≡ t.old.drawn }
-    ensures reserved { t.new.reserved ≡ t.old.reserved }
-    ensures length { length t.new.slots.items ≡ length t.old.slots.items }
+fn free_in(table: &mut Table, number: u32, place: u32)
+    requires table { IsTable table.old }
+    requires small { place < 64 }
+    requires used { is_free (table_at table.old (number * 64 + place)) ≡ false }
+    requires others { (c : Slot) → slice_index_or table.old.slots.items number c ≡ c → c.free ≢ 63 }
+    ensures table { IsTable table.new }
+    ensures written { Writes (table_at table.old) (table_at table.new) (number * 64 + place) (Cell.Free None) }
+    ensures used { table.new.used + 1 ≡ table.old.used }
+    ensures drawn { table.new.drawn ≡ table.old.drawn }
+    ensures reserved { table.new.reserved ≡ table.old.reserved }
+    ensures length { length table.new.slots.items ≡ length table.old.slots.items }
 {
-    let c = &mut t.slots[s as usize];
-    slot::free_cell(c, p);
-    let free = c.free;
-    t.used -= 1;
+    let slot = &mut table.slots[number as usize];
+    slot::free_cell(slot, place);
+    let free = slot.free;
+    table.used -= 1;
     if free == 1 {
-        let at = t.order.place[s as usize];
-        order::swap(&mut t.order, at, t.ready);
-        t.ready += 1;
+        let at = table.order.place[number as usize];
+        order::swap(&mut table.order, at, table.ready);
+        table.ready += 1;
         return;
     }
 }
 
 // Gives back a segment with one cell in use.
-fn empty_slot<S: Segments>(t: &mut Table, segments: &mut S, s: u32, p: u32)
-    requires table { IsTable t.old }
-    requires small { p < 64 }
-    requires used { is_free (table_at t.old (s * 64 + p)) ≡ false }
-    requires last { (c : Slot) → slice_index_or t.old.slots.items s c ≡ c → c.free ≡ 63 }
+fn empty_slot<S: Segments>(table: &mut Table, segments: &mut S, number: u32, place: u32)
+    requires table { IsTable table.old }
+    requires small { place < 64 }
+    requires used { is_free (table_at table.old (number * 64 + place)) ≡ false }
+    requires last { (c : Slot) → slice_index_or table.old.slots.items number c ≡ c → c.free ≡ 63 }
     requires room { 0 < S.room segments.old }
-    ensures table { IsTable t.new }
-    ensures written { Writes (table_at t.old) (table_at t.new) (s * 64 + p) (Cell.Free None) }
-    ensures used { t.new.used + 1 ≡ t.old.used }
-    ensures drawn { t.new.drawn + 1 ≡ t.old.drawn }
-    ensures reserved { t.new.reserved ≡ t.old.reserved }
-    ensures length { length t.new.slots.items ≡ length t.old.slots.items }
+    ensures table { IsTable table.new }
+    ensures written { Writes (table_at table.old) (table_at table.new) (number * 64 + place) (Cell.Free None) }
+    ensures used { table.new.used + 1 ≡ table.old.used }
+    ensures drawn { table.new.drawn + 1 ≡ table.old.drawn }
+    ensures reserved { table.new.reserved ≡ table.old.reserved }
+    ensures length { length table.new.slots.items ≡ length table.old.slots.items }
     ensures left { S.left segments.new ≡ S.left segments.old + 1 }
     ensures room { S.room segments.new + 1 ≡ S.room segments.old }
     ensures others { S.others segments.new ≡ S.others segments.old }
 {
-    let nothing = slot::none(t.alloc);
+    let nothing = slot::none(table.alloc);
     let Slot {
-        number,
+        number: of_source,
         cells,
         first: _,
         free: _,
-    } = mem::replace(&mut t.slots[s as usize], nothing);
-    segments.give_back(Segment { number, cells });
-    let at = t.order.place[s as usize];
-    t.ready -= 1;
-    order::swap(&mut t.order, at, t.ready);
-    t.drawn -= 1;
-    order::swap(&mut t.order, t.ready, t.drawn);
-    t.used -= 1;
+    } = mem::replace(&mut table.slots[number as usize], nothing);
+    segments.give_back(Segment {
+        number: of_source,
+        cells,
+    });
+    let at = table.order.place[number as usize];
+    table.ready -= 1;
+    order::swap(&mut table.order, at, table.ready);
+    table.drawn -= 1;
+    order::swap(&mut table.order, table.ready, table.drawn);
+    table.used -= 1;
 }
 
 // Frees a cell that is in use, and gives its segment back where that was the last in use.
-pub fn free<S: Segments>(t: &mut Table, segments: &mut S, n: CellNo)
-    requires table { IsTable t.old }
-    requires used { is_free (table_at t.old n) ≡ false }
-    requires room { t.old.drawn ≤ S.room segments.old }
-    ensures table { IsTable t.new }
-    ensures written { Writes (table_at t.old) (table_at t.new) n (Cell.Free None) }
-    ensures used { t.new.used + 1 ≡ t.old.used }
-    ensures reserved { t.new.reserved ≡ t.old.reserved }
-    ensures length { length t.new.slots.items ≡ length t.old.slots.items }
-    ensures left { S.left segments.new + t.new.drawn ≡ S.left segments.old + t.old.drawn }
-    ensures room { S.room segments.new + t.old.drawn ≡ S.room segments.old + t.new.drawn }
+pub fn free<S: Segments>(table: &mut Table, segments: &mut S, at: CellNo)
+    requires table { IsTable table.old }
+    requires used { is_free (table_at table.old at) ≡ false }
+    requires room { table.old.drawn ≤ S.room segments.old }
+    ensures table { IsTable table.new }
+    ensures written { Writes (table_at table.old) (table_at table.new) at (Cell.Free None) }
+    ensures used { table.new.used + 1 ≡ table.old.used }
+    ensures reserved { table.new.reserved ≡ table.old.reserved }
+    ensures length { length table.new.slots.items ≡ length table.old.slots.items }
+    ensures left { S.left segments.new + table.new.drawn ≡ S.left segments.old + table.old.drawn }
+    ensures room { S.room segments.new + table.old.drawn ≡ S.room segments.old + table.new.drawn }
     ensures others { S.others segments.new ≡ S.others segments.old }
-    ensures fewer { t.new.drawn ≤ t.old.drawn }
+    ensures fewer { table.new.drawn ≤ table.old.drawn }
 {
-    let s = n.slot();
-    if t.slots[s as usize].free == 63 {
-        empty_slot(t, segments, s, n.place());
+    let number = at.slot();
+    if table.slots[number as usize].free == 63 {
+        empty_slot(table, segments, number, at.place());
     } else {
-        free_in(t, s, n.place());
+        free_in(table, number, at.place());
     }
 }
 
 // Writes a cell that is in use and stays so.
-pub fn rewrite(t: &mut Table, at: CellNo, cell: Cell)
-    requires table { IsTable t.old }
-    requires used { is_free (table_at t.old at) ≡ false }
+pub fn rewrite(table: &mut Table, at: CellNo, cell: Cell)
+    requires table { IsTable table.old }
+    requires used { is_free (table_at table.old at) ≡ false }
     requires stays { is_free cell ≡ false }
-    ensures table { IsTable t.new }
-    ensures written { Writes (table_at t.old) (table_at t.new) at cell }
-    ensures used { t.new.used ≡ t.old.used }
-    ensures drawn { t.new.drawn ≡ t.old.drawn }
-    ensures reserved { t.new.reserved ≡ t.old.reserved }
-    ensures length { length t.new.slots.items ≡ length t.old.slots.items }
+    ensures table { IsTable table.new }
+    ensures written { Writes (table_at table.old) (table_at table.new) at cell }
+    ensures used { table.new.used ≡ table.old.used }
+    ensures drawn { table.new.drawn ≡ table.old.drawn }
+    ensures reserved { table.new.reserved ≡ table.old.reserved }
+    ensures length { length table.new.slots.items ≡ length table.old.slots.items }
 {
-    let c = &mut t.slots[at.slot() as usize];
-    slot::rewrite(c, at.place(), cell);
+    let slot = &mut table.slots[at.slot() as usize];
+    slot::rewrite(slot, at.place(), cell);
 }

@@ -8,7 +8,7 @@ pub freeing-init : goal.freeing-init
 freeing-init g c =
     let e : c.args.count ≡ c.args.count - 0 = omega arith in
     record {
-      freed = subst (λ n. IsFreeing c.args.t.now c.args.t.now n c.args.first c.args.count) e (record {
+      freed = subst (λ n. IsFreeing c.args.table.now c.args.table.now n c.args.first c.args.count) e (record {
         within = omega arith;
         table = c.requires.table;
         linked = c.requires.linked;
@@ -39,9 +39,9 @@ freeing-preserved g c =
     let some : 0 < c.args.count - c.freeing._i = omega arith in
     let e : c.args.count - c.freeing._i - 1 ≡ c.args.count - (c.freeing._i + 1) = omega arith in
     let was = c.freeing.invariant.freed in
-    let next = freed_more c.args.t.now c.freeing.t c.free.new.t (c.args.count - c.freeing._i) c.freeing.link _ c.rest_at-at.result.2 c.args.count c.rest_at-at.result.0 _ some was c.rest_at-at.ensures.link c.rest_at-at.ensures.cell (c.rest_at-at.ensures.rest _ some was.chain) c.free.ensures.table c.free.ensures.used c.free.ensures.written c.free.ensures.reserved c.free.ensures.length in
+    let next = freed_more c.args.table.now c.freeing.table c.free.new.table (c.args.count - c.freeing._i) c.freeing.link _ c.rest_at-at.result.2 c.args.count c.rest_at-at.result.0 _ some was c.rest_at-at.ensures.link c.rest_at-at.ensures.cell (c.rest_at-at.ensures.rest _ some was.chain) c.free.ensures.table c.free.ensures.used c.free.ensures.written c.free.ensures.reserved c.free.ensures.length in
     record {
-      freed = subst (λ n. IsFreeing c.args.t.now c.free.new.t n c.rest_at-at.result.2 c.args.count) e next;
+      freed = subst (λ n. IsFreeing c.args.table.now c.free.new.table n c.rest_at-at.result.2 c.args.count) e next;
       left = omega (arith, c.freeing.invariant.left, c.free.ensures.left);
       room = omega (arith, c.freeing.invariant.room, c.free.ensures.room);
       others = c.free.ensures.others ∙ c.freeing.invariant.others;

@@ -9,9 +9,9 @@ pieces-requires c = omega (arith, c.requires.linked.short c.args.at c.head_at-ki
 
 pub returns-clause-part : goal.returns-clause-part
 returns-clause-part c = record {
-  chain = subst (λ n. IsChain (table_at c.args.t.now) n c.head_at-kind.result.1.now.first) (sym c.pieces.ensures) (c.requires.linked.heads c.args.at c.head_at-kind.result.0 c.head_at-kind.result.1.now c.head_at-kind.ensures);
+  chain = subst (λ n. IsChain (table_at c.args.table.now) n c.head_at-kind.result.1.now.first) (sym c.pieces.ensures) (c.requires.linked.heads c.args.at c.head_at-kind.result.0 c.head_at-kind.result.1.now c.head_at-kind.ensures);
   fits = omega (arith, c.pieces.ensures);
 }
 
 pub returns-clause-bytes : goal.returns-clause-bytes
-returns-clause-bytes c = at_some (table_at c.args.t.now) c.args.at c.head_at-kind.result.0 c.head_at-kind.result.1.now _ c.head_at-kind.ensures (ap (λ n. take c.head_at-kind.result.1.now.key_len (chain_bytes (table_at c.args.t.now) n c.head_at-kind.result.1.now.first)) c.pieces.ensures)
+returns-clause-bytes c = at_some (table_at c.args.table.now) c.args.at c.head_at-kind.result.0 c.head_at-kind.result.1.now _ c.head_at-kind.ensures (ap (λ n. take c.head_at-kind.result.1.now.key_len (chain_bytes (table_at c.args.table.now) n c.head_at-kind.result.1.now.first)) c.pieces.ensures)

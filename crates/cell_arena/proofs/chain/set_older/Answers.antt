@@ -13,7 +13,7 @@ returns-clause-linked c = older_linked _ _ _ c.head_at-kind.result.0 c.head_at-k
 
 pub returns-clause-set : goal.returns-clause-set
 returns-clause-set c =
-    at_some (table_at c.args.t.now) c.args.at c.head_at-kind.result.0 c.head_at-kind.result.1.now (λ (r : Record). record_at (table_at c.rewrite.new.t) c.args.at ≡ Some (record r { older = c.args.older })) c.head_at-kind.ensures
+    at_some (table_at c.args.table.now) c.args.at c.head_at-kind.result.0 c.head_at-kind.result.1.now (λ (r : Record). record_at (table_at c.rewrite.new.table) c.args.at ≡ Some (record r { older = c.args.older })) c.head_at-kind.ensures
     (older_set _ _ _ c.head_at-kind.result.0 c.head_at-kind.result.1.now c.args.older c.rewrite.ensures.written c.requires.linked c.head_at-kind.ensures)
 
 pub returns-clause-kept : goal.returns-clause-kept

@@ -22,14 +22,14 @@ copy_cells-back-requires-clause-fits g c = omega (arith, c.pieces-cells.ensures,
 
 pub copy_cells-back-requires-clause-room : goal.copy_cells-back-requires-clause-room
 copy_cells-back-requires-clause-room g c =
-    let at = table_at c.args.t.now in
-    let room = some_at at c.args.of c.head_at-kind.result.0 c.head_at-kind.result.1.now (λ (r : Record). c.args.t.now.used + (1 + (length r.key + 47) / 48) ≤ 64 * c.args.t.now.reserved) c.head_at-kind.ensures c.requires.room in
+    let at = table_at c.args.table.now in
+    let room = some_at at c.args.of c.head_at-kind.result.0 c.head_at-kind.result.1.now (λ (r : Record). c.args.table.now.used + (1 + (length r.key + 47) / 48) ≤ 64 * c.args.table.now.reserved) c.head_at-kind.ensures c.requires.room in
     omega (arith, room, key_size at c.args.of c.head_at-kind.result.0 c.head_at-kind.result.1.now c.requires.linked c.head_at-kind.ensures, c.pieces-count.ensures)
 
 pub put-requires-clause-room : goal.put-requires-clause-room
 put-requires-clause-room g c =
-    let at = table_at c.args.t.now in
-    let room = some_at at c.args.of c.head_at-kind.result.0 c.head_at-kind.result.1.now (λ (r : Record). c.args.t.now.used + (1 + (length r.key + 47) / 48) ≤ 64 * c.args.t.now.reserved) c.head_at-kind.ensures c.requires.room in
+    let at = table_at c.args.table.now in
+    let room = some_at at c.args.of c.head_at-kind.result.0 c.head_at-kind.result.1.now (λ (r : Record). c.args.table.now.used + (1 + (length r.key + 47) / 48) ≤ 64 * c.args.table.now.reserved) c.head_at-kind.ensures c.requires.room in
     omega (arith, room, key_size at c.args.of c.head_at-kind.result.0 c.head_at-kind.result.1.now c.requires.linked c.head_at-kind.ensures, c.pieces-count.ensures, c.copy_cells-back.ensures.used, c.copy_cells-back.ensures.reserved, c.turn_chain-first.ensures.used, c.turn_chain-first.ensures.reserved)
 
 pub put-requires-clause-left : goal.put-requires-clause-left
@@ -37,24 +37,24 @@ put-requires-clause-left g c = omega (arith, c.requires.left, c.copy_cells-back.
 
 pub returns-clause-linked : goal.returns-clause-linked
 returns-clause-linked g c =
-    let now = table_at c.turn_chain-first.new.t in
+    let now = table_at c.turn_chain-first.new.table in
     let same : c.pieces-count.result ≡ (c.head_at-kind.result.1.now.key_len + 0 + 47) / 48 = omega (arith, c.pieces-count.ensures) in
     let chain = subst (λ n. IsChain now n c.turn_chain-first.result) same c.turn_chain-first.ensures.chain in
     head_linked now _ c.put.result _ _ c.put.ensures.written c.turn_chain-first.ensures.linked c.put.ensures.was_free chain c.turn_chain-first.ensures.loose (omega (arith, c.requires.linked.short c.args.of c.head_at-kind.result.0 c.head_at-kind.result.1.now c.head_at-kind.ensures))
 
 pub returns-clause-used : goal.returns-clause-used
 returns-clause-used g c =
-    let at = table_at c.args.t.now in
-    at_some at c.args.of c.head_at-kind.result.0 c.head_at-kind.result.1.now (λ (r : Record). c.put.new.t.used ≡ c.args.t.now.used + (1 + (length r.key + 47) / 48)) c.head_at-kind.ensures
+    let at = table_at c.args.table.now in
+    at_some at c.args.of c.head_at-kind.result.0 c.head_at-kind.result.1.now (λ (r : Record). c.put.new.table.used ≡ c.args.table.now.used + (1 + (length r.key + 47) / 48)) c.head_at-kind.ensures
     (omega (arith, key_size at c.args.of c.head_at-kind.result.0 c.head_at-kind.result.1.now c.requires.linked c.head_at-kind.ensures, c.pieces-count.ensures, c.copy_cells-back.ensures.used, c.turn_chain-first.ensures.used, c.put.ensures.used))
 
 pub returns-clause-fresh : goal.returns-clause-fresh
-returns-clause-fresh g c = sym (c.turn_chain-first.ensures.kept c.put.result ∙ c.copy_cells-back.ensures.kept c.put.result) ∙ free_is_none (table_at c.turn_chain-first.new.t) (table_at c.turn_chain-first.new.t c.put.result) c.put.ensures.was_free
+returns-clause-fresh g c = sym (c.turn_chain-first.ensures.kept c.put.result ∙ c.copy_cells-back.ensures.kept c.put.result) ∙ free_is_none (table_at c.turn_chain-first.new.table) (table_at c.turn_chain-first.new.table c.put.result) c.put.ensures.was_free
 
 pub returns-clause-placed : goal.returns-clause-placed
 returns-clause-placed g c =
-    let at = table_at c.args.t.now in
-    let now = table_at c.turn_chain-first.new.t in
+    let at = table_at c.args.table.now in
+    let now = table_at c.turn_chain-first.new.table in
     let head = c.head_at-kind.result.1.now in
     let bytes = chain_bytes at (head_pieces head) head.first in
     let key : List ℕ = take head.key_len bytes in
@@ -64,8 +64,8 @@ returns-clause-placed g c =
     let chain = subst (λ n. IsChain now n c.turn_chain-first.result) same c.turn_chain-first.ensures.chain in
     let front : chain_bytes now c.pieces-count.result c.turn_chain-first.result ≡ take (c.pieces-count.result * 48) bytes = c.turn_chain-first.ensures.bytes ∙ c.copy_cells-back.ensures.bytes ∙ ap (λ n. take (c.pieces-count.result * 48) (chain_bytes at n head.first)) c.pieces-cells.ensures in
     let holds = subst (λ n. take (length (key ++ [])) (chain_bytes now n c.turn_chain-first.result) ≡ key ++ []) same (delete_bytes head.key_len c.pieces-count.result bytes (chain_bytes now c.pieces-count.result c.turn_chain-first.result) front (omega (arith, c.pieces-count.ensures)) (omega (arith, all))) in
-    at_some at c.args.of c.head_at-kind.result.0 c.head_at-kind.result.1.now (λ (r : Record). record_at (table_at c.put.new.t) c.put.result ≡ Some (record { kind = Delete; fields = c.args.fields; key = r.key; value = []; older = None })) c.head_at-kind.ensures
-    (rw c.none.ensures at (head_stands now (table_at c.put.new.t) c.put.result _ _ key [] c.put.ensures.written c.turn_chain-first.ensures.linked c.put.ensures.was_free chain c.turn_chain-first.ensures.loose (sym long) refl holds))
+    at_some at c.args.of c.head_at-kind.result.0 c.head_at-kind.result.1.now (λ (r : Record). record_at (table_at c.put.new.table) c.put.result ≡ Some (record { kind = Delete; fields = c.args.fields; key = r.key; value = []; older = None })) c.head_at-kind.ensures
+    (rw c.none.ensures at (head_stands now (table_at c.put.new.table) c.put.result _ _ key [] c.put.ensures.written c.turn_chain-first.ensures.linked c.put.ensures.was_free chain c.turn_chain-first.ensures.loose (sym long) refl holds))
 
 pub returns-clause-kept : goal.returns-clause-kept
 returns-clause-kept g c q other =

@@ -9,7 +9,7 @@ turning-init c =
     let e : c.args.count ≡ c.args.count - 0 = omega arith in
     record {
       table = c.requires.table;
-      turning = subst (λ n. IsTurning (table_at c.args.t.now) 0 n c.none-next.result c.args.first (turned_bytes (table_at c.args.t.now) c.args.count c.args.first ++ [])) e (turning_none (table_at c.args.t.now) c.args.count c.none-next.result c.args.first c.requires.linked c.none-next.ensures c.requires.chain c.requires.loose);
+      turning = subst (λ n. IsTurning (table_at c.args.table.now) 0 n c.none-next.result c.args.first (turned_bytes (table_at c.args.table.now) c.args.count c.args.first ++ [])) e (turning_none (table_at c.args.table.now) c.args.count c.none-next.result c.args.first c.requires.linked c.none-next.ensures c.requires.chain c.requires.loose);
       used = refl;
       drawn = refl;
       kept = λ q. refl;
@@ -34,12 +34,12 @@ turning-preserved c =
     let chain = c.rest_at-at.ensures.rest left some was.turning.behind in
     let done : suc c.turning._i ≡ c.turning._i + 1 = omega arith in
     let fewer : left - 1 ≡ c.args.count - (c.turning._i + 1) = omega arith in
-    let bytes = turned_bytes (table_at c.args.t.now) c.args.count c.args.first ++ [] in
-    let more = turned_more (table_at c.turning.t) (table_at c.rewrite.new.t) c.turning._i left c.rest_at-at.result.0 c.turning.next c.turning.back c.rest_at-at.result.2 c.rest_at-at.result.1.now bytes was.turning some c.rest_at-at.ensures.link c.rest_at-at.ensures.cell c.rest_at-at.ensures.size chain c.rewrite.ensures.written in
-    let same = turned_same (table_at c.turning.t) (table_at c.rewrite.new.t) c.turning._i left c.rest_at-at.result.0 c.turning.next c.turning.back c.rest_at-at.result.2 c.rest_at-at.result.1.now bytes was.turning some c.rest_at-at.ensures.link c.rest_at-at.ensures.cell c.rest_at-at.ensures.size chain c.rewrite.ensures.written in
+    let bytes = turned_bytes (table_at c.args.table.now) c.args.count c.args.first ++ [] in
+    let more = turned_more (table_at c.turning.table) (table_at c.rewrite.new.table) c.turning._i left c.rest_at-at.result.0 c.turning.next c.turning.back c.rest_at-at.result.2 c.rest_at-at.result.1.now bytes was.turning some c.rest_at-at.ensures.link c.rest_at-at.ensures.cell c.rest_at-at.ensures.size chain c.rewrite.ensures.written in
+    let same = turned_same (table_at c.turning.table) (table_at c.rewrite.new.table) c.turning._i left c.rest_at-at.result.0 c.turning.next c.turning.back c.rest_at-at.result.2 c.rest_at-at.result.1.now bytes was.turning some c.rest_at-at.ensures.link c.rest_at-at.ensures.cell c.rest_at-at.ensures.size chain c.rewrite.ensures.written in
     record {
       table = c.rewrite.ensures.table;
-      turning = rw c.to-next.ensures (subst (λ n. IsTurning (table_at c.rewrite.new.t) (c.turning._i + 1) n (Some c.rest_at-at.result.0) c.rest_at-at.result.2 bytes) fewer (subst (λ n. IsTurning (table_at c.rewrite.new.t) n (left - 1) (Some c.rest_at-at.result.0) c.rest_at-at.result.2 bytes) done more));
+      turning = rw c.to-next.ensures (subst (λ n. IsTurning (table_at c.rewrite.new.table) (c.turning._i + 1) n (Some c.rest_at-at.result.0) c.rest_at-at.result.2 bytes) fewer (subst (λ n. IsTurning (table_at c.rewrite.new.table) n (left - 1) (Some c.rest_at-at.result.0) c.rest_at-at.result.2 bytes) done more));
       used = c.rewrite.ensures.used ∙ was.used;
       drawn = c.rewrite.ensures.drawn ∙ was.drawn;
       kept = λ q. same q ∙ was.kept q;
@@ -56,7 +56,7 @@ returns-clause-linked c = c.turning.invariant.turning.linked
 pub returns-clause-chain : goal.returns-clause-chain
 returns-clause-chain c =
     let e : c.turning._i ≡ c.args.count = omega arith in
-    subst (λ n. IsChain (table_at c.turning.t) n c.turning.next) e c.turning.invariant.turning.turned
+    subst (λ n. IsChain (table_at c.turning.table) n c.turning.next) e c.turning.invariant.turning.turned
 
 pub returns-clause-loose : goal.returns-clause-loose
 returns-clause-loose c = c.turning.invariant.turning.loose
@@ -64,8 +64,8 @@ returns-clause-loose c = c.turning.invariant.turning.loose
 pub returns-clause-bytes : goal.returns-clause-bytes
 returns-clause-bytes c =
     let e : c.turning._i ≡ c.args.count = omega arith in
-    subst (λ n. chain_bytes (table_at c.turning.t) n c.turning.next ≡ turned_bytes (table_at c.args.t.now) c.args.count c.args.first) e
-    (turned_all (table_at c.turning.t) c.turning._i (c.args.count - c.turning._i) c.turning.next c.turning.back (turned_bytes (table_at c.args.t.now) c.args.count c.args.first) (omega arith) c.turning.invariant.turning)
+    subst (λ n. chain_bytes (table_at c.turning.table) n c.turning.next ≡ turned_bytes (table_at c.args.table.now) c.args.count c.args.first) e
+    (turned_all (table_at c.turning.table) c.turning._i (c.args.count - c.turning._i) c.turning.next c.turning.back (turned_bytes (table_at c.args.table.now) c.args.count c.args.first) (omega arith) c.turning.invariant.turning)
 
 pub returns-clause-kept : goal.returns-clause-kept
 returns-clause-kept c = c.turning.invariant.kept

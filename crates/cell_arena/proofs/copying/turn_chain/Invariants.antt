@@ -6,11 +6,11 @@ use Rattle.cell_arena.proofs.copying.turn_chain.Given as goal
 
 abbrev pub invariant-turning : goal.invariant-turning
 invariant-turning l = record {
-  table : IsTable l.t;
-  turning : IsTurning (table_at l.t) l._i (l.count - l._i) l.next l.back (turned_bytes (table_at l.initial.t) l.count l.fn.first ++ []);
-  used : l.t.used ≡ l.initial.t.used;
-  drawn : l.t.drawn ≡ l.initial.t.drawn;
-  kept : SameRecords (table_at l.initial.t) (table_at l.t);
-  reserved : l.t.reserved ≡ l.initial.t.reserved;
-  size : length l.t.slots.items ≡ length l.initial.t.slots.items;
+  table : IsTable l.table;
+  turning : IsTurning (table_at l.table) l._i (l.count - l._i) l.next l.back (turned_bytes (table_at l.initial.table) l.count l.fn.first ++ []);
+  used : l.table.used ≡ l.initial.table.used;
+  drawn : l.table.drawn ≡ l.initial.table.drawn;
+  kept : SameRecords (table_at l.initial.table) (table_at l.table);
+  reserved : l.table.reserved ≡ l.initial.table.reserved;
+  size : length l.table.slots.items ≡ length l.initial.table.slots.items;
 }

@@ -3,4 +3,4 @@ use Rattle.cell_arena.proofs.Cutting.{piece_filled}
 use Rattle.cell_arena.proofs.pieces.piece_of.Goals as goal
 
 pub returns-clause-bytes : goal.returns-clause-bytes
-returns-clause-bytes c = piece_filled _ _ _ _ _ _ _ refl c.fill-n.ensures.count c.fill-n.ensures.bytes c.fill.ensures.count c.fill.ensures.bytes
+returns-clause-bytes c = piece_filled _ _ _ _ _ _ _ refl c.fill-filled.ensures.count c.fill-filled.ensures.bytes c.fill.ensures.count c.fill.ensures.bytes

@@ -9,8 +9,8 @@ use Rattle.cell_arena.proofs.reading.compare_part.Given as goal
 abbrev pub invariant-comparing : goal.invariant-comparing
 invariant-comparing l = record {
   fits : l.skip + l.left ≤ l.cells_left * 48;
-  chain : IsChain (table_at l.t) l.cells_left l.link;
-  same : slice_cmp nat_cmp (take l.left (drop l.skip (chain_bytes (table_at l.t) l.cells_left l.link))) l.rest ≡ slice_cmp nat_cmp (part_bytes (table_at l.t) l.fn.part) l.text;
+  chain : IsChain (table_at l.table) l.cells_left l.link;
+  same : slice_cmp nat_cmp (take l.left (drop l.skip (chain_bytes (table_at l.table) l.cells_left l.link))) l.rest ≡ slice_cmp nat_cmp (part_bytes (table_at l.table) l.fn.part) l.text;
 }
 
 abbrev pub decreases-comparing : goal.decreases-comparing

@@ -22,7 +22,7 @@ reading-preserved-then-skip-lt-CELL_BYTES g c =
     record {
       fits = omega (arith, c.reading.invariant.fits);
       chain = c.rest_at-at.ensures.rest _ some c.reading.invariant.chain;
-      read = read_here _ _ _ _ _ _ c.reading.skip c.reading.left c.min-n.result _ c.reading.invariant.read (c.rest_at-at.ensures.bytes _ some c.reading.invariant.chain) c.rest_at-at.ensures.size c.if-skip-lt-CELL_BYTES.true (search rules) c.in_ok-put.ensures.ok (omega arith);
+      read = read_here _ _ _ _ _ _ c.reading.skip c.reading.left c.min-wanted.result _ c.reading.invariant.read (c.rest_at-at.ensures.bytes _ some c.reading.invariant.chain) c.rest_at-at.ensures.size c.if-skip-lt-CELL_BYTES.true (search rules) c.in_ok-put.ensures.ok (omega arith);
       began = (_, begun (g.S.Sink.taken c.args.sink.now) _ c.reading.invariant.began.0 _ _ c.reading.invariant.began.1 c.in_ok-put.ensures.ok);
     }
 
@@ -38,5 +38,5 @@ reading-preserved g c =
 
 pub returns-in_err-put-clause-err : goal.returns-in_err-put-clause-err
 returns-in_err-put-clause-err g c =
-    let rest = take c.reading.left (drop c.reading.skip (chain_bytes (table_at c.args.t.now) c.reading.cells_left c.reading.link)) in
-    held_err c.from_residual.result (IsFrontOf (part_bytes (table_at c.args.t.now) c.args.part) (g.S.Sink.taken c.args.sink.now) (g.S.Sink.taken c.put.new.self)) (front_of (g.S.Sink.taken c.args.sink.now) (g.S.Sink.taken c.put.new.self) c.reading.invariant.began.0 rest (part_bytes (table_at c.args.t.now) c.args.part) (c.in_err-put.ensures.err ∙ c.reading.invariant.began.1) (ap (λ xs. xs ++ rest) c.in_err-put.ensures.err ∙ c.reading.invariant.read))
+    let rest = take c.reading.left (drop c.reading.skip (chain_bytes (table_at c.args.table.now) c.reading.cells_left c.reading.link)) in
+    held_err c.from_residual.result (IsFrontOf (part_bytes (table_at c.args.table.now) c.args.part) (g.S.Sink.taken c.args.sink.now) (g.S.Sink.taken c.put.new.self)) (front_of (g.S.Sink.taken c.args.sink.now) (g.S.Sink.taken c.put.new.self) c.reading.invariant.began.0 rest (part_bytes (table_at c.args.table.now) c.args.part) (c.in_err-put.ensures.err ∙ c.reading.invariant.began.1) (ap (λ xs. xs ++ rest) c.in_err-put.ensures.err ∙ c.reading.invariant.read))

@@ -6,18 +6,18 @@ use Rattle.cell_arena.proofs.table.empty_slot.Goals as goal
 pub returns-clause-table : goal.returns-clause-table
 returns-clause-table g c =
     let read = sym c.index_mut.ensures.value in
-    let less = used_within c.args.t.now c.args.s c.args.p c.requires.small c.requires.used in
-    let after = c.replace-number.ensures.after in
-    let bare : c.replace-number.new.dest.cells.items ≡ [] = ap (λ (x : Slot). x.cells.items) after ∙ c.none-nothing.ensures.cells in
-    let first : c.replace-number.new.dest.first ≡ None = ap (λ (x : Slot). x.first) after ∙ c.none-nothing.ensures.first in
-    let none : c.replace-number.new.dest.free ≡ 0 = ap (λ (x : Slot). x.free) after ∙ c.none-nothing.ensures.free in
-    emptied c.args.t.now c.args.s c.args.p c.index_mut.result.now c.replace-number.new.dest c.swap.new.o c.swap-2.new.o c.requires.table c.requires.small c.requires.used read (c.requires.last _ read)
-    (none_listed c.replace-number.new.dest bare first none) (ap length bare) none
-    c.swap.ensures.count (mid_read c.args.t.now c.args.s c.index-at.result.now c.swap.new.o c.requires.table less c.index-at.ensures c.swap.ensures.places)
+    let less = used_within c.args.table.now c.args.number c.args.place c.requires.small c.requires.used in
+    let after = c.replace-of_source.ensures.after in
+    let bare : c.replace-of_source.new.dest.cells.items ≡ [] = ap (λ (x : Slot). x.cells.items) after ∙ c.none-nothing.ensures.cells in
+    let first : c.replace-of_source.new.dest.first ≡ None = ap (λ (x : Slot). x.first) after ∙ c.none-nothing.ensures.first in
+    let none : c.replace-of_source.new.dest.free ≡ 0 = ap (λ (x : Slot). x.free) after ∙ c.none-nothing.ensures.free in
+    emptied c.args.table.now c.args.number c.args.place c.index_mut.result.now c.replace-of_source.new.dest c.swap.new.o c.swap-2.new.o c.requires.table c.requires.small c.requires.used read (c.requires.last _ read)
+    (none_listed c.replace-of_source.new.dest bare first none) (ap length bare) none
+    c.swap.ensures.count (mid_read c.args.table.now c.args.number c.index-at.result.now c.swap.new.o c.requires.table less c.index-at.ensures c.swap.ensures.places)
     c.swap-2.ensures.order c.swap-2.ensures.count c.swap-2.ensures.places
 
 pub returns-clause-written : goal.returns-clause-written
 returns-clause-written g c =
     let read = sym c.index_mut.ensures.value in
-    let bare : c.replace-number.new.dest.cells.items ≡ [] = ap (λ (x : Slot). x.cells.items) c.replace-number.ensures.after ∙ c.none-nothing.ensures.cells in
-    emptied_written c.args.t.now c.args.s c.args.p c.index_mut.result.now c.replace-number.new.dest c.requires.table c.requires.small c.requires.used read (c.requires.last _ read) bare
+    let bare : c.replace-of_source.new.dest.cells.items ≡ [] = ap (λ (x : Slot). x.cells.items) c.replace-of_source.ensures.after ∙ c.none-nothing.ensures.cells in
+    emptied_written c.args.table.now c.args.number c.args.place c.index_mut.result.now c.replace-of_source.new.dest c.requires.table c.requires.small c.requires.used read (c.requires.last _ read) bare

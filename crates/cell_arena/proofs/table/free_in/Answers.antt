@@ -3,36 +3,36 @@ use Rattle.cell_arena.proofs.Tables.{used_within, used_in, used_drawn, some_used
 use Rattle.cell_arena.proofs.table.free_in.Goals as goal
 
 pub free_cell-requires-clause-used : goal.free_cell-requires-clause-used
-free_cell-requires-clause-used c = used_in c.args.t.now c.args.s c.args.p c.index_mut-c.result.now c.requires.small c.requires.used (sym c.index_mut-c.ensures.value)
+free_cell-requires-clause-used c = used_in c.args.table.now c.args.number c.args.place c.index_mut-slot.result.now c.requires.small c.requires.used (sym c.index_mut-slot.ensures.value)
 
-pub overflow_sub-t : goal.overflow_sub-t
-overflow_sub-t c =
-    let read = sym c.index_mut-c.ensures.value in
-    some_used c.args.t.now c.args.s c.index_mut-c.result.now c.requires.table (used_within c.args.t.now c.args.s c.args.p c.requires.small c.requires.used) read (used_drawn c.args.t.now c.args.s c.args.p c.index_mut-c.result.now c.requires.table c.requires.small c.requires.used read)
+pub overflow_sub-table : goal.overflow_sub-table
+overflow_sub-table c =
+    let read = sym c.index_mut-slot.ensures.value in
+    some_used c.args.table.now c.args.number c.index_mut-slot.result.now c.requires.table (used_within c.args.table.now c.args.number c.args.place c.requires.small c.requires.used) read (used_drawn c.args.table.now c.args.number c.args.place c.index_mut-slot.result.now c.requires.table c.requires.small c.requires.used read)
 
 pub returns-then-free-eq1-clause-table : goal.returns-then-free-eq1-clause-table
 returns-then-free-eq1-clause-table c =
-    let less = used_within c.args.t.now c.args.s c.args.p c.requires.small c.requires.used in
-    free_opened c.args.t.now c.args.s c.args.p c.index_mut-c.result.now c.free_cell.new.slot _ c.requires.table c.requires.small c.requires.used (sym c.index_mut-c.ensures.value) c.free_cell.ensures.listed c.free_cell.ensures.free c.free_cell.ensures.length c.if-free-eq1.true c.swap.ensures.order c.swap.ensures.count
-    (place_read c.args.t.now c.args.s c.index-at.result.now c.swap.new.o c.requires.table less c.index-at.ensures c.swap.ensures.places)
+    let less = used_within c.args.table.now c.args.number c.args.place c.requires.small c.requires.used in
+    free_opened c.args.table.now c.args.number c.args.place c.index_mut-slot.result.now c.free_cell.new.slot _ c.requires.table c.requires.small c.requires.used (sym c.index_mut-slot.ensures.value) c.free_cell.ensures.listed c.free_cell.ensures.free c.free_cell.ensures.length c.if-free-eq1.true c.swap.ensures.order c.swap.ensures.count
+    (place_read c.args.table.now c.args.number c.index-at.result.now c.swap.new.o c.requires.table less c.index-at.ensures c.swap.ensures.places)
 
 pub returns-then-free-eq1-clause-written : goal.returns-then-free-eq1-clause-written
-returns-then-free-eq1-clause-written c = freed_written c.args.t.now c.args.s c.args.p c.index_mut-c.result.now c.free_cell.new.slot _ c.requires.small c.requires.used (sym c.index_mut-c.ensures.value) c.free_cell.ensures.written
+returns-then-free-eq1-clause-written c = freed_written c.args.table.now c.args.number c.args.place c.index_mut-slot.result.now c.free_cell.new.slot _ c.requires.small c.requires.used (sym c.index_mut-slot.ensures.value) c.free_cell.ensures.written
 
 pub returns-then-free-eq1-clause-used : goal.returns-then-free-eq1-clause-used
 returns-then-free-eq1-clause-used c =
-    let read = sym c.index_mut-c.ensures.value in
-    omega (arith, some_used c.args.t.now c.args.s c.index_mut-c.result.now c.requires.table (used_within c.args.t.now c.args.s c.args.p c.requires.small c.requires.used) read (used_drawn c.args.t.now c.args.s c.args.p c.index_mut-c.result.now c.requires.table c.requires.small c.requires.used read))
+    let read = sym c.index_mut-slot.ensures.value in
+    omega (arith, some_used c.args.table.now c.args.number c.index_mut-slot.result.now c.requires.table (used_within c.args.table.now c.args.number c.args.place c.requires.small c.requires.used) read (used_drawn c.args.table.now c.args.number c.args.place c.index_mut-slot.result.now c.requires.table c.requires.small c.requires.used read))
 
 pub returns-clause-table : goal.returns-clause-table
 returns-clause-table c =
-    let read = sym c.index_mut-c.ensures.value in
-    free_kept c.args.t.now c.args.s c.args.p c.index_mut-c.result.now c.free_cell.new.slot c.requires.table c.requires.small c.requires.used read (c.requires.others _ read) c.free_cell.ensures.listed c.free_cell.ensures.free c.free_cell.ensures.length c.if-free-eq1.false
+    let read = sym c.index_mut-slot.ensures.value in
+    free_kept c.args.table.now c.args.number c.args.place c.index_mut-slot.result.now c.free_cell.new.slot c.requires.table c.requires.small c.requires.used read (c.requires.others _ read) c.free_cell.ensures.listed c.free_cell.ensures.free c.free_cell.ensures.length c.if-free-eq1.false
 
 pub returns-clause-written : goal.returns-clause-written
-returns-clause-written c = freed_written c.args.t.now c.args.s c.args.p c.index_mut-c.result.now c.free_cell.new.slot _ c.requires.small c.requires.used (sym c.index_mut-c.ensures.value) c.free_cell.ensures.written
+returns-clause-written c = freed_written c.args.table.now c.args.number c.args.place c.index_mut-slot.result.now c.free_cell.new.slot _ c.requires.small c.requires.used (sym c.index_mut-slot.ensures.value) c.free_cell.ensures.written
 
 pub returns-clause-used : goal.returns-clause-used
 returns-clause-used c =
-    let read = sym c.index_mut-c.ensures.value in
-    omega (arith, some_used c.args.t.now c.args.s c.index_mut-c.result.now c.requires.table (used_within c.args.t.now c.args.s c.args.p c.requires.small c.requires.used) read (used_drawn c.args.t.now c.args.s c.args.p c.index_mut-c.result.now c.requires.table c.requires.small c.requires.used read))
+    let read = sym c.index_mut-slot.ensures.value in
+    omega (arith, some_used c.args.table.now c.args.number c.index_mut-slot.result.now c.requires.table (used_within c.args.table.now c.args.number c.args.place c.requires.small c.requires.used) read (used_drawn c.args.table.now c.args.number c.args.place c.index_mut-slot.result.now c.requires.table c.requires.small c.requires.used read))

@@ -3,13 +3,13 @@ use Rattle.cell_arena.proofs.Tables.{none_left, some_left}
 use Rattle.cell_arena.proofs.table.put.Goals as goal
 
 pub put_drawn-requires-clause-some : goal.put_drawn-requires-clause-some
-put_drawn-requires-clause-some g c = omega (arith, none_left c.args.t.now c.requires.table (omega arith), c.requires.room)
+put_drawn-requires-clause-some g c = omega (arith, none_left c.args.table.now c.requires.table (omega arith), c.requires.room)
 
 pub put_drawn-requires-clause-left : goal.put_drawn-requires-clause-left
-put_drawn-requires-clause-left g c = omega (arith, none_left c.args.t.now c.requires.table (omega arith), c.requires.room, c.requires.left)
+put_drawn-requires-clause-left g c = omega (arith, none_left c.args.table.now c.requires.table (omega arith), c.requires.room, c.requires.left)
 
-pub returns-then-t-gt0-clause-draws : goal.returns-then-t-gt0-clause-draws
-returns-then-t-gt0-clause-draws g c = omega (arith, some_left c.args.t.now c.requires.table c.if-t-gt0.true)
+pub returns-then-table-gt0-clause-draws : goal.returns-then-table-gt0-clause-draws
+returns-then-table-gt0-clause-draws g c = omega (arith, some_left c.args.table.now c.requires.table c.if-table-gt0.true)
 
-pub returns-else-t-gt0-clause-draws : goal.returns-else-t-gt0-clause-draws
-returns-else-t-gt0-clause-draws g c = omega (arith, none_left c.args.t.now c.requires.table (omega arith))
+pub returns-else-table-gt0-clause-draws : goal.returns-else-table-gt0-clause-draws
+returns-else-table-gt0-clause-draws g c = omega (arith, none_left c.args.table.now c.requires.table (omega arith))

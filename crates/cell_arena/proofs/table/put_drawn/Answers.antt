@@ -4,15 +4,15 @@ use Rattle.cell_arena.proofs.table.put_drawn.Goals as goal
 
 pub returns-clause-table : goal.returns-clause-table
 returns-clause-table g c =
-    let at = first_empty c.args.t.now c.index-s.result.now c.requires.table (omega (arith, c.requires.some, c.requires.table.reserved)) c.index-s.ensures in
-    put_table c.args.t.now c.index-s.result.now c.store-p.new.slot _ c.requires.table c.requires.none_ready c.requires.some at.0 at.1 c.store-p.ensures.listed (c.store-p.ensures.free ∙ c.clean-c.ensures.free) (c.store-p.ensures.length ∙ c.clean-c.ensures.size) c.swap.ensures.order c.swap.ensures.count c.swap.ensures.places
+    let at = first_empty c.args.table.now c.index-number.result.now c.requires.table (omega (arith, c.requires.some, c.requires.table.reserved)) c.index-number.ensures in
+    put_table c.args.table.now c.index-number.result.now c.store-place.new.slot _ c.requires.table c.requires.none_ready c.requires.some at.0 at.1 c.store-place.ensures.listed (c.store-place.ensures.free ∙ c.clean-slot.ensures.free) (c.store-place.ensures.length ∙ c.clean-slot.ensures.size) c.swap.ensures.order c.swap.ensures.count c.swap.ensures.places
 
 pub returns-clause-written : goal.returns-clause-written
 returns-clause-written g c =
-    let at = first_empty c.args.t.now c.index-s.result.now c.requires.table (omega (arith, c.requires.some, c.requires.table.reserved)) c.index-s.ensures in
-    rw c.at.ensures (drawn_written c.args.t.now c.index-s.result.now c.store-p.result c.clean-c.result c.store-p.new.slot c.args.cell c.requires.table at.0 at.1 (omega (arith, c.store-p.ensures.within, c.clean-c.ensures.size)) c.clean-c.ensures.all c.store-p.ensures.written c.requires.used)
+    let at = first_empty c.args.table.now c.index-number.result.now c.requires.table (omega (arith, c.requires.some, c.requires.table.reserved)) c.index-number.ensures in
+    rw c.at.ensures (drawn_written c.args.table.now c.index-number.result.now c.store-place.result c.clean-slot.result c.store-place.new.slot c.args.cell c.requires.table at.0 at.1 (omega (arith, c.store-place.ensures.within, c.clean-slot.ensures.size)) c.clean-slot.ensures.all c.store-place.ensures.written c.requires.used)
 
 pub returns-clause-was_free : goal.returns-clause-was_free
 returns-clause-was_free g c =
-    let at = first_empty c.args.t.now c.index-s.result.now c.requires.table (omega (arith, c.requires.some, c.requires.table.reserved)) c.index-s.ensures in
-    rw c.at.ensures (empty_was_free c.args.t.now c.index-s.result.now c.store-p.result c.store-p.new.slot c.requires.table at.0 at.1 (omega (arith, c.store-p.ensures.within, c.clean-c.ensures.size)))
+    let at = first_empty c.args.table.now c.index-number.result.now c.requires.table (omega (arith, c.requires.some, c.requires.table.reserved)) c.index-number.ensures in
+    rw c.at.ensures (empty_was_free c.args.table.now c.index-number.result.now c.store-place.result c.store-place.new.slot c.requires.table at.0 at.1 (omega (arith, c.store-place.ensures.within, c.clean-slot.ensures.size)))

@@ -15,27 +15,27 @@ place_delete-requires-clause-room g c =
     if_seen c.self.inside.table _ c.args.of (λ (r : Record). 1 + (length r.key + 47) / 48 ≤ c.args.self.now.free) (λ (r : Record). c.self.inside.table.used + (1 + (length r.key + 47) / 48) ≤ 64 * c.self.inside.table.reserved) c.self.view_is (λ r fits. omega (arith, fits, seen_free c.self.inside.table _ c.self.view_is)) c.requires.space
 
 pub place_delete-requires-clause-left : goal.place_delete-requires-clause-left
-place_delete-requires-clause-left g c = omega (arith, c.requires.left, seen_drawn c.self.inside.table _ c.self.view_is, seen_reserved c.self.inside.table _ c.self.view_is)
+place_delete-requires-clause-left g c = omega (arith, c.requires.left, seen_drawn c.self.inside.table _ c.self.invariant.table c.self.view_is, seen_reserved c.self.inside.table _ c.self.view_is)
 
 pub returns-clause-fresh : goal.returns-clause-fresh
 returns-clause-fresh g c = seen_get c.self.inside.table _ c.place_delete.result c.self.view_is ∙ c.place_delete.ensures.fresh
 
 pub returns-clause-placed : goal.returns-clause-placed
 returns-clause-placed g c =
-    seen_if c.self.inside.table _ c.args.of (λ (r : Record). record_at (table_at c.place_delete.new.t) c.place_delete.result ≡ Some (record { kind = Delete; fields = c.args.fields; key = r.key; value = []; older = None })) (λ (r : Record). (held_of c.place_delete.new.t).records ≡ insert c.args.self.now.records c.place_delete.result (record { kind = Delete; fields = c.args.fields; key = r.key; value = []; older = None })) c.self.view_is (λ r here. seen_insert c.self.inside.table c.place_delete.new.t _ c.place_delete.result _ c.self.view_is here c.place_delete.ensures.kept) c.place_delete.ensures.placed
+    seen_if c.self.inside.table _ c.args.of (λ (r : Record). record_at (table_at c.place_delete.new.table) c.place_delete.result ≡ Some (record { kind = Delete; fields = c.args.fields; key = r.key; value = []; older = None })) (λ (r : Record). (held_of c.place_delete.new.table).records ≡ insert c.args.self.now.records c.place_delete.result (record { kind = Delete; fields = c.args.fields; key = r.key; value = []; older = None })) c.self.view_is (λ r here. seen_insert c.self.inside.table c.place_delete.new.table _ c.place_delete.result _ c.self.view_is here c.place_delete.ensures.kept) c.place_delete.ensures.placed
 
 pub returns-clause-free : goal.returns-clause-free
 returns-clause-free g c =
-    seen_if c.self.inside.table _ c.args.of (λ (r : Record). c.place_delete.new.t.used ≡ c.self.inside.table.used + (1 + (length r.key + 47) / 48)) (λ (r : Record). (held_of c.place_delete.new.t).free + (1 + (length r.key + 47) / 48) ≡ c.args.self.now.free) c.self.view_is (λ r more. omega (arith, more, seen_free c.self.inside.table _ c.self.view_is, c.place_delete.ensures.reserved, used_fits c.place_delete.new.t c.place_delete.ensures.table)) c.place_delete.ensures.used
+    seen_if c.self.inside.table _ c.args.of (λ (r : Record). c.place_delete.new.table.used ≡ c.self.inside.table.used + (1 + (length r.key + 47) / 48)) (λ (r : Record). (held_of c.place_delete.new.table).free + (1 + (length r.key + 47) / 48) ≡ c.args.self.now.free) c.self.view_is (λ r more. omega (arith, more, seen_free c.self.inside.table _ c.self.view_is, c.place_delete.ensures.reserved, used_fits c.place_delete.new.table c.place_delete.ensures.table)) c.place_delete.ensures.used
 
 pub returns-clause-reserved : goal.returns-clause-reserved
 returns-clause-reserved g c = omega (arith, seen_reserved c.self.inside.table _ c.self.view_is, c.place_delete.ensures.reserved)
 
 pub returns-clause-draws : goal.returns-clause-draws
-returns-clause-draws g c = omega (arith, c.place_delete.ensures.draws, seen_drawn c.self.inside.table _ c.self.view_is, used_fits c.place_delete.new.t c.place_delete.ensures.table)
+returns-clause-draws g c = omega (arith, c.place_delete.ensures.table.busy, c.place_delete.ensures.draws, seen_drawn c.self.inside.table _ c.self.invariant.table c.self.view_is, used_fits c.place_delete.new.table c.place_delete.ensures.table)
 
 pub returns-clause-left : goal.returns-clause-left
-returns-clause-left g c = omega (arith, c.requires.left, c.place_delete.ensures.left, c.place_delete.ensures.reserved, seen_drawn c.self.inside.table _ c.self.view_is, seen_reserved c.self.inside.table _ c.self.view_is)
+returns-clause-left g c = omega (arith, c.place_delete.ensures.table.busy, c.requires.left, c.place_delete.ensures.left, c.place_delete.ensures.reserved, seen_drawn c.self.inside.table _ c.self.invariant.table c.self.view_is, seen_reserved c.self.inside.table _ c.self.view_is)
 
 pub returns-clause-room : goal.returns-clause-room
-returns-clause-room g c = omega (arith, c.place_delete.ensures.room, seen_drawn c.self.inside.table _ c.self.view_is)
+returns-clause-room g c = omega (arith, c.place_delete.ensures.table.busy, c.place_delete.ensures.room, seen_drawn c.self.inside.table _ c.self.invariant.table c.self.view_is)

@@ -11,7 +11,7 @@ set_older-requires-clause-head c = seen_head c.self.inside.table _ c.args.cell c
 
 pub returns-clause-set : goal.returns-clause-set
 returns-clause-set c =
-    rw (← c.of.ensures) (seen_if c.self.inside.table _ c.args.cell (λ (r : Record). record_at (table_at c.set_older.new.t) c.args.cell ≡ Some (record r { older = c.of.result })) (λ (r : Record). (held_of c.set_older.new.t).records ≡ insert c.args.self.now.records c.args.cell (record r { older = c.of.result })) c.self.view_is (λ r here. seen_insert c.self.inside.table c.set_older.new.t _ c.args.cell _ c.self.view_is here c.set_older.ensures.kept) c.set_older.ensures.set)
+    rw (← c.of.ensures) (seen_if c.self.inside.table _ c.args.cell (λ (r : Record). record_at (table_at c.set_older.new.table) c.args.cell ≡ Some (record r { older = c.of.result })) (λ (r : Record). (held_of c.set_older.new.table).records ≡ insert c.args.self.now.records c.args.cell (record r { older = c.of.result })) c.self.view_is (λ r here. seen_insert c.self.inside.table c.set_older.new.table _ c.args.cell _ c.self.view_is here c.set_older.ensures.kept) c.set_older.ensures.set)
 
 pub returns-clause-free : goal.returns-clause-free
 returns-clause-free c = omega (arith, seen_free c.self.inside.table _ c.self.view_is, c.set_older.ensures.used, c.set_older.ensures.reserved)
@@ -20,4 +20,4 @@ pub returns-clause-reserved : goal.returns-clause-reserved
 returns-clause-reserved c = omega (arith, seen_reserved c.self.inside.table _ c.self.view_is, c.set_older.ensures.reserved)
 
 pub returns-clause-drawn : goal.returns-clause-drawn
-returns-clause-drawn c = omega (arith, seen_drawn c.self.inside.table _ c.self.view_is, c.set_older.ensures.drawn)
+returns-clause-drawn c = omega (arith, c.set_older.ensures.table.busy, seen_drawn c.self.inside.table _ c.self.invariant.table c.self.view_is, c.set_older.ensures.drawn)

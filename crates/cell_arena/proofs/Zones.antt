@@ -1,0 +1,133 @@
+-- The zones of a table's slots, and what stands at a number.
+use Rattle.std.proofs.Common.{◌≡◌, ◌≢◌, ℕ, zero, suc, Bool, true, false, ◌+◌, ◌-◌, ◌*◌, ◌/◌, ◌%◌, ◌<◌, ◌≤◌, ◌^◌, ◌==◌, List, [], ◌∷◌, ◌++◌, length, map, get_or, set, Option, Some, None, cond, count_by, sum_by, refl, sym, ap, ◌∙◌, inl, inr, ◌⊎◌, arith, subst}
+use Rattle.std.proofs.lemmas.Bool.{cases_eq, cases_lt, eq-eqb, ne_eqb}
+use Rattle.std.proofs.lemmas.List.{nil_from_length, get_or_past, get_or_default, get_or-set_same, get_or-set_other, length-set, length-map, get_or-map, map-set}
+use Rattle.std.proofs.lemmas.List.Sums.{sum_by-set, sum_by-cons, get_or-le-sum_by, count_by-le-length}
+use Rattle.std.specs.Vec.{with_item}
+use Rattle.cell_arena.specs.declared.cell.Cell.{Cell}
+use Rattle.cell_arena.specs.declared.cell.Cell.TheVariants.{Free, Head, Rest}
+use Rattle.cell_arena.specs.declared.slot.Slot.{Slot}
+use Rattle.cell_arena.specs.declared.order.Order.{Order}
+use Rattle.cell_arena.specs.declared.table.Table.{Table}
+use Rattle.cell_arena.specs.Chain.{is_free, cell_at, slot_at, Writes, IsListed, IsFreeList}
+use Rattle.cell_arena.proofs.FreeList.{within, read_is, others_free}
+use Rattle.cell_arena.specs.Order.{IsOrder, count_of, place_of, swapped}
+use Rattle.cell_arena.specs.Table.{hidden, slot_cells, at_slots, table_at, IsSlot, free_of, used_of, busy_of, IsTable}
+
+-- where a place goes, by cases
+pub swapped_cases : (i j p : ℕ) → ((p ≡ i) × (swapped i j p ≡ j)) ⊎ (((p ≢ i) × (p ≡ j) × (swapped i j p ≡ i)) ⊎ ((p ≢ i) × (p ≢ j) × (swapped i j p ≡ p)))
+swapped_cases i j p =
+    elim (cases_eq p i) [
+      | inl first ↦ inl (first, ap (λ b. cond b j (cond (p == j) i p)) (eq-eqb p i first))
+      | inr other ↦ inr (elim (cases_eq p j) [
+        | inl second ↦ inl (other, second, ap (λ b. cond b j (cond (p == j) i p)) (ne_eqb p i other) ∙ ap (λ b. cond b i p) (eq-eqb p j second))
+        | inr neither ↦ inr (other, neither, ap (λ b. cond b j (cond (p == j) i p)) (ne_eqb p i other) ∙ ap (λ b. cond b i p) (ne_eqb p j neither))
+      ])
+    ]
+
+-- two numbers have two places
+pub place_other : (o : Order) (q s : ℕ) → IsOrder o → q < count_of o → s < count_of o → q ≢ s → place_of o q ≢ place_of o s
+place_other o q s is less less' other same = other (sym (is.there q less) ∙ ap (λ p. get_or o.order.items p 0) same ∙ is.there s less')
+
+-- a slot whose place stays in its zone
+pub zone_same : (ready drawn place ready' drawn' place' : ℕ) (c : Slot) → IsSlot ready drawn place c → (place' < ready' → place < ready) → (ready' ≤ place' → ready ≤ place) → (place' < drawn' → place < drawn) → (drawn' ≤ place' → drawn ≤ place) → IsSlot ready' drawn' place' c
+zone_same ready drawn place ready' drawn' place' c was a b d e = record {
+  listed = was.listed;
+  empty = λ h. was.empty (e h);
+  whole = λ h. was.whole (d h);
+  used = λ h. was.used (d h);
+  spare = λ h. was.spare (a h);
+  full = λ h. was.full (b h);
+}
+
+-- what holds of each slot after one is written
+pub slots_set : (slots : List Slot) (s : ℕ) (new : Slot) (P : ℕ → Slot → Type 0) → s < length slots → P s new → ((q : ℕ) (c : Slot) → q ≢ s → q < length slots → get_or slots q c ≡ c → P q c) → (q : ℕ) (c : Slot) → q < length slots → get_or (set slots s new) q c ≡ c → P q c
+slots_set slots s new P less here others q c within read =
+    elim (cases_eq q s) [
+      | inl same ↦
+          let is : new ≡ c = sym (get_or-set_same slots s new c less) ∙ ap (λ k. get_or (set slots s new) k c) (sym same) ∙ read in
+          subst (λ k. P k c) (sym same) (subst (λ x. P s x) is here)
+      | inr other ↦ others q c other within (sym (get_or-set_other slots s q new c other) ∙ read)
+    ]
+
+pub parts : (s p : ℕ) → p < 64 → ((s * 64 + p) / 64 ≡ s) × ((s * 64 + p) % 64 ≡ p)
+parts s p less = (omega arith, omega arith)
+
+pub slot_is : (slots : List Slot) (s : ℕ) (c : Slot) → s < length slots → get_or slots s c ≡ c → get_or (map slot_cells slots) s [] ≡ slot_cells c
+slot_is slots s c less read = get_or-map slot_cells slots s c [] less ∙ ap slot_cells read
+
+-- a cell of a slot is written, and what is hidden in the others may change
+pub at_set : (slots : List Slot) (s p : ℕ) (old new : Slot) (cell : Cell) → s < length slots → p < 64 → get_or slots s old ≡ old → hidden (slot_at new p) ≡ hidden cell → ((n : ℕ) → n ≢ p → hidden (slot_at new n) ≡ hidden (slot_at old n)) → Writes (at_slots slots) (at_slots (set slots s new)) (s * 64 + p) (hidden cell)
+at_set slots s p old new cell less small read stands stays = record { here = here; others = others }
+  where
+    now : (n : ℕ) → n / 64 ≡ s → get_or (map slot_cells (set slots s new)) (n / 64) [] ≡ slot_cells new
+    now n is = ap (λ k. get_or (map slot_cells (set slots s new)) k []) is ∙ ap (λ xs. get_or xs s []) (map-set slot_cells slots s new) ∙ get_or-set_same (map slot_cells slots) s (slot_cells new) [] (omega (arith, length-map slots slot_cells))
+
+    before : (n : ℕ) → n / 64 ≡ s → get_or (map slot_cells slots) (n / 64) [] ≡ slot_cells old
+    before n is = ap (λ k. get_or (map slot_cells slots) k []) is ∙ slot_is slots s old less read
+
+    here : at_slots (set slots s new) (s * 64 + p) ≡ hidden cell
+    here = ap (λ xs. hidden (cell_at xs ((s * 64 + p) % 64))) (now (s * 64 + p) (parts s p small).0) ∙ ap (λ k. hidden (cell_at (slot_cells new) k)) (parts s p small).1 ∙ stands
+
+    others : (n : ℕ) → n ≢ s * 64 + p → at_slots (set slots s new) n ≡ at_slots slots n
+    others n other =
+        elim (cases_eq (n / 64) s) [
+          | inl same ↦
+              let differs : n % 64 ≢ p = λ e. other (omega arith) in
+              ap (λ xs. hidden (cell_at xs (n % 64))) (now n same) ∙ stays (n % 64) differs ∙ sym (ap (λ xs. hidden (cell_at xs (n % 64))) (before n same))
+          | inr apart ↦ ap (λ xs. hidden (cell_at xs (n % 64))) (ap (λ xs. get_or xs (n / 64) []) (map-set slot_cells slots s new) ∙ get_or-set_other (map slot_cells slots) s (n / 64) (slot_cells new) [] apart)
+        ]
+
+-- what stands at a number of a slot
+pub at_is : (slots : List Slot) (s p : ℕ) (c : Slot) → s < length slots → p < 64 → get_or slots s c ≡ c → at_slots slots (s * 64 + p) ≡ hidden (slot_at c p)
+at_is slots s p c less small read =
+    ap (λ k. hidden (cell_at (get_or (map slot_cells slots) k []) ((s * 64 + p) % 64))) (parts s p small).0
+    ∙ ap (λ xs. hidden (cell_at xs ((s * 64 + p) % 64))) (slot_is slots s c less read)
+    ∙ ap (λ k. hidden (slot_at c k)) (parts s p small).1
+
+pub hidden_used : (c : Cell) → is_free c ≡ false → hidden c ≡ c
+hidden_used (Free next) e = absurd (cc)
+hidden_used (Head kind head) e = refl
+hidden_used (Rest bytes next) e = refl
+
+pub hidden_free : (c : Cell) → is_free c ≡ true → hidden c ≡ Free None
+hidden_free (Free next) e = refl
+hidden_free (Head kind head) e = absurd (cc)
+hidden_free (Rest bytes next) e = absurd (cc)
+
+pub free_hidden : (c : Cell) → is_free (hidden c) ≡ is_free c
+free_hidden (Free next) = refl
+free_hidden (Head kind head) = refl
+free_hidden (Rest bytes next) = refl
+
+-- the places of the others keep their zones
+pub record KeepsZones (t : Table) (s : ℕ) (o : Order) (ready drawn : ℕ) : Type 0 where
+  pub a : (q : ℕ) → q < length t.slots.items → q ≢ s → place_of o q < ready → place_of t.order q < t.ready
+  pub b : (q : ℕ) → q < length t.slots.items → q ≢ s → ready ≤ place_of o q → t.ready ≤ place_of t.order q
+  pub d : (q : ℕ) → q < length t.slots.items → q ≢ s → place_of o q < drawn → place_of t.order q < t.drawn
+  pub e : (q : ℕ) → q < length t.slots.items → q ≢ s → drawn ≤ place_of o q → t.drawn ≤ place_of t.order q
+
+-- a slot is written, and moves
+pub table_changed : (t : Table) (s : ℕ) (old new : Slot) (o : Order) (ready drawn used : ℕ) → IsTable t → s < length t.slots.items → get_or t.slots.items s old ≡ old → IsOrder o → count_of o ≡ count_of t.order → ready ≤ drawn → drawn ≤ t.reserved → IsSlot ready drawn (place_of o s) new → KeepsZones t s o ready drawn → used + used_of old ≡ t.used + used_of new → used + new.free + 64 * t.drawn ≡ t.used + old.free + 64 * drawn → drawn + busy_of old ≡ t.drawn + busy_of new → IsTable (record { slots = with_item t.slots s new; order = o; ready = ready; drawn = drawn; reserved = t.reserved; used = used; alloc = t.alloc })
+table_changed t s old new o ready drawn used was less read order count low high here zones one total busy =
+    let slots = t.slots.items in
+    let size : length (set slots s new) ≡ length slots = length-set slots s new in
+    let change = sum_by-set free_of slots s new old less in
+    let is : free_of (get_or slots s old) ≡ old.free = ap free_of read in
+    let change' = sum_by-set used_of slots s new old less in
+    let is' : used_of (get_or slots s old) ≡ used_of old = ap used_of read in
+    let change'' = sum_by-set busy_of slots s new old less in
+    let is'' : busy_of (get_or slots s old) ≡ busy_of old = ap busy_of read in
+    record {
+      few = omega (arith, size, was.few);
+      order = order;
+      size = count ∙ was.size ∙ sym size;
+      ready = low;
+      drawn = high;
+      reserved = omega (arith, size, was.reserved);
+      slots = λ q c within reads. slots_set slots s new (λ q c. IsSlot ready drawn (place_of o q) c) less here
+          (λ q c other within reads. zone_same t.ready t.drawn (place_of t.order q) ready drawn (place_of o q) c (was.slots q c within reads) (zones.a q within other) (zones.b q within other) (zones.d q within other) (zones.e q within other)) q c (omega (arith, size, within)) reads;
+      busy = omega (arith, change'', is'', was.busy, busy);
+      held = omega (arith, change', is', was.held, one);
+      used = omega (arith, change, is, was.used, total);
+    }

@@ -1,0 +1,48 @@
+// Gives segments that come filled with stray cells and bytes `0xA5`.
+ghost use Rattle.std.specs.Prelude.{◌≡◌, ◌+◌, ◌∷◌, [], IfOk};
+
+use crate::shelf::{Fill, Shelf};
+use cell_arena::{Segment, Segments};
+use etcd_types::Mem;
+use std::alloc::Global;
+
+/// Gives segments that come filled with stray cells and bytes `0xA5`.
+#[derive(Drop)]
+pub struct Filled {
+    pub shelf: Shelf,
+}
+
+impl Filled {
+    /// So many segments.
+    pub fn new(alloc: Global, segments: u32) -> Mem<Filled>
+        ensures { IfOk result (λ s. s.shelf ≡ record { held = segments; room = 0 }) }
+    {
+        Ok(Filled {
+            shelf: Shelf::new(alloc, segments, Fill::Stray)?,
+        })
+    }
+}
+
+impl Segments for Filled {
+    ghost left = { λ s. s.shelf.held };
+
+    ghost room = { λ s. s.shelf.room };
+
+    ghost others = { λ s. (s.shelf.held + s.shelf.room) ∷ [] };
+
+    fn left(&self) -> u32 {
+        self.shelf.held()
+    }
+
+    fn room(&self) -> u32 {
+        self.shelf.room()
+    }
+
+    fn draw(&mut self) -> Segment {
+        self.shelf.take_lowest()
+    }
+
+    fn give_back(&mut self, segment: Segment) {
+        self.shelf.put(segment);
+    }
+}
