@@ -1,5 +1,5 @@
 -- A tenant's own events, and what it is answered if it has the host to itself.
-use Rattle.std.specs.Prelude.{ℕ, ◌==◌, ◌&&◌, not, Bool, true, false, List, [], ◌∷◌, map, filter, Option, Some, None, option_map, Result, Ok, Err}
+use Rattle.std.specs.Prelude.{ℕ, ◌==◌, ◌&&◌, not, Bool, true, false, List, [], ◌∷◌, map, filter, Option, Some, None, Result, Ok, Err}
 use Rattle.std.specs.Str.{bytes_eq}
 use Rattle.etcd_types.specs.declared.step.Step.{Step}
 use Rattle.etcd_types.specs.declared.step.Step.TheVariants.{CatchUp}
@@ -7,7 +7,7 @@ use Rattle.etcd_types.specs.declared.refusal.Refusal.{Refusal}
 use Rattle.etcd_types.specs.declared.refusal.Refusal.TheVariants.{NoPath}
 use Rattle.etcd_types.specs.declared.reply.Reply.TheVariants.{Refused}
 use Rattle.etcd_model.specs.History.{History}
-use Rattle.etcd_model.specs.Machine.{State, Outcome}
+use Rattle.etcd_model.specs.Machine.{State}
 use Rattle.etcd_model.specs.Offered.{built_machine}
 use Rattle.etcd_model.specs.Calls.{Target, target_of, read_posted}
 use Rattle.etcd_model.specs.ReplyText.{Answer, text}

@@ -1,6 +1,6 @@
 -- What a call's method, target and body ask for.
 -- etcd: the JSON gateway, under a tenant's path.
-use Rattle.std.specs.Prelude.{◌≡◌, ℕ, ◌==◌, ◌&&◌, not, List, [], ◌∷◌, length, drop, Bool, true, false, nat_lt, nat_eq, if◌then◌else◌, Option, Some, None, option_and_then, is_some, Result, Ok, Err, codes}
+use Rattle.std.specs.Prelude.{ℕ, ◌==◌, ◌&&◌, not, List, [], ◌∷◌, length, drop, nat_lt, nat_eq, if◌then◌else◌, Option, Some, None, option_and_then, Result, Ok, Err, codes}
 use Rattle.std.specs.List.{starts_with, before_first}
 use Rattle.std.specs.Str.{is_utf8, bytes_eq}
 use Rattle.serde_json.specs.Data.{Data, null, boolean, number, string, array, object}

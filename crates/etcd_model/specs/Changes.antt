@@ -1,6 +1,6 @@
 -- The changes of a history as a store records them, one after another, and what compaction keeps of them.
 -- etcd: data model, "physical view": each change is stored under its revision; maintenance, "history compaction".
-use Rattle.std.specs.Prelude.{◌≡◌, IfSome, ℕ, ◌+◌, ◌≤◌, ℤ, Bool, not, ◌&&◌, ◌||◌, nat_le, List, [], ◌∷◌, ◌++◌, length, map, filter, filter_map, fold, Option, Some, None, is_some, option_and_then, if◌then◌else◌}
+use Rattle.std.specs.Prelude.{◌≡◌, IfSome, ℕ, ◌+◌, ◌≤◌, Bool, not, ◌&&◌, ◌||◌, nat_le, List, [], ◌∷◌, ◌++◌, length, map, filter, filter_map, fold, Option, Some, None, is_some, option_and_then, if◌then◌else◌}
 use Rattle.std.specs.List.{All, AllByRecursion, list_any}
 use Rattle.std.specs.Str.{bytes_eq}
 use Rattle.etcd_types.specs.declared.key_value.KeyValue.{KeyValue}

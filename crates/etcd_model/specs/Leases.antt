@@ -1,13 +1,12 @@
 -- Leases: which keys they hold, and how they end.
 -- etcd: API reference, Lease: a lease that expires or is revoked deletes all keys attached to it.
-use Rattle.std.specs.Prelude.{ℕ, ◌+◌, ◌-◌, Bool, not, List, [], ◌∷◌, map, filter, fold, find, min, max, ℤ, pos, negsuc, nat_le, Option, Some, None, if◌then◌else◌}
+use Rattle.std.specs.Prelude.{ℕ, ◌+◌, not, List, [], ◌∷◌, map, filter, fold, find, min, max, ℤ, pos, negsuc, nat_le, Option, if◌then◌else◌}
 use Rattle.std.specs.Ordering.{int_cmp, int_eq, nat_cmp, ordering_then, on}
 use Rattle.std.specs.declared.cmp.Ordering.{Ordering}
-use Rattle.etcd_types.specs.declared.key_value.KeyValue.{KeyValue}
 use Rattle.etcd_types.specs.Limits.{last_moment}
 use Rattle.etcd_model.specs.declared.state.Lease.{Lease}
 use Rattle.etcd_model.specs.Order.{put_in, in_order}
-use Rattle.etcd_model.specs.History.{Change, Del}
+use Rattle.etcd_model.specs.History.{Del}
 use Rattle.etcd_model.specs.Reads.{Reads}
 use Rattle.etcd_model.specs.Tenant.{State, Asks, reads}
 

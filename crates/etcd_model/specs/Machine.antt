@@ -1,13 +1,12 @@
 -- The written etcd machine: one tenant over its whole history.
-use Rattle.std.specs.Prelude.{ℕ, Bool, false, List, [], ◌∷◌, filter, nat_lt, replicate, Option, None, if◌then◌else◌}
+use Rattle.std.specs.Prelude.{ℕ, false, List, [], ◌∷◌, filter, nat_lt, replicate, None, if◌then◌else◌}
 use Rattle.etcd_types.specs.declared.step.Step.{Step}
 use Rattle.etcd_types.specs.declared.reply.Reply.{Reply}
 use Rattle.etcd_types.specs.Limits.{watch_slots}
-use Rattle.etcd_model.specs.declared.state.Watch.{Watch}
-use Rattle.etcd_model.specs.History.{History, Change, Entry, current as current_revision, entries, kv, rows, after}
+use Rattle.etcd_model.specs.History.{History, current as current_revision, entries, kv, rows, after}
 use Rattle.etcd_model.specs.Interval.{is_in}
 use Rattle.etcd_model.specs.Kept.{cells}
-use Rattle.etcd_model.specs.Reads.{Reads, Look}
+use Rattle.etcd_model.specs.Reads.{Reads}
 use Rattle.etcd_model.specs.Watches.{is_ahead}
 pub use Rattle.etcd_model.specs.Tenant.{State, Outcome}
 use Rattle.etcd_model.specs.Tenant.{Asks}

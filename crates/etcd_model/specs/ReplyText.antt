@@ -1,6 +1,6 @@
 -- The status of an answer, and its text: the compact text of a JSON object, with the members in byte order of their names.
 -- etcd: the JSON gateway's answers.
-use Rattle.std.specs.Prelude.{◌≡◌, ℕ, ◌==◌, ◌&&◌, ℤ, pos, List, [], ◌∷◌, ◌++◌, length, Bool, true, false, not, decimal, codes, Option, Some, None}
+use Rattle.std.specs.Prelude.{ℕ, ◌==◌, ℤ, pos, List, [], ◌∷◌, ◌++◌, length, Bool, true, false, not, decimal, codes, Option, Some, None}
 use Rattle.std.specs.Fmt.{signed_decimal}
 use Rattle.std.specs.Ordering.{int_eq}
 use Rattle.base64.specs.Engines.{standard}

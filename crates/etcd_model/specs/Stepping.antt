@@ -8,7 +8,7 @@ use Rattle.etcd_types.specs.declared.lease.GrantReq.{GrantReq}
 use Rattle.etcd_types.specs.declared.alarm.AlarmAction.{AlarmAction}
 use Rattle.etcd_types.specs.declared.alarm.AlarmAction.TheVariants.{Get, Activate, Deactivate}
 use Rattle.etcd_types.specs.declared.alarm.AlarmKind.{AlarmKind}
-use Rattle.etcd_types.specs.declared.alarm.AlarmKind.TheVariants.{Any, NoSpace as SpaceAlarm, Corrupt}
+use Rattle.etcd_types.specs.declared.alarm.AlarmKind.TheVariants.{Any, NoSpace as SpaceAlarm}
 use Rattle.etcd_types.specs.declared.txn.Op.{Op}
 use Rattle.etcd_types.specs.declared.txn.Op.TheVariants.{Range as RangeOp, Put as PutOp, Delete as DeleteOp, Nested}
 use Rattle.etcd_types.specs.declared.step.Step.{Step}
@@ -23,9 +23,9 @@ use Rattle.etcd_types.specs.declared.reply.Reply.TheVariants.{Range as RangeRepl
 use Rattle.etcd_types.specs.Limits.{last_revision, last_lease_id, cell_bytes}
 use Rattle.etcd_model.specs.declared.state.Lease.{Lease}
 use Rattle.etcd_model.specs.History.{Change, Del}
-use Rattle.etcd_model.specs.Reads.{Reads, Look}
+use Rattle.etcd_model.specs.Reads.{Reads}
 use Rattle.etcd_model.specs.Compares.{all_hold}
-use Rattle.etcd_model.specs.Operations.{op_refusal, ops_refusal, op_reply, pending_after, replies, branch, first_refusal, has_lease, is_put_op, adds_any}
+use Rattle.etcd_model.specs.Operations.{op_refusal, ops_refusal, op_reply, pending_after, replies, branch, first_refusal, has_lease, adds_any}
 use Rattle.etcd_model.specs.Tenant.{State, Asks, Outcome, reads, current, header, header_over, used, stays}
 use Rattle.etcd_model.specs.Leases.{lease_at, attached, finish, tick, with_lease, free_id, granted_ttl}
 use Rattle.etcd_model.specs.Watches.{created, taken, with_slot, free_slot}

@@ -7,7 +7,6 @@ use Rattle.etcd_types.specs.declared.key_value.KeyValue.{KeyValue}
 use Rattle.etcd_types.specs.declared.key_value.Event.{Event}
 use Rattle.etcd_types.specs.declared.key_value.EventKind.TheVariants.{Put, Delete}
 use Rattle.etcd_types.specs.declared.watch.WatchReq.{WatchReq}
-use Rattle.etcd_types.specs.declared.reply.Reply.{Reply}
 use Rattle.etcd_types.specs.declared.reply.Reply.TheVariants.{Created, Events, Canceled, Quiet, Refused}
 use Rattle.etcd_types.specs.declared.refusal.Refusal.TheVariants.{TooManyWatches}
 use Rattle.etcd_types.specs.Limits.{response_revisions}
