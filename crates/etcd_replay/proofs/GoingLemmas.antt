@@ -1,5 +1,5 @@
 -- A replay goes on line by line.
-use Rattle.std.proofs.Common.{◌≡◌, ◌≢◌, ◌∙◌, sym, ap, subst, refl, ℕ, ◌+◌, ◌<◌, List, [], ◌∷◌, ◌++◌, append_assoc, append-nil, length, length-append, Option, None, Some, IfSome, arith, lt-ltb, eq-eqb, true, false, flat_map, map}
+use Rattle.std.proofs.Common.{◌≡◌, ◌≢◌, ◌∙◌, sym, ap, subst, refl, ℕ, ◌+◌, ◌<◌, List, [], ◌∷◌, ◌++◌, append_assoc, append-nil, length, length-append, Option, None, Some, IfSome, arith, lt-ltb, eq-eqb, true, false, flat_map}
 use Rattle.std.proofs.lemmas.List.{map-append}
 use Rattle.std.proofs.lemmas.Grind.{flat_map-append}
 use Rattle.std.proofs.KnownBytes.{Appends-nil, Appends-trans}
@@ -14,7 +14,7 @@ use Rattle.etcd_replay.specs.declared.lines.Taken.TheVariants.{Line, TooLong}
 use Rattle.etcd_replay.specs.declared.replay.Tenant.{Tenant}
 use Rattle.etcd_replay.specs.Script.{Asked, lines_of, read_line}
 use Rattle.etcd_replay.specs.Answers.{line_of}
-use Rattle.etcd_replay.specs.Replaying.{LineTurn, Tells, IsReplayed}
+use Rattle.etcd_replay.specs.Replaying.{LineTurn, Tells}
 use Rattle.etcd_replay.specs.Written.{Wrote, StopsAt, StopsAmong}
 use Rattle.etcd_replay.specs.Going.{Going}
 use Rattle.etcd_replay.proofs.FirstLine.{first_line, at_end}

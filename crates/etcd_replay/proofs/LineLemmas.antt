@@ -1,7 +1,6 @@
 -- A line that is taken in parts, and one that is too long.
-use Rattle.std.proofs.Common.{◌≡◌, ◌≢◌, ℕ, ◌+◌, ◌-◌, ◌<◌, ◌≤◌, Bool, true, false, List, [], ◌∷◌, ◌++◌, All, None, Some, IfSome, OnSome, cond, length, take, drop, refl, sym, ap, subst, ◌∙◌, arith, length-append, length-take-le, append-nil, ne_eqb}
-use Rattle.std.specs.Prelude.{Option, nat_lt, ◌&&◌, ◌==◌, slice_index}
-use Rattle.std.proofs.lemmas.Bool.Decides.{nat_tests}
+use Rattle.std.proofs.Common.{◌≡◌, ◌≢◌, ℕ, ◌-◌, ◌<◌, ◌≤◌, Bool, true, false, List, [], ◌∷◌, ◌++◌, All, None, Some, IfSome, OnSome, cond, length, take, drop, refl, sym, ap, subst, ◌∙◌, arith, length-append, length-take-le, append-nil, ne_eqb}
+use Rattle.std.specs.Prelude.{Option, ◌&&◌}
 use Rattle.std.proofs.lemmas.List.Elements.{All-append, All-get_or}
 use Rattle.std.specs.Io.{StartsWith, StopsAt, IsEmptyOrEndsWith}
 use Rattle.std.specs.Io.KnownBytes.{Consumes, IsAtEnd}

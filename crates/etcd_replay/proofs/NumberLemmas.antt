@@ -1,9 +1,8 @@
 -- Decimal digits are text, and a parse of them is the number that they spell.
-use Rattle.std.proofs.Common.{◌≡◌, ℕ, zero, suc, ◌<◌, ◌^◌, List, [], ◌∷◌, drop, length, Option, Some, None, Result, Ok, Err, Bool, true, false, cond, refl, ap, sym, subst, ◌∙◌, ◌≤◌, arith, lit<, lt-ltb}
+use Rattle.std.proofs.Common.{◌≡◌, ℕ, zero, suc, ◌<◌, ◌^◌, List, [], ◌∷◌, drop, Some, None, Result, Ok, Err, Bool, true, false, cond, refl, ap, sym, subst, ◌∙◌, ◌≤◌, arith, lit<, lt-ltb}
 use borrow.Author.Tests.{ltb-true, leb-true}
-use Rattle.std.specs.Prelude.{nat_le}
 use Rattle.etcd_replay.specs.Replaying.{within_limits}
-use Rattle.std.specs.Prelude.{IsUtf8, ◌&&◌, ◌==◌, nat_lt, slice_index}
+use Rattle.std.specs.Prelude.{IsUtf8, ◌&&◌, ◌==◌, nat_lt}
 use Rattle.std.specs.Char.{is_ascii_digit, digit_value}
 use Rattle.std.specs.List.{list_all}
 use Rattle.std.specs.Result.{result_ok, OkIff}

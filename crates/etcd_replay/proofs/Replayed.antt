@@ -1,23 +1,21 @@
 -- A replay goes on with one more line.
-use Rattle.std.proofs.Common.{◌≡◌, ◌≢◌, ◌∙◌, sym, ap, subst, refl, ℕ, Bool, true, false, List, [], ◌∷◌, ◌++◌, append_assoc, append-nil, Option, None, Some, map}
-use Rattle.std.specs.Prelude.{◌&&◌, ◌||◌, not, cond, filter, filter_map, is_some, Result}
+use Rattle.std.proofs.Common.{◌≡◌, ◌∙◌, sym, ap, subst, refl, ℕ, Bool, true, false, List, [], ◌∷◌, ◌++◌, append_assoc, append-nil, Option, None, Some}
+use Rattle.std.specs.Prelude.{◌&&◌, ◌||◌, not, cond, filter_map}
 use Rattle.std.specs.List.{AllByRecursion, cons_option}
 use Rattle.std.proofs.lemmas.List.{map-append}
-use Rattle.etcd_types.specs.declared.refusal.Refusal.{Refusal}
-use Rattle.etcd_types.specs.declared.step.Step.{Step}
 use Rattle.etcd_model.specs.declared.state.History.{History}
 use Rattle.etcd_model.specs.declared.state.State.{State}
 use Rattle.etcd_model.specs.Machine.{opening}
-use Rattle.etcd_model.specs.ReplyText.{Answer, text}
+use Rattle.etcd_model.specs.ReplyText.{Answer}
 use Rattle.etcd_model.specs.Alone.{Event, Called, Turn, is_of, is_own, is_unanswered, own, asked, told, alone, alone_after, read_event, answer_to, after_read}
-use Rattle.tenant_machine.specs.Newest.{Newest, Holds}
+use Rattle.tenant_machine.specs.Newest.{Holds}
 use Rattle.etcd_replay.specs.declared.answer.AddFault.{AddFault}
-use Rattle.etcd_replay.specs.declared.answer.AddFault.TheVariants.{Name, Limits, Memory}
+use Rattle.etcd_replay.specs.declared.answer.AddFault.TheVariants.{Name, Limits}
 use Rattle.etcd_replay.specs.declared.answer.LineAnswer.{LineAnswer}
 use Rattle.etcd_replay.specs.declared.answer.LineAnswer.TheVariants.{Done, No, Told}
 use Rattle.etcd_replay.specs.declared.replay.Tenant.{Tenant}
 use Rattle.etcd_replay.specs.Script.{Asked, Add, Call}
-use Rattle.etcd_replay.specs.Replaying.{LineTurn, IsAdded, IsServed, IsCalled, Tells, IsRefused, IsUnserved, IsAlone, IsSpoken, IsTenant, IsReplayed, Opens, add_fault, is_name, within_limits, is_own_call, turn_by, turn_of, turns, nobody}
+use Rattle.etcd_replay.specs.Replaying.{LineTurn, IsAdded, IsCalled, Tells, IsUnserved, IsAlone, IsSpoken, IsTenant, IsReplayed, Opens, add_fault, is_name, within_limits, is_own_call, turn_of, turns}
 
 true_is_not : true ≡ false → ⊥
 true_is_not h = cc

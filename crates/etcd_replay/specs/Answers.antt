@@ -1,7 +1,6 @@
 -- What is answered to a line, and the answer line that is written.
 use Rattle.std.specs.Prelude.{ℕ, List, [], ◌∷◌, ◌++◌, decimal, codes, if◌then◌else◌}
 use Rattle.std.specs.Io.BufRead.{ends_with_byte}
-use Rattle.etcd_model.specs.ReplyText.{Answer}
 use Rattle.etcd_replay.specs.declared.answer.AddFault.{AddFault}
 use Rattle.etcd_replay.specs.declared.answer.AddFault.TheVariants.{Name, Limits, Memory}
 use Rattle.etcd_replay.specs.declared.answer.LineAnswer.{LineAnswer}

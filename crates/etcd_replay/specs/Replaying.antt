@@ -1,5 +1,5 @@
 -- A replay: lines answered in turn, and the tenant that they made.
-use Rattle.std.specs.Prelude.{◌≡◌, ◌≢◌, ℕ, ◌==◌, ◌&&◌, ◌||◌, ◌++◌, not, Bool, true, false, List, [], ◌∷◌, nat_lt, nat_le, length, map, filter_map, Option, None, Some, Result, is_some, if◌then◌else◌}
+use Rattle.std.specs.Prelude.{◌≡◌, ◌≢◌, ℕ, ◌==◌, ◌&&◌, ◌||◌, ◌++◌, not, Bool, true, false, List, ◌∷◌, nat_lt, nat_le, length, filter_map, Option, None, Some, Result, is_some, if◌then◌else◌}
 use Rattle.std.specs.Char.{is_ascii_digit, is_ascii_lowercase}
 use Rattle.std.specs.List.{list_all, AllByRecursion}
 use Rattle.etcd_types.specs.Limits.{max_name, min_quota, max_quota, last_revision}

@@ -1,6 +1,6 @@
 -- What a script says: its lines, and what each line asks for.
-use Rattle.std.specs.Prelude.{◌≡◌, ℕ, ◌+◌, ◌==◌, ◌^◌, ◌&&◌, Bool, List, [], ◌∷◌, length, take, drop, nat_lt, nat_le, position, Option, None, Some, option_map, option_and_then, if◌then◌else◌, codes}
-use Rattle.std.specs.Char.{is_ascii_digit, is_ascii_lowercase}
+use Rattle.std.specs.Prelude.{ℕ, ◌+◌, ◌==◌, ◌^◌, ◌&&◌, Bool, List, [], ◌∷◌, length, take, drop, nat_lt, position, Option, None, Some, option_map, option_and_then, if◌then◌else◌, codes}
+use Rattle.std.specs.Char.{is_ascii_digit}
 use Rattle.std.specs.List.{list_all}
 use Rattle.std.specs.Str.{bytes_eq}
 use Rattle.std.specs.Str.Parse.{digits_value}

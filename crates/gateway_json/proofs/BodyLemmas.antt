@@ -1,5 +1,5 @@
 -- The value of a body, from what `Value::from_slice` answered.
-use Rattle.std.proofs.Common.{◌≡◌, ℕ, List, length, Bool, true, false, if◌then◌else◌, Option, Some, None, refl, ap, ◌∙◌, ◌==◌}
+use Rattle.std.proofs.Common.{◌≡◌, ℕ, List, length, Bool, true, false, if◌then◌else◌, Option, Some, None, refl, ◌==◌}
 use Rattle.std.specs.Prelude.{IsUtf8}
 use Rattle.std.specs.Str.{is_utf8}
 use Rattle.std.proofs.lemmas.Str.{IsUtf8-from_is_utf8, is_utf8-from_IsUtf8}

@@ -1,5 +1,5 @@
 -- The texts of numbers, and what `parse` reads.
-use Rattle.std.proofs.Common.{◌≡◌, ℕ, zero, suc, ◌<◌, ◌==◌, ◌&&◌, ℤ, pos, neg_ℤ, of_z, to_z, List, [], ◌∷◌, length, slice_index, Option, Some, None, Result, Ok, Err, Bool, true, false, if◌then◌else◌, nat_lt, refl, ap, sym, ◌∙◌, arith, w64, FitsSigned, lt-ltb}
+use Rattle.std.proofs.Common.{◌≡◌, ℕ, zero, suc, ◌==◌, ◌&&◌, ℤ, pos, neg_ℤ, of_z, to_z, List, [], ◌∷◌, length, slice_index, Some, None, Result, Ok, Err, Bool, true, false, if◌then◌else◌, nat_lt, refl, ap, ◌∙◌, arith, w64, FitsSigned, lt-ltb}
 use Rattle.std.specs.Result.{result_ok, OkIff}
 use Rattle.std.specs.Char.{digit_value}
 use Rattle.std.specs.List.{list_all}

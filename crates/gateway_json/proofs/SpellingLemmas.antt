@@ -1,13 +1,12 @@
 -- Decoding by the strict engine without padding.
-use Rattle.std.proofs.Common.{◌≡◌, ℕ, zero, suc, ◌<◌, ◌-◌, ◌%◌, ◌==◌, ◌||◌, ◌↔◌, List, [], ◌∷◌, Some, None, refl, ap, sym, ◌∙◌, subst, Result, Ok, Err, map, length, take, slice_index, Bool, true, false, if◌then◌else◌, Option, arith, lit<}
-use Rattle.std.proofs.lemmas.Bool.{and_parts, eqb-true}
+use Rattle.std.proofs.Common.{◌≡◌, ℕ, zero, suc, ◌<◌, ◌-◌, ◌%◌, ◌==◌, ◌||◌, ◌↔◌, List, [], ◌∷◌, Some, None, refl, ap, Result, Ok, Err, map, length, take, slice_index, Bool, true, false, if◌then◌else◌, arith, lit<}
 use Rattle.std.specs.Result.{result_ok}
 use Rattle.base64.specs.declared.decode.DecodeError.{DecodeError}
 use Rattle.base64.specs.Engines.{standard_no_pad}
-use Rattle.base64.specs.GeneralPurpose.{IsBytes, decode_of, encode_of}
+use Rattle.base64.specs.GeneralPurpose.{IsBytes}
 use Rattle.base64.proofs.EngineFacts.{decode_of_iff}
 use Rattle.memchr.specs.Find.{IsFirstByte, is_byte2}
-use Rattle.etcd_model.specs.Spelling.{Spells, spelled_bytes, standard_symbol, symbols_of, without_equals, without_padding}
+use Rattle.etcd_model.specs.Spelling.{Spells, spelled_bytes, standard_symbol, symbols_of, without_equals}
 
 ok_part : (r : Result (List ℕ) DecodeError) (b : List ℕ) → result_ok r ≡ Some b → r ≡ Ok b
 ok_part (Ok x) b e = cc

@@ -1,5 +1,5 @@
 -- Looking into a table of names.
-use Rattle.std.proofs.Common.{◌≡◌, ℕ, zero, suc, ◌+◌, ◌<◌, ◌≤◌, List, [], ◌∷◌, length, drop, get_or, map, Option, Some, None, Bool, true, false, refl, ap, sym, ◌∙◌, arith, drop-cons, add-one, bytes_eq}
+use Rattle.std.proofs.Common.{◌≡◌, ℕ, zero, suc, ◌+◌, ◌<◌, ◌≤◌, List, [], ◌∷◌, length, drop, get_or, map, Some, None, true, false, refl, ap, arith, drop-cons, add-one, bytes_eq}
 use Rattle.etcd_model.specs.Members.{named, placed}
 
 module _ {X T : Type 0} (f : X → List ℕ × T) where

@@ -1,5 +1,5 @@
 -- What is planned is what the written machine does, whatever state is held.
-use Rattle.std.proofs.Common.{◌≡◌, ◌≢◌, ℕ, ◌+◌, ◌≤◌, List, [], ◌∷◌, ◌++◌, length, length-append, Bool, true, false, cond, refl, ap, sym, subst, ◌∙◌, arith, if◌then◌else◌}
+use Rattle.std.proofs.Common.{◌≡◌, ◌≢◌, ℕ, ◌+◌, ◌≤◌, List, [], ◌∷◌, length, length-append, Bool, true, false, refl, ap, sym, subst, ◌∙◌, arith, if◌then◌else◌}
 use Rattle.std.specs.Prelude.{Option, Some, None, Result, Ok, Err, IfOk, ◌&&◌, ◌||◌, nat_le, nat_lt, pos}
 use Rattle.std.specs.Option.{option_to_list}
 use Rattle.std.proofs.lemmas.Bool.Decides.{nat_tests}
@@ -8,10 +8,9 @@ use Rattle.etcd_types.specs.declared.key_value.KeyValue.{KeyValue}
 use Rattle.etcd_types.specs.declared.kv.PutReq.{PutReq}
 use Rattle.etcd_types.specs.declared.kv.RangeReq.{RangeReq}
 use Rattle.etcd_types.specs.declared.step.Step.{Step}
-use Rattle.etcd_types.specs.declared.step.Step.TheVariants.{Range, Put, Delete, Txn, Compact, Watch, Take, DropWatch, Grant, Revoke, KeepAlive, TimeToLive, Leases, Alarm, Status, Defragment, Tick, CatchUp}
+use Rattle.etcd_types.specs.declared.step.Step.TheVariants.{Range, Put}
 use Rattle.etcd_types.specs.declared.refusal.Refusal.{Refusal}
-use Rattle.etcd_types.specs.declared.refusal.Refusal.TheVariants.{NotOffered, UsedUp, Memory, NoKey, ValueGiven, LeaseGiven, Compacted, Future}
-use Rattle.etcd_types.specs.declared.reply.Reply.{Reply}
+use Rattle.etcd_types.specs.declared.refusal.Refusal.TheVariants.{NotOffered, UsedUp, Memory, NoKey, ValueGiven, LeaseGiven}
 use Rattle.etcd_types.specs.declared.reply.Reply.TheVariants.{Refused, Put as PutReply, Range as RangeReply}
 use Rattle.etcd_model.specs.declared.state.Change.{Change}
 use Rattle.etcd_model.specs.declared.state.Change.TheVariants.{Put as Set}
@@ -26,8 +25,8 @@ use Rattle.etcd_model.specs.Operations.{first_refusal}
 use Rattle.etcd_model.specs.Tenant.{Outcome, stays}
 use Rattle.etcd_model.specs.Stepping.{decided, early, look_up, outcome, writes, chooses_id}
 use Rattle.etcd_model.specs.Machine.{history, before_space}
-use Rattle.etcd_model.specs.Offered.{is_offered, is_offered_put, is_offered_range, built_machine}
-use Rattle.tenant_machine.specs.Newest.{Newest, Holds, newest_of, over, by_key}
+use Rattle.etcd_model.specs.Offered.{is_offered_put, is_offered_range, built_machine}
+use Rattle.tenant_machine.specs.Newest.{Newest, newest_of, over, by_key}
 use Rattle.tenant_machine.specs.Plans.{Plan, Plans, after, planned, plan_step, plan_unless, plan_put, plan_range, refused, refusal, row_of, row_put, header_at}
 use Rattle.etcd_model.proofs.HistoryLaws.{created_at, version_of}
 use Rattle.etcd_model.proofs.PutLaws.{rows-put, kv-put, row_among, rows-one_key}

@@ -1,7 +1,6 @@
 -- An offered put has a key and a value alone, and an offered range a key.
-use Rattle.std.proofs.Common.{◌≡◌, ℕ, ℤ, List, [], ◌∷◌, Bool, true, false, refl, ap, ◌&&◌}
+use Rattle.std.proofs.Common.{◌≡◌, ℕ, ℤ, List, [], ◌∷◌, Bool, true, false, refl, ◌&&◌}
 use Rattle.std.specs.Prelude.{pos, not}
-use Rattle.std.specs.Ordering.{int_eq}
 use Rattle.std.proofs.lemmas.Bool.Decides.{Decides-int_eq}
 use Rattle.etcd_types.specs.declared.kv.PutReq.{PutReq}
 use Rattle.etcd_types.specs.declared.kv.RangeReq.{RangeReq}

@@ -1,5 +1,5 @@
 -- What the machine keeps of a history: the current revision and the rows of all keys there.
-use Rattle.std.specs.Prelude.{◌≡◌, ℕ, ◌≤◌, List, []}
+use Rattle.std.specs.Prelude.{◌≡◌, ℕ, ◌≤◌, List}
 use Rattle.etcd_types.specs.declared.key_value.KeyValue.{KeyValue}
 use Rattle.std.specs.declared.cmp.Ordering.{Ordering}
 use Rattle.etcd_model.specs.Order.{key_cmp}

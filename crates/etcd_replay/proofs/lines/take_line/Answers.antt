@@ -1,4 +1,4 @@
-use Rattle.std.proofs.Common.{ap, arith, Ok, ◌<◌, length}
+use Rattle.std.proofs.Common.{ap, arith, Ok}
 use Rattle.etcd_replay.proofs.LineLemmas.{front_more, line_whole, rest_whole, too_long}
 use Rattle.etcd_replay.proofs.lines.take_line.Goals as goal
 

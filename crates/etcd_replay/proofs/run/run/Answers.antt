@@ -1,6 +1,5 @@
-use Rattle.std.proofs.Common.{◌≡◌, ◌≢◌, ℕ, ◌+◌, List, [], ap, sym, subst, ◌∙◌, Option, None, Ok, IfSome, arith, length, vec_len}
+use Rattle.std.proofs.Common.{◌≡◌, ◌+◌, ap, sym, subst, ◌∙◌, Option, Ok, IfSome, arith, length, vec_len}
 use Rattle.std.specs.Io.BufRead.{strip_last}
-use Rattle.etcd_replay.specs.declared.lines.Taken.TheVariants.{Line}
 use Rattle.etcd_replay.specs.declared.replay.Tenant.{Tenant}
 use Rattle.etcd_replay.specs.Going.{Going}
 use Rattle.etcd_replay.specs.Script.{asked_by, read_line}

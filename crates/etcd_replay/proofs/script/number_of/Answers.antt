@@ -1,4 +1,4 @@
-use Rattle.std.proofs.Common.{◌≡◌, true, sym, ◌∙◌, subst, ap}
+use Rattle.std.proofs.Common.{◌≡◌, true, sym, ◌∙◌, ap}
 use Rattle.etcd_replay.specs.Script.{is_number, number_of}
 use Rattle.etcd_replay.proofs.NumberLemmas.{number_is_text, number_parsed}
 use Rattle.etcd_replay.proofs.script.number_of.Goals as goal

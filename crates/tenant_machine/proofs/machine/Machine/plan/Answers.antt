@@ -1,5 +1,3 @@
-use Rattle.std.proofs.Common.{sym, subst, Ok, Err}
-use Rattle.tenant_machine.specs.Plans.{Plans}
 use Rattle.tenant_machine.proofs.Planning.{plans_where}
 use Rattle.tenant_machine.proofs.machine.Machine.plan.Goals as goal
 

@@ -1,4 +1,4 @@
-use Rattle.std.proofs.Common.{◌≤◌, arith, sym, subst, ◌∙◌}
+use Rattle.std.proofs.Common.{◌≤◌, arith, sym, subst}
 use Rattle.tenant_machine.specs.Plans.{AreCounted}
 use Rattle.tenant_machine.proofs.Counting.{counted_found}
 use Rattle.tenant_machine.proofs.machine.Machine.row_put.Goals as goal
