@@ -30,10 +30,10 @@ recorded_kept c xs e le rises = ap (λ o. record { key = key_of e.change; revisi
 
 -- ---- each change of a key is alone at its revision
 
-abbrev same_place : Entry → Entry → Bool
+abbrev pub same_place : Entry → Entry → Bool
 same_place e f = bytes_eq (key_of f.change) (key_of e.change) && nat_eq f.revision e.revision
 
-abbrev Apart : List Entry → Type 0
+abbrev pub Apart : List Entry → Type 0
 Apart [] = Unit {0}
 Apart (e ∷ es) = AllByRecursion (λ f. same_place e f ≡ false) es × Apart es
 
@@ -76,7 +76,7 @@ above : (m n : ℕ) (revisions : List (List Change)) → m ≤ n → AllByRecurs
 above m n [] h = tt
 above m n (cs ∷ more) h = all_append (λ (f : Entry). m < f.revision) (map (entry_at (n + 1)) cs) (entries_after (n + 1) more) (above_at m (n + 1) cs (omega (arith, h))) (above m (n + 1) more (omega (arith, h)))
 
-entries_apart : (n : ℕ) (revisions : List (List Change)) → ((key : List ℕ) → All (λ cs. length (filter (λ c. bytes_eq (key_of c) key) cs) ≤ 1) revisions) → Apart (entries_after n revisions)
+pub entries_apart : (n : ℕ) (revisions : List (List Change)) → ((key : List ℕ) → All (λ cs. length (filter (λ c. bytes_eq (key_of c) key) cs) ≤ 1) revisions) → Apart (entries_after n revisions)
 entries_apart n [] once = tt
 entries_apart n (cs ∷ more) once =
     apart_at (n + 1) cs (entries_after (n + 1) more) (λ key. All-head (λ ds. length (filter (λ c. bytes_eq (key_of c) key) ds) ≤ 1) cs more (once key))
@@ -85,11 +85,11 @@ entries_apart n (cs ∷ more) once =
 
 -- ---- kept, by the changes that follow and by the last change of the key
 
-key_of-entry : (key : List ℕ) (row : Option KeyValue) → key_of (change_by key row) ≡ key
+pub key_of-entry : (key : List ℕ) (row : Option KeyValue) → key_of (change_by key row) ≡ key
 key_of-entry key None = refl
 key_of-entry key (Some row) = refl
 
-is_put-change : (key : List ℕ) (row : Option KeyValue) → is_put (change_by key row) ≡ is_some row
+pub is_put-change : (key : List ℕ) (row : Option KeyValue) → is_put (change_by key row) ≡ is_some row
 is_put-change key None = refl
 is_put-change key (Some row) = refl
 
@@ -110,7 +110,7 @@ unmap x [] h = tt
 unmap x (w ∷ ws) h = (h.0, unmap x ws h.1)
 
 -- the two tests for a change below c
-abbrev Alike : ℕ → List Recorded → Recorded → List Recorded → Type 0
+abbrev pub Alike : ℕ → List Recorded → Recorded → List Recorded → Type 0
 Alike c all x ys = keeps c x ys ≡ (nat_le c x.revision || is_last_put (entry_of x) (option_map entry_of (last x.key c all)))
 
 different : (x y : Recorded) → same_place (entry_of x) (entry_of y) ≡ false → y.key ≡ x.key → nat_eq y.revision x.revision ≡ false
@@ -118,7 +118,7 @@ different x y apart is =
     let keys : bytes_eq (key_of (change_of y)) (key_of (change_of x)) ≡ true = (bytes_decides _ _).1 (key_of-entry y.key y.row ∙ is ∙ sym (key_of-entry x.key x.row)) in
     sym (ap (λ b. b && nat_eq y.revision x.revision) keys) ∙ apart
 
-alike : (c : ℕ) (zs : List Recorded) (x : Recorded) (ys : List Recorded) → AllByRecursion (λ f. same_place (entry_of x) f ≡ false) (map entry_of ys) → Alike c (zs ++ x ∷ ys) x ys
+pub alike : (c : ℕ) (zs : List Recorded) (x : Recorded) (ys : List Recorded) → AllByRecursion (λ f. same_place (entry_of x) f ≡ false) (map entry_of ys) → Alike c (zs ++ x ∷ ys) x ys
 alike c zs x ys apart = elim (cases_lt x.revision c) [
   | inr from ↦ ap (λ b. b || (is_some x.row && not (list_any (is_up_to x.key c) ys))) (le-leb c x.revision from) ∙ sym (ap (λ b. b || is_last_put (entry_of x) (option_map entry_of (last x.key c (zs ++ x ∷ ys)))) (le-leb c x.revision from))
   | inl below ↦ elim (some_or_none (last x.key c ys)) [

@@ -19,3 +19,5 @@ pub mod RevisionLaws
 pub mod CounterLaws
 pub mod OnceStoreLaws
 pub mod OpeningLaws
+pub mod PendingLaws
+pub mod ApartLaws

@@ -39,7 +39,7 @@ taken_branch_is_distinct = taken_branch
 -- ---- a key with changes pending
 
 -- the changes of a revision, one after another, make a key's row
-live_revision : (key : List ℕ) (n : ℕ) (xs : List Recorded) (cs : List Change) → live key n (record_revision n xs cs) ≡ fold (next_row n) (live key n xs) (changes_of key cs)
+pub live_revision : (key : List ℕ) (n : ℕ) (xs : List Recorded) (cs : List Change) → live key n (record_revision n xs cs) ≡ fold (next_row n) (live key n xs) (changes_of key cs)
 live_revision key n xs [] = refl
 live_revision key n xs (c ∷ cs) =
     let y = recorded xs (entry_at n c) in
@@ -99,7 +99,7 @@ finish_changes_once s id is key =
 
 -- ---- where each key is there once
 
-keys_apart : (key : List ℕ) (cs : List Change) → length (changes_of key cs) ≤ 0 → AllByRecursion (λ d. bytes_eq (key_of d) key ≡ false) cs
+pub keys_apart : (key : List ℕ) (cs : List Change) → length (changes_of key cs) ≤ 0 → AllByRecursion (λ d. bytes_eq (key_of d) key ≡ false) cs
 keys_apart key [] few = tt
 keys_apart key (d ∷ ds) few = elim (bytes_eq (key_of d) key) as (λ b. bytes_eq (key_of d) key ≡ b → length (cond b (d ∷ changes_of key ds) (changes_of key ds)) ≤ 0 → AllByRecursion (λ c. bytes_eq (key_of c) key ≡ false) (d ∷ ds)) [
   | true ↦ λ e h. absurd (omega (arith, h))

@@ -93,7 +93,7 @@ never_changed (x ∷ xs) key r h =
 pub absent : (xs : List Recorded) (r : ℕ) (key : List ℕ) → list_any (λ k. bytes_eq k key) (keys xs) ≡ false → live key r xs ≡ None
 absent xs r key h = ap (option_and_then (λ (x : Recorded). x.row)) (any_none (is_up_to key r) xs (never_changed xs key r (sym (any-keys_in_order (λ k. bytes_eq k key) (map (λ (x : Recorded). x.key) xs)) ∙ h)))
 
-keys_ascend : (xs : List Recorded) → IsStrictlySortedBy key_cmp (keys xs)
+pub keys_ascend : (xs : List Recorded) → IsStrictlySortedBy key_cmp (keys xs)
 keys_ascend xs = keys_in_order (map (λ (x : Recorded). x.key) xs)
 
 module _ (xs : List Recorded) (own : AllByRecursion OwnRow xs) (r : ℕ) where

@@ -58,7 +58,7 @@ same_either : (b : Bool) (o : Option KeyValue) → o ≡ (if b then o else o)
 same_either true o = refl
 same_either false o = refl
 
-find_without : (key other : List ℕ) (rs : List KeyValue) → find (has_key other) (without key rs) ≡ (if bytes_eq other key then None else find (has_key other) rs)
+pub find_without : (key other : List ℕ) (rs : List KeyValue) → find (has_key other) (without key rs) ≡ (if bytes_eq other key then None else find (has_key other) rs)
 find_without key other [] = same_either (bytes_eq other key) None
 find_without key other (r ∷ rs) =
     elim (bytes_eq r.key key) as (λ b. bytes_eq r.key key ≡ b → find (has_key other) (cond (not b) (r ∷ without key rs) (without key rs)) ≡ (if bytes_eq other key then None else cond (bytes_eq r.key other) (Some r) (find (has_key other) rs))) [
@@ -128,7 +128,7 @@ cells_push n xs y own oy low = omega (arith, rows_push (λ row. cost_delete row.
 abbrev pub pend : Store → List Change → List Recorded
 pend s cs = record_revision (s.current + 1) s.changes cs
 
-own_pend : (s : Store) (cs : List Change) → IsStore s → AllByRecursion OwnRow (pend s cs)
+pub own_pend : (s : Store) (cs : List Change) → IsStore s → AllByRecursion OwnRow (pend s cs)
 own_pend s cs is = own_fold s.changes (map (entry_at (s.current + 1)) cs) is.own
 
 -- the next revision shows what the current one does
@@ -139,7 +139,7 @@ pub row_pending : (s : Store) (cs : List Change) → IsStore s → (key : List �
 row_pending s [] is key = live_next s is key
 row_pending s (c ∷ cs) is key = refl
 
-rows_pending : (s : Store) (cs : List Change) → IsStore s → (interval : List ℕ → Bool) → rows interval (after s cs).current (after s cs).changes ≡ rows interval (s.current + 1) (pend s cs)
+pub rows_pending : (s : Store) (cs : List Change) → IsStore s → (interval : List ℕ → Bool) → rows interval (after s cs).current (after s cs).changes ≡ rows interval (s.current + 1) (pend s cs)
 rows_pending s [] is interval = same_rows s.changes s.changes is.own is.own s.current (s.current + 1) (live_next s is) interval
 rows_pending s (c ∷ cs) is interval = refl
 
@@ -147,7 +147,7 @@ cells_pending : (s : Store) (cs : List Change) → IsStore s → cells (after s 
 cells_pending s [] is = ap (λ (rs : List KeyValue). record_cells s.changes + sum_by (λ (row : KeyValue). cost_delete row.key) rs) (rows_pending s [] is every_key)
 cells_pending s (c ∷ cs) is = refl
 
-pend_push : (s : Store) (cs : List Change) (c : Change) → pend s (cs ++ c ∷ []) ≡ pend s cs ++ recorded (pend s cs) (entry_at (s.current + 1) c) ∷ []
+pub pend_push : (s : Store) (cs : List Change) (c : Change) → pend s (cs ++ c ∷ []) ≡ pend s cs ++ recorded (pend s cs) (entry_at (s.current + 1) c) ∷ []
 pend_push s cs c =
     ap (fold record_change s.changes) (map-append (entry_at (s.current + 1)) cs (c ∷ []))
     ∙ fold-append record_change s.changes (map (entry_at (s.current + 1)) cs) (entry_at (s.current + 1) c ∷ [])

@@ -6,3 +6,5 @@ pub mod Worlds
 pub mod Leases
 pub mod Runs
 pub mod Once
+pub mod Pending
+pub mod Apart

@@ -4,10 +4,12 @@
 //! A proof cites a law by the lemma of `proofs/` that stands on it.
 #![tactic(auto)]
 
+pub mod apart;
 pub mod holding;
 pub mod keeping;
 pub mod leases;
 pub mod once;
+pub mod pending;
 pub mod recording;
 pub mod runs;
 pub mod space;
