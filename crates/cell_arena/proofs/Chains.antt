@@ -1,11 +1,11 @@
 -- Chains over writes.
-use Rattle.std.proofs.Common.{◌≡◌, ◌≢◌, ℕ, zero, suc, Bool, true, false, ◌+◌, ◌-◌, ◌^◌, ◌<◌, ◌≤◌, List, [], ◌∷◌, ◌++◌, length, Option, Some, None, refl, sym, ap, ◌∙◌, inl, inr, arith, subst, ◌⊎◌}
+use Rattle.std.proofs.Common.{◌≡◌, ◌≢◌, ℕ, zero, suc, true, false, ◌+◌, ◌-◌, ◌^◌, ◌<◌, List, ◌++◌, length, Option, Some, None, refl, sym, ap, ◌∙◌, inl, inr, arith, subst, ◌⊎◌}
 use Rattle.std.proofs.lemmas.Bool.{cases_eq}
 use Rattle.cell_arena.specs.declared.cell.Cell.{Cell}
 use Rattle.cell_arena.specs.declared.cell.Cell.TheVariants.{Free, Head, Rest}
 use Rattle.cell_arena.specs.declared.cell.HeadCell.{HeadCell}
 use Rattle.cell_arena.specs.declared.cell.Kind.{Kind}
-use Rattle.cell_arena.specs.Chain.{is_free, is_rest, link_of, bytes_of, Writes, IsChain, chain_bytes, head_pieces, IsUnlinked, IsLoose, IsLinked, record_with, record_of, record_at, SameRecords}
+use Rattle.cell_arena.specs.Chain.{is_rest, link_of, bytes_of, Writes, IsChain, chain_bytes, head_pieces, IsUnlinked, IsLoose, IsLinked, record_with, record_of, record_at}
 
 -- what the first cell of a chain adds
 pub bytes_next : (at : ℕ → Cell) (m n : ℕ) (link next : Option ℕ) (bytes : List ℕ) → link ≡ Some n → at n ≡ Rest bytes next → chain_bytes at (suc m) link ≡ bytes ++ chain_bytes at m next

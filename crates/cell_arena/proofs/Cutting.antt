@@ -1,6 +1,6 @@
 -- Bytes cut into pieces of 48.
-use Rattle.std.proofs.Common.{◌≡◌, ℕ, zero, suc, ◌+◌, ◌-◌, ◌*◌, ◌<◌, ◌≤◌, min, List, [], ◌∷◌, ◌++◌, length, take, drop, refl, sym, ap, ◌∙◌, inl, inr, ◌⊎◌, arith, subst}
-use Rattle.std.proofs.lemmas.List.{append-nil, append_assoc, length-take, length-drop, length-append, take_min, take_all, take_at, take-take, take-append-drop, drop-drop, drop_all, drop-take, drop-append-le, nil_from_length}
+use Rattle.std.proofs.Common.{◌≡◌, ℕ, zero, suc, ◌+◌, ◌-◌, ◌<◌, ◌≤◌, min, List, [], ◌∷◌, ◌++◌, length, take, drop, refl, sym, ap, ◌∙◌, inl, inr, ◌⊎◌, arith}
+use Rattle.std.proofs.lemmas.List.{append-nil, append_assoc, length-take, length-drop, length-append, take_min, take_all, take_at, take-append-drop, drop-drop, drop_all, nil_from_length}
 use Rattle.std.proofs.lemmas.Bool.{cases_lt}
 
 pub take_both : (n : ℕ) (xs ys : List ℕ) → take n (xs ++ ys) ≡ take n xs ++ take (n - length xs) ys

@@ -1,5 +1,5 @@
 -- The list of the free cells over writes.
-use Rattle.std.proofs.Common.{◌≡◌, ◌≢◌, ℕ, zero, suc, Bool, true, false, ◌+◌, ◌-◌, ◌<◌, ◌≤◌, ◌^◌, List, [], ◌∷◌, ◌++◌, length, get_or, set, take, Option, Some, None, count_by, cond, refl, sym, ap, ◌∙◌, inl, inr, arith, rules, add-one, subst}
+use Rattle.std.proofs.Common.{◌≡◌, ◌≢◌, ℕ, zero, suc, Bool, true, false, ◌+◌, ◌-◌, ◌<◌, ◌≤◌, List, [], ◌∷◌, ◌++◌, length, get_or, set, take, Option, Some, None, count_by, cond, refl, sym, ap, ◌∙◌, inl, inr, arith, add-one, subst}
 use Rattle.std.proofs.lemmas.List.{take_more_set, take_all, length_push, get_or_push, get_or_append_left, get_or-set_same, get_or-set_other, length-set, get_or_past, get_or_default}
 use Rattle.std.proofs.lemmas.List.Sums.{sum_by-set, sum_by-cons, sum_by_push, count_by-le-length}
 use Rattle.std.proofs.lemmas.Bool.{cases_lt, cases_eq}

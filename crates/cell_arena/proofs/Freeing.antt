@@ -1,5 +1,5 @@
 -- A chain while its cells are freed.
-use Rattle.std.proofs.Common.{◌≡◌, ◌≢◌, ℕ, zero, suc, Bool, true, false, ◌+◌, ◌-◌, ◌<◌, ◌≤◌, List, [], ◌∷◌, ◌++◌, length, Option, Some, None, refl, sym, ap, ◌∙◌, inl, inr, arith, subst}
+use Rattle.std.proofs.Common.{◌≡◌, ◌≢◌, ℕ, ◌+◌, ◌-◌, ◌<◌, ◌≤◌, List, length, Option, Some, sym, ap, ◌∙◌, inl, inr, arith}
 use Rattle.std.proofs.lemmas.Bool.{cases_eq}
 use Rattle.cell_arena.specs.declared.cell.Cell.{Cell}
 use Rattle.cell_arena.specs.declared.cell.Cell.TheVariants.{Free, Head, Rest}
@@ -7,8 +7,8 @@ use Rattle.cell_arena.specs.declared.cell.HeadCell.{HeadCell}
 use Rattle.cell_arena.specs.declared.cell.Kind.{Kind}
 use Rattle.cell_arena.specs.declared.table.Table.{Table}
 use Rattle.cell_arena.specs.Table.{IsTable, table_at}
-use Rattle.cell_arena.specs.Chain.{is_free, is_rest, link_of, Writes, IsChain, IsUnlinked, IsLoose, IsLinked, record_of, record_at, SameRecords, SameRecordsBut, head_pieces}
-use Rattle.cell_arena.proofs.Chains.{chain_kept, record_kept, linked_written, may_free, loose_next, loose_first, unlinked}
+use Rattle.cell_arena.specs.Chain.{is_rest, link_of, Writes, IsChain, IsUnlinked, IsLoose, IsLinked, record_of, record_at, SameRecords, head_pieces}
+use Rattle.cell_arena.proofs.Chains.{chain_kept, record_kept, linked_written, may_free, loose_next, unlinked}
 
 -- of `count` cells so many are left, from this link on
 pub record IsFreeing (old now : Table) (left : ℕ) (link : Option ℕ) (count : ℕ) : Type 0 where

@@ -1,7 +1,7 @@
 -- A head that is written again with another older one.
-use Rattle.std.proofs.Common.{◌≡◌, ◌≢◌, ℕ, true, false, ◌+◌, ◌<◌, ◌^◌, List, Option, Some, refl, sym, ap, ◌∙◌, subst}
+use Rattle.std.proofs.Common.{◌≡◌, ◌≢◌, ℕ, ◌+◌, ◌<◌, ◌^◌, List, Option, Some, ap, ◌∙◌, subst}
 use Rattle.cell_arena.specs.declared.cell.Cell.{Cell}
-use Rattle.cell_arena.specs.declared.cell.Cell.TheVariants.{Free, Head, Rest}
+use Rattle.cell_arena.specs.declared.cell.Cell.TheVariants.{Head}
 use Rattle.cell_arena.specs.declared.cell.HeadCell.{HeadCell}
 use Rattle.cell_arena.specs.declared.cell.Kind.{Kind}
 use Rattle.cell_arena.specs.Chain.{is_rest, link_of, Writes, IsChain, chain_bytes, IsUnlinked, IsLinked, head_pieces, record_with, record_of, record_at, SameRecordsBut}

@@ -1,20 +1,17 @@
 -- A table and an order as they begin.
-use Rattle.std.proofs.Common.{◌≡◌, ℕ, zero, suc, true, false, ◌+◌, ◌-◌, ◌*◌, ◌/◌, ◌%◌, ◌<◌, ◌≤◌, ◌^◌, List, [], ◌∷◌, ◌++◌, length, map, get_or, Option, Some, None, sum_by, refl, sym, ap, ◌∙◌, inl, inr, arith, subst}
+use Rattle.std.proofs.Common.{◌≡◌, ℕ, zero, suc, ◌+◌, ◌-◌, ◌*◌, ◌/◌, ◌%◌, ◌<◌, ◌≤◌, ◌^◌, List, [], ◌∷◌, ◌++◌, length, map, get_or, Some, None, sum_by, refl, sym, ap, ◌∙◌, inl, inr, arith, subst}
 use Rattle.std.proofs.lemmas.Bool.{cases_eq}
 use Rattle.std.proofs.lemmas.List.{length_push, get_or_push, get_or_append_left}
 use Rattle.std.proofs.lemmas.List.Sums.{sum_by-cons}
-use Rattle.std.specs.Global.{Vec}
-use Rattle.std.specs.Ordering.{nat_cmp}
-use Rattle.std.specs.FinMap.{FinMap, empty}
-use Rattle.cell_arena.specs.declared.cell.Cell.{Cell}
-use Rattle.cell_arena.specs.declared.cell.Cell.TheVariants.{Free, Head, Rest}
+use Rattle.std.specs.FinMap.{empty}
+use Rattle.cell_arena.specs.declared.cell.Cell.TheVariants.{Free, Head}
 use Rattle.cell_arena.specs.declared.cell.HeadCell.{HeadCell}
 use Rattle.cell_arena.specs.declared.cell.Kind.{Kind}
 use Rattle.cell_arena.specs.declared.order.Order.{Order}
 use Rattle.cell_arena.specs.declared.slot.Slot.{Slot}
 use Rattle.cell_arena.specs.declared.table.Table.{Table}
-use Rattle.cell_arena.specs.Chain.{IsBare, AllBare, IsLinked, Record, cell_at, link_of, record_of}
-use Rattle.cell_arena.specs.Held.{Held, held_of, IsSound}
+use Rattle.cell_arena.specs.Chain.{IsBare, AllBare, cell_at, link_of, record_of}
+use Rattle.cell_arena.specs.Held.{held_of, IsSound}
 use Rattle.cell_arena.specs.Order.{IsOrder, count_of}
 use Rattle.cell_arena.specs.Table.{IsTable, IsSlot, slot_cells, hidden, table_at, free_of, used_of, busy_of}
 use Rattle.cell_arena.proofs.Records.{empty_is, get_held}

@@ -1,5 +1,5 @@
 -- A chain while it is filled, from its last cell on.
-use Rattle.std.proofs.Common.{◌≡◌, ◌≢◌, ℕ, zero, suc, Bool, true, false, ◌+◌, ◌-◌, ◌*◌, ◌/◌, ◌<◌, ◌≤◌, ◌^◌, List, [], ◌∷◌, ◌++◌, length, take, drop, Option, Some, None, refl, sym, ap, ◌∙◌, inl, inr, arith, subst}
+use Rattle.std.proofs.Common.{◌≡◌, ◌≢◌, ℕ, zero, suc, true, false, ◌+◌, ◌-◌, ◌*◌, ◌/◌, ◌<◌, ◌≤◌, ◌^◌, List, ◌++◌, length, take, drop, Option, Some, None, refl, sym, ap, ◌∙◌, inl, inr, arith, subst}
 use Rattle.std.proofs.lemmas.Bool.{cases_eq}
 use Rattle.std.proofs.lemmas.List.{length-append, take-take, drop-take, take_at, drop_at, drop_all}
 use Rattle.cell_arena.specs.declared.cell.Cell.{Cell}
@@ -9,7 +9,7 @@ use Rattle.cell_arena.specs.declared.cell.Kind.{Kind}
 use Rattle.cell_arena.specs.declared.table.Table.{Table}
 use Rattle.cell_arena.specs.Table.{IsTable, table_at}
 use Rattle.cell_arena.specs.Storing.{IsStoring}
-use Rattle.cell_arena.specs.Chain.{is_free, is_rest, link_of, Writes, IsChain, chain_bytes, IsUnlinked, IsLoose, IsLinked, record_with, record_of, record_at, SameRecords, SameRecordsBut, head_pieces, Record}
+use Rattle.cell_arena.specs.Chain.{is_free, is_rest, link_of, Writes, IsChain, chain_bytes, IsUnlinked, IsLoose, IsLinked, record_with, record_of, record_at, SameRecords, head_pieces, Record}
 use Rattle.cell_arena.proofs.Chains.{MayWrite, chain_kept, bytes_next, record_kept, linked_written, unlinked, unlinked_still}
 use Rattle.cell_arena.proofs.Cutting.{piece_joined}
 

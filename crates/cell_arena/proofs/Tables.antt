@@ -1,18 +1,18 @@
 -- A table of segments over writes.
-use Rattle.std.proofs.Common.{◌≡◌, ◌≢◌, ℕ, zero, suc, Bool, true, false, ◌+◌, ◌-◌, ◌*◌, ◌/◌, ◌%◌, ◌<◌, ◌≤◌, ◌^◌, ◌==◌, List, [], ◌∷◌, ◌++◌, length, map, get_or, set, Option, Some, None, cond, count_by, sum_by, refl, sym, ap, ◌∙◌, inl, inr, ◌⊎◌, arith, subst}
-use Rattle.std.proofs.lemmas.Bool.{cases_eq, cases_lt, eq-eqb, ne_eqb}
-use Rattle.std.proofs.lemmas.List.{nil_from_length, get_or_past, get_or_default, get_or-set_same, get_or-set_other, length-set, length-map, get_or-map, map-set}
-use Rattle.std.proofs.lemmas.List.Sums.{sum_by-set, sum_by-cons, get_or-le-sum_by, count_by-le-length}
+use Rattle.std.proofs.Common.{◌≡◌, ◌≢◌, ℕ, zero, suc, true, false, ◌+◌, ◌-◌, ◌*◌, ◌/◌, ◌%◌, ◌<◌, ◌≤◌, List, [], ◌∷◌, length, map, get_or, set, Option, None, count_by, sum_by, refl, sym, ap, ◌∙◌, inl, inr, ◌⊎◌, arith, subst}
+use Rattle.std.proofs.lemmas.Bool.{cases_lt}
+use Rattle.std.proofs.lemmas.List.{nil_from_length, get_or_past, get_or_default, length-map}
+use Rattle.std.proofs.lemmas.List.Sums.{sum_by-cons, get_or-le-sum_by, count_by-le-length}
 use Rattle.std.specs.Vec.{with_item}
 use Rattle.cell_arena.specs.declared.cell.Cell.{Cell}
-use Rattle.cell_arena.specs.declared.cell.Cell.TheVariants.{Free, Head, Rest}
+use Rattle.cell_arena.specs.declared.cell.Cell.TheVariants.{Free}
 use Rattle.cell_arena.specs.declared.slot.Slot.{Slot}
 use Rattle.cell_arena.specs.declared.order.Order.{Order}
 use Rattle.cell_arena.specs.declared.table.Table.{Table}
 use Rattle.cell_arena.specs.Chain.{is_free, cell_at, slot_at, Writes, IsListed, IsFreeList}
 use Rattle.cell_arena.proofs.FreeList.{within, read_is, others_free}
 use Rattle.cell_arena.specs.Order.{IsOrder, count_of, place_of, swapped}
-use Rattle.cell_arena.specs.Table.{hidden, slot_cells, at_slots, table_at, IsSlot, free_of, used_of, busy_of, IsTable}
+use Rattle.cell_arena.specs.Table.{hidden, slot_cells, at_slots, table_at, free_of, used_of, busy_of, IsTable}
 use Rattle.cell_arena.proofs.Zones.{swapped_cases, place_other, parts, at_set, at_is, hidden_used, hidden_free, free_hidden, table_changed}
 
 -- the first ready slot has one free cell fewer, and still some

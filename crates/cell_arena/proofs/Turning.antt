@@ -1,9 +1,9 @@
 -- Chains that are copied, and turned the other way round.
-use Rattle.std.proofs.Common.{◌≡◌, ◌≢◌, ℕ, zero, suc, Bool, true, false, ◌+◌, ◌-◌, ◌*◌, ◌<◌, ◌≤◌, List, [], ◌∷◌, ◌++◌, length, take, Option, Some, None, refl, sym, ap, ◌∙◌, inl, inr, arith, subst}
+use Rattle.std.proofs.Common.{◌≡◌, ◌≢◌, ℕ, zero, suc, true, false, ◌-◌, ◌*◌, ◌<◌, ◌≤◌, List, [], ◌++◌, length, take, Option, Some, None, refl, sym, ap, ◌∙◌, inl, inr, arith, subst}
 use Rattle.std.proofs.lemmas.Bool.{cases_eq}
 use Rattle.std.proofs.lemmas.List.{append_assoc, append-nil, take_at, take-take, length-append, length-take}
 use Rattle.cell_arena.specs.declared.cell.Cell.{Cell}
-use Rattle.cell_arena.specs.declared.cell.Cell.TheVariants.{Free, Head, Rest}
+use Rattle.cell_arena.specs.declared.cell.Cell.TheVariants.{Rest}
 use Rattle.cell_arena.specs.Chain.{is_free, is_rest, link_of, bytes_of, Writes, IsChain, chain_bytes, turned_bytes, IsUnlinked, IsLoose, IsLinked, record_of, record_at, SameRecords}
 use Rattle.cell_arena.proofs.Chains.{MayWrite, bytes_next, chain_bytes_first, chain_kept, record_kept, linked_written, unlinked_still}
 use Rattle.cell_arena.proofs.Storing.{begins, free_no_rest, free_unlinked, free_is_none, may_store}

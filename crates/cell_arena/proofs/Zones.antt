@@ -1,18 +1,18 @@
 -- The zones of a table's slots, and what stands at a number.
-use Rattle.std.proofs.Common.{◌≡◌, ◌≢◌, ℕ, zero, suc, Bool, true, false, ◌+◌, ◌-◌, ◌*◌, ◌/◌, ◌%◌, ◌<◌, ◌≤◌, ◌^◌, ◌==◌, List, [], ◌∷◌, ◌++◌, length, map, get_or, set, Option, Some, None, cond, count_by, sum_by, refl, sym, ap, ◌∙◌, inl, inr, ◌⊎◌, arith, subst}
-use Rattle.std.proofs.lemmas.Bool.{cases_eq, cases_lt, eq-eqb, ne_eqb}
-use Rattle.std.proofs.lemmas.List.{nil_from_length, get_or_past, get_or_default, get_or-set_same, get_or-set_other, length-set, length-map, get_or-map, map-set}
-use Rattle.std.proofs.lemmas.List.Sums.{sum_by-set, sum_by-cons, get_or-le-sum_by, count_by-le-length}
+use Rattle.std.proofs.Common.{◌≡◌, ◌≢◌, ℕ, true, false, ◌+◌, ◌*◌, ◌/◌, ◌%◌, ◌<◌, ◌≤◌, ◌==◌, List, [], length, map, get_or, set, None, cond, refl, sym, ap, ◌∙◌, inl, inr, ◌⊎◌, arith, subst}
+use Rattle.std.proofs.lemmas.Bool.{cases_eq, eq-eqb, ne_eqb}
+use Rattle.std.proofs.lemmas.List.{get_or-set_same, get_or-set_other, length-set, length-map, get_or-map, map-set}
+use Rattle.std.proofs.lemmas.List.Sums.{sum_by-set}
 use Rattle.std.specs.Vec.{with_item}
 use Rattle.cell_arena.specs.declared.cell.Cell.{Cell}
 use Rattle.cell_arena.specs.declared.cell.Cell.TheVariants.{Free, Head, Rest}
 use Rattle.cell_arena.specs.declared.slot.Slot.{Slot}
 use Rattle.cell_arena.specs.declared.order.Order.{Order}
 use Rattle.cell_arena.specs.declared.table.Table.{Table}
-use Rattle.cell_arena.specs.Chain.{is_free, cell_at, slot_at, Writes, IsListed, IsFreeList}
-use Rattle.cell_arena.proofs.FreeList.{within, read_is, others_free}
+use Rattle.cell_arena.specs.Chain.{is_free, cell_at, slot_at, Writes}
+use Rattle.cell_arena.proofs.FreeList.{within}
 use Rattle.cell_arena.specs.Order.{IsOrder, count_of, place_of, swapped}
-use Rattle.cell_arena.specs.Table.{hidden, slot_cells, at_slots, table_at, IsSlot, free_of, used_of, busy_of, IsTable}
+use Rattle.cell_arena.specs.Table.{hidden, slot_cells, at_slots, IsSlot, free_of, used_of, busy_of, IsTable}
 
 -- where a place goes, by cases
 pub swapped_cases : (i j p : ℕ) → ((p ≡ i) × (swapped i j p ≡ j)) ⊎ (((p ≢ i) × (p ≡ j) × (swapped i j p ≡ i)) ⊎ ((p ≢ i) × (p ≢ j) × (swapped i j p ≡ p)))

@@ -1,5 +1,5 @@
 -- A part of a record's bytes.
-use Rattle.std.specs.Prelude.{◌≡◌, ℕ, ◌+◌, ◌*◌, ◌≤◌, List, take, drop, Option}
+use Rattle.std.specs.Prelude.{ℕ, ◌+◌, ◌*◌, ◌≤◌, List, take, drop}
 use Rattle.cell_arena.specs.declared.cell.Cell.{Cell}
 use Rattle.cell_arena.specs.declared.part.Part.{Part}
 use Rattle.cell_arena.specs.Chain.{IsChain, chain_bytes}

@@ -1,5 +1,4 @@
-use Rattle.std.proofs.Common.{◌≡◌, ◌<◌, ◌+◌, ◌-◌, ℕ, arith, refl, subst, sym, ap, ◌∙◌}
-use Rattle.cell_arena.specs.Table.{table_at}
+use Rattle.std.proofs.Common.{◌≡◌, ◌<◌, ◌+◌, ◌-◌, arith, refl, subst, ap, ◌∙◌}
 use Rattle.cell_arena.specs.Chain.{is_free}
 use Rattle.cell_arena.proofs.Freeing.{IsFreeing, freed_more}
 use Rattle.cell_arena.proofs.chain.free_chain.Goals as goal

@@ -1,4 +1,4 @@
-use Rattle.std.proofs.Common.{◌≡◌, take, drop, sym, ap, arith, subst}
+use Rattle.std.proofs.Common.{take, sym, ap, arith, subst}
 use Rattle.cell_arena.specs.Chain.{IsChain, chain_bytes}
 use Rattle.cell_arena.specs.Table.{table_at}
 use Rattle.cell_arena.proofs.Records.{at_some}

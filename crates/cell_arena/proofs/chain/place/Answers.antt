@@ -1,4 +1,4 @@
-use Rattle.std.proofs.Common.{◌≡◌, ◌+◌, ◌<◌, ◌^◌, length, refl, ◌∙◌}
+use Rattle.std.proofs.Common.{refl, ◌∙◌}
 use Rattle.cell_arena.proofs.Chains.{record_kept}
 use Rattle.cell_arena.proofs.Storing.{head_linked, head_stands, free_unlinked, stored_all, short_text}
 use Rattle.cell_arena.proofs.chain.place.Goals as goal

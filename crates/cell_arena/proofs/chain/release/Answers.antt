@@ -1,6 +1,6 @@
-use Rattle.std.proofs.Common.{◌≡◌, ℕ, None, arith, refl, subst, sym, ap, ◌∙◌}
-use Rattle.cell_arena.specs.Chain.{is_free, is_rest, head_pieces, IsUnlinked}
-use Rattle.cell_arena.proofs.Chains.{unlinked, linked_written, may_free, loose_first, chain_kept, record_kept}
+use Rattle.std.proofs.Common.{None, ap, ◌∙◌}
+use Rattle.cell_arena.specs.Chain.{is_free, is_rest}
+use Rattle.cell_arena.proofs.Chains.{unlinked, loose_first, record_kept}
 use Rattle.cell_arena.proofs.Freeing.{head_freed_linked, head_freed_chain}
 use Rattle.cell_arena.proofs.chain.release.Goals as goal
 

@@ -1,4 +1,4 @@
-use Rattle.std.proofs.Common.{◌≡◌, Some, length, ap, sym, ◌∙◌}
+use Rattle.std.proofs.Common.{◌≡◌, length, ap, sym, ◌∙◌}
 use Rattle.cell_arena.specs.declared.cell.Cell.TheVariants.{Rest}
 use Rattle.cell_arena.proofs.Chains.{chain_first, chain_rest, chain_bytes_first}
 use Rattle.cell_arena.specs.Chain.{is_free}

@@ -1,4 +1,4 @@
-use Rattle.std.proofs.Common.{◌≡◌, ◌+◌, ◌++◌, length, refl, arith, ◌∙◌}
+use Rattle.std.proofs.Common.{◌++◌, refl, arith, ◌∙◌}
 use Rattle.std.proofs.lemmas.List.{length-append}
 use Rattle.cell_arena.proofs.Storing.{stored_more, storing_none}
 use Rattle.cell_arena.proofs.chain.store_bytes.Goals as goal

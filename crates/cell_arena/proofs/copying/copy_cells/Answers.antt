@@ -1,4 +1,4 @@
-use Rattle.std.proofs.Common.{◌≡◌, ◌<◌, ◌+◌, ◌-◌, ◌*◌, take, ℕ, suc, Some, refl, arith, subst, ap, ◌∙◌}
+use Rattle.std.proofs.Common.{◌≡◌, ◌<◌, ◌+◌, ◌-◌, ◌*◌, take, suc, Some, refl, arith, subst, ◌∙◌}
 use Rattle.cell_arena.specs.Chain.{IsChain, chain_bytes, turned_bytes}
 use Rattle.cell_arena.specs.Table.{table_at}
 use Rattle.cell_arena.proofs.Turning.{IsCopying, copying_none, copied_more, copied_same, copied_bytes}

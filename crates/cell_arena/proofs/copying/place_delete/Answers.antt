@@ -1,4 +1,4 @@
-use Rattle.std.proofs.Common.{◌≡◌, ◌<◌, ◌≤◌, ◌+◌, ◌*◌, ◌/◌, ◌^◌, ◌++◌, [], ℕ, List, Some, None, length, take, refl, arith, subst, sym, ap, ◌∙◌}
+use Rattle.std.proofs.Common.{◌≡◌, ◌≤◌, ◌+◌, ◌*◌, ◌/◌, ◌++◌, [], ℕ, List, Some, None, length, take, refl, arith, subst, sym, ap, ◌∙◌}
 use Rattle.cell_arena.specs.declared.cell.Kind.TheVariants.{Delete}
 use Rattle.cell_arena.specs.Chain.{Record, IsChain, chain_bytes, head_pieces, record_at}
 use Rattle.cell_arena.specs.Table.{table_at}

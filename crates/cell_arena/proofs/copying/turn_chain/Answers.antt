@@ -1,4 +1,4 @@
-use Rattle.std.proofs.Common.{◌≡◌, ◌<◌, ◌+◌, ◌-◌, ◌++◌, [], ℕ, suc, Some, refl, arith, subst, ap, ◌∙◌}
+use Rattle.std.proofs.Common.{◌≡◌, ◌<◌, ◌+◌, ◌-◌, ◌++◌, [], suc, Some, refl, arith, subst, ap, ◌∙◌}
 use Rattle.cell_arena.specs.Chain.{is_free, IsChain, turned_bytes, chain_bytes}
 use Rattle.cell_arena.specs.Table.{table_at}
 use Rattle.cell_arena.proofs.Turning.{IsTurning, turning_none, turned_more, turned_same, turned_all}

@@ -1,5 +1,5 @@
-use Rattle.std.proofs.Common.{◌≡◌, ◌+◌, ℕ, arith, sym, ◌∙◌, subst}
-use Rattle.cell_arena.proofs.Starting.{IsCounting, counting_more, counted_order}
+use Rattle.std.proofs.Common.{◌+◌, sym, ◌∙◌, subst}
+use Rattle.cell_arena.proofs.Starting.{IsCounting, counting_more}
 use Rattle.cell_arena.proofs.order.new.Goals as goal
 
 pub numbering-preserved : goal.numbering-preserved

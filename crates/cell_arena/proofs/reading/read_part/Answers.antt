@@ -1,4 +1,4 @@
-use Rattle.std.proofs.Common.{◌≡◌, ◌<◌, ◌+◌, ◌-◌, ◌++◌, [], take, drop, ap, sym, ◌∙◌, arith, rules, refl}
+use Rattle.std.proofs.Common.{◌<◌, ◌++◌, [], take, drop, ap, sym, ◌∙◌, arith, rules, refl}
 use Rattle.std.proofs.lemmas.List.{append-nil}
 use Rattle.cell_arena.specs.Chain.{chain_bytes}
 use Rattle.cell_arena.specs.Held.{IsFrontOf}

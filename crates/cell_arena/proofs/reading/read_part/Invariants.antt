@@ -1,4 +1,4 @@
-use Rattle.std.proofs.Common.{◌≡◌, ◌+◌, ◌*◌, ◌≤◌, ◌++◌, ◌-◌, ℕ, List, take, drop}
+use Rattle.std.proofs.Common.{◌≡◌, ◌+◌, ◌*◌, ◌≤◌, ◌++◌, ℕ, List, take, drop}
 use Rattle.cell_arena.specs.Chain.{IsChain, chain_bytes}
 use Rattle.cell_arena.specs.Part.{part_bytes}
 use Rattle.cell_arena.specs.Table.{table_at}

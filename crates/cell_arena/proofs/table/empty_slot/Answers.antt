@@ -1,4 +1,4 @@
-use Rattle.std.proofs.Common.{◌≡◌, [], None, sym, ◌∙◌, ap, refl, length}
+use Rattle.std.proofs.Common.{◌≡◌, [], None, sym, ◌∙◌, ap, length}
 use Rattle.cell_arena.specs.declared.slot.Slot.{Slot}
 use Rattle.cell_arena.proofs.Tables.{emptied, emptied_written, mid_read, none_listed, used_within}
 use Rattle.cell_arena.proofs.table.empty_slot.Goals as goal

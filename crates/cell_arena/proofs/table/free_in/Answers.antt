@@ -1,4 +1,4 @@
-use Rattle.std.proofs.Common.{◌≡◌, ◌<◌, sym, arith, ap, ◌∙◌}
+use Rattle.std.proofs.Common.{sym, arith}
 use Rattle.cell_arena.proofs.Tables.{used_within, used_in, used_drawn, some_used, freed_written, free_kept, free_opened, place_read}
 use Rattle.cell_arena.proofs.table.free_in.Goals as goal
 

@@ -1,4 +1,4 @@
-use Rattle.std.proofs.Common.{◌≡◌, get_or, ap, sym, ◌∙◌, arith}
+use Rattle.std.proofs.Common.{get_or, ap, sym, ◌∙◌, arith}
 use Rattle.cell_arena.proofs.Tables.{used_slot, used_place, look_is}
 use Rattle.cell_arena.proofs.table.look.Goals as goal
 

@@ -1,5 +1,4 @@
 use Rattle.std.proofs.Common.{◌≡◌, length, arith, refl, sym, ◌∙◌, subst}
-use Rattle.std.proofs.lemmas.List.{length_push}
 use Rattle.cell_arena.specs.Chain.{AllBare}
 use Rattle.cell_arena.proofs.Starting.{bare_more, bare_table}
 use Rattle.cell_arena.proofs.table.new.Goals as goal

@@ -1,4 +1,4 @@
-use Rattle.std.proofs.Common.{◌≡◌, ◌+◌, ◌*◌, ℕ, false, set, sym, subst, arith}
+use Rattle.std.proofs.Common.{◌≡◌, ◌+◌, ◌*◌, false, set, sym, subst, arith}
 use Rattle.cell_arena.specs.Chain.{is_free, Writes}
 use Rattle.cell_arena.specs.Table.{table_at, at_slots}
 use Rattle.cell_arena.proofs.Tables.{rewritten, rewritten_here}

@@ -1,4 +1,4 @@
-use Rattle.std.proofs.Common.{◌≡◌, refl}
+use Rattle.std.proofs.Common.{◌≡◌}
 use Rattle.cell_arena.specs.Chain.{Record}
 use Rattle.cell_arena.proofs.Records.{seen_head, seen_some}
 use Rattle.cell_arena.proofs.region.Region.older.Goals as goal

@@ -1,4 +1,4 @@
-use Rattle.std.proofs.Common.{◌≡◌, ◌∙◌, arith}
+use Rattle.std.proofs.Common.{◌∙◌, arith}
 use Rattle.cell_arena.proofs.Records.{seen_get, seen_insert, seen_free, seen_reserved, seen_drawn, used_fits}
 use Rattle.cell_arena.proofs.region.Region.place.Goals as goal
 

@@ -1,4 +1,4 @@
-use Rattle.std.proofs.Common.{◌≡◌, ◌++◌, ap, sym, ◌∙◌, subst}
+use Rattle.std.proofs.Common.{◌≡◌, ◌++◌, ap, ◌∙◌, subst}
 use Rattle.cell_arena.specs.Chain.{Record}
 use Rattle.cell_arena.specs.Part.{part_bytes}
 use Rattle.cell_arena.specs.Table.{table_at}

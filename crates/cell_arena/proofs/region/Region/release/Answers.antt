@@ -1,5 +1,5 @@
-use Rattle.std.proofs.Common.{◌≡◌, ◌∙◌, arith}
-use Rattle.cell_arena.proofs.Records.{seen_head, seen_remove, seen_cost, seen_free, seen_reserved, seen_drawn, used_fits}
+use Rattle.std.proofs.Common.{arith}
+use Rattle.cell_arena.proofs.Records.{seen_head, seen_remove, seen_cost, seen_reserved, seen_drawn, used_fits}
 use Rattle.cell_arena.proofs.Tables.{busy_fits}
 use Rattle.cell_arena.proofs.region.Region.release.Goals as goal
 

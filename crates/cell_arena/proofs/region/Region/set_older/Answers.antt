@@ -1,4 +1,4 @@
-use Rattle.std.proofs.Common.{◌≡◌, ◌∙◌, Some, arith, subst}
+use Rattle.std.proofs.Common.{◌≡◌, Some, arith}
 use Rattle.std.specs.FinMap.{insert}
 use Rattle.cell_arena.specs.Chain.{Record, record_at}
 use Rattle.cell_arena.specs.Table.{table_at}
