@@ -21,3 +21,4 @@ pub mod OnceStoreLaws
 pub mod OpeningLaws
 pub mod PendingLaws
 pub mod ApartLaws
+pub mod NumberLaws

@@ -320,7 +320,7 @@ keys_are_reserved s = a_cell_each (rows every_key s.current s.changes)
 
 -- ---- stores
 
-all_up : (n : ℕ) (xs : List Recorded) (cs : List Change) → AllByRecursion (λ x. x.revision ≤ n) xs → AllByRecursion (λ x. x.revision ≤ n) (record_revision n xs cs)
+pub all_up : (n : ℕ) (xs : List Recorded) (cs : List Change) → AllByRecursion (λ x. x.revision ≤ n) xs → AllByRecursion (λ x. x.revision ≤ n) (record_revision n xs cs)
 all_up n xs [] up = up
 all_up n xs (c ∷ cs) up = let x = recorded xs (entry_at n c) in all_up n (xs ++ x ∷ []) cs (all_push (λ (y : Recorded). y.revision ≤ n) xs x up (omega arith))
 

@@ -8,3 +8,4 @@ pub mod Runs
 pub mod Once
 pub mod Pending
 pub mod Apart
+pub mod Numbers

@@ -8,6 +8,7 @@ pub mod apart;
 pub mod holding;
 pub mod keeping;
 pub mod leases;
+pub mod numbers;
 pub mod once;
 pub mod pending;
 pub mod recording;
