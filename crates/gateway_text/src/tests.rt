@@ -191,7 +191,7 @@ fn delete_event(alloc: Global, key: &str, revision: u64) -> Mem<Event> {
 }
 
 #[test]
-fn watches(rt: HostRuntime) -> Mem<()> {
+fn watch_created_and_canceled(rt: HostRuntime) -> Mem<()> {
     let created = Reply::Created {
         header: header(2),
         watch_id: 5,
@@ -202,16 +202,6 @@ fn watches(rt: HostRuntime) -> Mem<()> {
         created,
         r#"{"result":{"created":true,"header":{"cluster_id":"7","member_id":"1","raft_term":"1","revision":"2"},"watch_id":"5"}}"#,
     )?;
-    let events = Reply::Events {
-        header: header(3),
-        watch_id: 5,
-        events: list(rt.alloc(), delete_event(rt.alloc(), "a", 3))?,
-    };
-    assert_line(
-        &rt,
-        events,
-        r#"{"result":{"events":[{"kv":{"key":"YQ==","mod_revision":"3"},"type":"DELETE"}],"header":{"cluster_id":"7","member_id":"1","raft_term":"1","revision":"3"},"watch_id":"5"}}"#,
-    )?;
     let canceled = Reply::Canceled {
         header: header(5),
         watch_id: 0,
@@ -221,6 +211,20 @@ fn watches(rt: HostRuntime) -> Mem<()> {
         &rt,
         canceled,
         r#"{"result":{"canceled":true,"compact_revision":"5","header":{"cluster_id":"7","member_id":"1","raft_term":"1","revision":"5"}}}"#,
+    )
+}
+
+#[test]
+fn watch_events(rt: HostRuntime) -> Mem<()> {
+    let events = Reply::Events {
+        header: header(3),
+        watch_id: 5,
+        events: list(rt.alloc(), delete_event(rt.alloc(), "a", 3))?,
+    };
+    assert_line(
+        &rt,
+        events,
+        r#"{"result":{"events":[{"kv":{"key":"YQ==","mod_revision":"3"},"type":"DELETE"}],"header":{"cluster_id":"7","member_id":"1","raft_term":"1","revision":"3"},"watch_id":"5"}}"#,
     )
 }
 
@@ -293,7 +297,11 @@ fn maintenance(rt: HostRuntime) -> Mem<()> {
         &rt,
         status,
         r#"{"dbSize":"384","dbSizeInUse":"96","header":{"cluster_id":"7","member_id":"1","raft_term":"1","revision":"5"}}"#,
-    )?;
+    )
+}
+
+#[test]
+fn header_alone(rt: HostRuntime) -> Mem<()> {
     assert_body(
         &rt,
         Reply::Compacted(header(5)),
