@@ -22,3 +22,4 @@ pub mod Requests
 pub mod Calls
 pub mod ReplyText
 pub mod Alone
+pub mod Pool
