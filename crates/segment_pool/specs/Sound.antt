@@ -1,5 +1,5 @@
 -- What holds of every pool.
-use Rattle.std.specs.Prelude.{◌≡◌, ℕ, ◌+◌, ◌≤◌, vec_len, vec_capacity}
+use Rattle.std.specs.Prelude.{◌≡◌, ◌+◌, ◌≤◌, vec_len, vec_capacity}
 use Rattle.etcd_types.specs.declared.limits.TheConstants.{MAX_SEGMENTS}
 use Rattle.segment_pool.specs.declared.pool.Pool.TheInside.{Inside}
 

@@ -1,4 +1,4 @@
-use Rattle.std.proofs.Common.{◌≡◌, ◌+◌, ◌-◌, Some, slice_get, subst, sym, ap, arith}
+use Rattle.std.proofs.Common.{◌≡◌, ◌+◌, Some, slice_get, subst, sym, ap, arith}
 use Rattle.etcd_model.specs.Pool.{PoolState, TicketState, IsHeld, AddsUp}
 use Rattle.segment_pool.proofs.Numbers.{sum-written}
 use Rattle.segment_pool.proofs.pool.Pool.grow.Goals as goal
@@ -10,4 +10,4 @@ returns-clause-adds_up c adds held =
     let here = subst (λ (t : TicketState). slice_get c.self.inside.reservations.items t.number ≡ Some t.reserved) (sym c.ticket.view_is) ours in
     sum-written c.self.inside.reservations c.as_mut_slice.result.now c.set_at.new.items c.ticket.inside.number c.ticket.inside.reserved
     (c.ticket.inside.reserved + c.args.segments) (c.self.inside.promised + c.args.segments)
-    c.self.inside.out c.self.inside.promised c.as_mut_slice.ensures.value c.as_mut_slice.ensures.len c.set_at.ensures here added (omega (arith))
+    c.self.inside.out c.self.inside.promised c.as_mut_slice.ensures.value c.as_mut_slice.ensures.len c.set_at.ensures here added (omega arith)
