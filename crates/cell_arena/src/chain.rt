@@ -1,7 +1,6 @@
 // Records as chains of cells.
-ghost use Rattle.std.specs.Prelude.{◌≡◌, ◌+◌, ◌*◌, ◌<◌, ◌≤◌, ◌++◌, ◌-◌, ℕ, List, max, length, take, true, false, Some, None, IfSome};
-ghost use Rattle.cell_arena.specs.declared.cell.HeadCell.{HeadCell};
-ghost use Rattle.cell_arena.specs.Chain.{is_free, is_head, is_rest, Writes, IsLinked, IsChain, IsLoose, SameRecords, SameRecordsBut, chain_bytes, pieces as cells_for, record_at, cost_at, head_pieces, record_with};
+ghost use Rattle.std.specs.Prelude.{◌≡◌, ◌+◌, ◌*◌, ◌<◌, ◌≤◌, ◌++◌, ◌-◌, ℕ, max, length, true, Some, None, IfSome};
+ghost use Rattle.cell_arena.specs.Chain.{is_head, IsLinked, IsChain, IsLoose, SameRecords, SameRecordsBut, chain_bytes, pieces as cells_for, record_at, cost_at};
 ghost use Rattle.cell_arena.specs.Table.{IsTable, table_at, segments_for};
 ghost use Rattle.cell_arena.specs.Storing.{IsStored};
 ghost use Rattle.cell_arena.specs.Part.{IsPart, part_bytes};

@@ -1,4 +1,9 @@
 //! Records kept as chains of small cells, in segments that are drawn as they are needed.
+//!
+//! A segment has 64 cells of 56 bytes. A record is a head, which has its numbers, and a cell for each
+//! 48 bytes of its key followed by its value. Callers see a map from heads to records. A slot keeps a
+//! list of the free cells of one segment, a table the slots in the order in which they are filled, and
+//! a chain the cells of one record, whatever slots they lie in.
 #![tactic(auto)]
 
 mod cell;

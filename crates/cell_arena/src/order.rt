@@ -1,5 +1,5 @@
 // Numbers in an order, with the place of each.
-ghost use Rattle.std.specs.Prelude.{◌≡◌, ◌<◌, ℕ, length, slice_index, IfOk};
+ghost use Rattle.std.specs.Prelude.{◌≡◌, ◌<◌, ℕ, IfOk};
 ghost use Rattle.cell_arena.specs.Order.{IsOrder, place_of, swapped, count_of};
 
 use etcd_types::Mem;

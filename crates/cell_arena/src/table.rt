@@ -1,7 +1,7 @@
 // A table of segments, drawn as they are needed.
-ghost use Rattle.std.specs.Prelude.{◌≡◌, ◌+◌, ◌*◌, ◌<◌, ◌≤◌, ◌/◌, ◌%◌, ◌^◌, IfOk, ℕ, max, length, false, true, ◌==◌, ◌≢◌, if◌then◌else◌, slice_index_or, None};
+ghost use Rattle.std.specs.Prelude.{◌≡◌, ◌+◌, ◌*◌, ◌<◌, ◌≤◌, ◌/◌, ◌^◌, IfOk, max, length, false, true, ◌==◌, ◌≢◌, slice_index_or, None};
 ghost use Rattle.cell_arena.specs.declared.slot.Slot.{Slot};
-ghost use Rattle.cell_arena.specs.Chain.{is_free, Writes, AllFree, AllBare, IsListed};
+ghost use Rattle.cell_arena.specs.Chain.{is_free, Writes, AllBare};
 ghost use Rattle.cell_arena.specs.Table.{IsTable, table_at, segments_for};
 
 use crate::cell::Cell;

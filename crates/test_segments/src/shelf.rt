@@ -1,5 +1,5 @@
 // The free segments of a source.
-ghost use Rattle.std.specs.Prelude.{◌≡◌, ◌+◌, ◌<◌, IfOk, OnOk, length};
+ghost use Rattle.std.specs.Prelude.{◌≡◌, ◌+◌, ◌<◌, IfOk, length};
 
 use cell_arena::{Cell, Fields, HeadCell, Kind, Link, Segment};
 use etcd_types::{CellNo, Mem};

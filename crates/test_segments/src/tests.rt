@@ -109,5 +109,7 @@ fn a_delete_copies_the_key(rt: HostRuntime) -> Result<(), Fail> {
     assert!(rt; copies(rt.alloc(), &mut segments, key, b"value")?);
     let mut segments = Highest::new(rt.alloc(), 1)?;
     assert!(rt; copies(rt.alloc(), &mut segments, b"k", b"")?);
+    let mut segments = Lowest::new(rt.alloc(), 1)?;
+    assert!(rt; copies(rt.alloc(), &mut segments, b"", key)?);
     Ok(())
 }
