@@ -2,8 +2,7 @@
 ghost use Rattle.std.specs.Prelude.{◌≡◌};
 ghost use Rattle.etcd_model.specs.Kept.{cost_delete, cost_put};
 
-/// How many bytes of a record one cell holds.
-const CELL_BYTES: u64 = 48;
+use etcd_types::limits::CELL_BYTES;
 
 /// The cells of a put: one, and one for each 48 bytes of its key and value.
 pub fn cost_put(key: &[u8], value: &[u8]) -> u64
