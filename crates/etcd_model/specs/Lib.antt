@@ -2,6 +2,7 @@ pub mod Order
 pub mod Interval
 pub mod History
 pub mod Kept
+pub mod Changes
 pub mod Reads
 pub mod Ranges
 pub mod Compares
