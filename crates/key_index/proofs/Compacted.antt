@@ -1,5 +1,5 @@
 -- A chain that was cut.
-use Rattle.std.proofs.Common.{◌≡◌, ◌≢◌, ℕ, ◌<◌, ◌≤◌, List, Option, Some, None, option_map, Bool, true, false, is_some, sym, ap, ◌∙◌, refl, subst, arith, inl, inr, ◌⊎◌}
+use Rattle.std.proofs.Common.{◌≡◌, ◌≢◌, ℕ, ◌<◌, ◌≤◌, List, Option, Some, None, option_map, Bool, true, false, sym, ap, ◌∙◌, refl, subst, arith, inl, inr, ◌⊎◌}
 use Rattle.std.proofs.lemmas.Bool.{cases_eq, cases_lt}
 use Rattle.etcd_model.specs.Changes.{Recorded}
 use Rattle.key_index.specs.Entries.{Cells, Entry, IsChained, IsBefore, IsNewest, change_at, linked, with_older}

@@ -1,5 +1,5 @@
 -- A link that is set in the list, and a place that is emptied.
-use Rattle.std.proofs.Common.{◌≡◌, ℕ, zero, suc, [], ◌∷◌, ◌+◌, IsSome, ◌<◌, List, length, get_or, set, Option, Some, None, option_map, sym, ap, ◌∙◌, subst, arith, inl, inr, refl, get_or-set_same, get_or-set_other}
+use Rattle.std.proofs.Common.{◌≡◌, ℕ, zero, suc, [], ◌∷◌, ◌+◌, IsSome, ◌<◌, List, length, get_or, set, Option, Some, None, option_map, sym, ap, ◌∙◌, subst, arith, inl, inr, get_or-set_same, get_or-set_other}
 use mathlib.Core.Path.{fun_ext}
 use Rattle.std.proofs.lemmas.Bool.{cases_eq}
 use Rattle.std.proofs.lemmas.List.Sums.{sum_by-cons}

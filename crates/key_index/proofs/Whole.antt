@@ -1,5 +1,5 @@
 -- All chains, one after another.
-use Rattle.std.proofs.Common.{◌≡◌, ◌≢◌, ℕ, zero, suc, ◌+◌, ◌-◌, ◌<◌, ◌≤◌, List, [], ◌∷◌, ◌++◌, length, get_or, set, take, drop, Option, Some, None, Bool, true, false, sym, ap, ◌∙◌, refl, subst, arith, inl, inr, ◌⊎◌, append_assoc, append-nil, get_or-set_other}
+use Rattle.std.proofs.Common.{◌≡◌, ◌≢◌, ℕ, zero, suc, ◌+◌, ◌-◌, ◌<◌, ◌≤◌, List, [], ◌∷◌, ◌++◌, length, get_or, set, take, drop, Option, Some, Bool, true, false, sym, ap, ◌∙◌, refl, subst, arith, inl, inr, ◌⊎◌, append_assoc, append-nil, get_or-set_other}
 use Rattle.std.specs.declared.cmp.Ordering.TheVariants.{Less}
 use Rattle.std.specs.List.{insert}
 use Rattle.std.specs.Str.{bytes_eq}
@@ -10,7 +10,7 @@ use Rattle.std.proofs.lemmas.List.Edits.{length-insert, get_or-insert_below, get
 use Rattle.std.proofs.lemmas.Slice.Eq.{bytes_eq-Decides}
 use Rattle.etcd_model.specs.Order.{key_cmp}
 use Rattle.etcd_model.specs.Changes.{Recorded}
-use Rattle.key_index.specs.Entries.{Cells, Entry, IsNewest, IsOf, change_at}
+use Rattle.key_index.specs.Entries.{Cells, Entry, IsNewest, change_at}
 use Rattle.key_index.specs.Index.{IsIndexOf}
 use Rattle.key_index.specs.Compaction.{IsKept, IsCompacted, IsCompactedAt, Remains}
 use Rattle.key_index.proofs.Links.{one_entry, not_less}

@@ -1,5 +1,5 @@
 -- The newest record of each key, by ascending key.
-use Rattle.std.specs.Prelude.{◌≡◌, ℕ, ◌<◌, ◌≤◌, List, length, slice_index, [], ◌∷◌, Some, Bool, true, false, ◌||◌, ◌↔◌}
+use Rattle.std.specs.Prelude.{◌≡◌, ℕ, ◌<◌, ◌≤◌, List, length, slice_index, [], ◌∷◌, Some, true, false, ◌||◌, ◌↔◌}
 use Rattle.std.specs.declared.cmp.Ordering.TheVariants.{Less, Greater}
 use Rattle.std.specs.Str.{bytes_eq}
 use Rattle.etcd_model.specs.Order.{key_cmp, key_lt}

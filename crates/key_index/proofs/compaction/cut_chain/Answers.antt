@@ -1,9 +1,9 @@
-use Rattle.std.proofs.Common.{◌≡◌, ℕ, Option, Some, None, true, false, sym, subst}
-use Rattle.key_index.specs.Entries.{Cells, Entry, IsChained, linked}
-use Rattle.key_index.specs.Compaction.{CutsAt, GivesBack, IsCompactedAt, Remains}
+use Rattle.std.proofs.Common.{ℕ, Option, Some, None, true, false, subst}
+use Rattle.key_index.specs.Entries.{Entry, linked}
+use Rattle.key_index.specs.Compaction.{CutsAt, IsCompactedAt, Remains}
 use Rattle.key_index.proofs.Links.{one_entry, is_some_from}
 use Rattle.key_index.proofs.Costs.{gives_nothing, gives_link}
-use Rattle.key_index.proofs.Compacted.{IsCut, cut_nothing, cut_all, cut_after, last_left}
+use Rattle.key_index.proofs.Compacted.{cut_nothing, cut_all, cut_after, last_left}
 use Rattle.key_index.proofs.compaction.cut_chain.Goals as goal
 
 pub drop_chain-requires-clause-first : goal.drop_chain-requires-clause-first

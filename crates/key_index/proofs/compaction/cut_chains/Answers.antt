@@ -1,9 +1,8 @@
-use Rattle.std.proofs.Common.{rules, ◌≡◌, ◌<◌, ℕ, Bool, true, false, length, sym, subst, arith, ◌∙◌}
+use Rattle.std.proofs.Common.{rules, ◌≡◌, ◌<◌, true, false, length, sym, subst, arith, ◌∙◌}
 use Rattle.std.proofs.lemmas.List.{get_or_default}
-use Rattle.key_index.specs.Entries.{Entry}
 use Rattle.key_index.specs.Compaction.{Remains}
 use Rattle.key_index.proofs.Costs.{gives_nothing, gives_then}
-use Rattle.key_index.proofs.Whole.{going_start, going_index, going_compacted, going_newest, going_dropped, going_kept}
+use Rattle.key_index.proofs.Whole.{going_start, going_compacted, going_newest, going_dropped, going_kept}
 use Rattle.key_index.proofs.compaction.cut_chains.Goals as goal
 
 pub loop-place-init : goal.loop-place-init

@@ -1,4 +1,4 @@
-use Rattle.std.proofs.Common.{◌≡◌, ◌/◌, ◌+◌, ◌-◌, ◌∙◌, ◌<◌, ℕ, arith, sym, subst, IsSome, length}
+use Rattle.std.proofs.Common.{◌/◌, ◌+◌, ◌-◌, ◌∙◌, ◌<◌, ℕ, arith, sym, subst, IsSome, length}
 use Rattle.std.proofs.lemmas.List.{get_or_default}
 use Rattle.key_index.proofs.Links.{is_some_from, smaller_up, greater_down, at_equal, told}
 use Rattle.key_index.proofs.search.search.Goals as goal

@@ -1,4 +1,4 @@
-use Rattle.std.proofs.Common.{◌≡◌, ◌<◌, ◌≤◌, ℕ, length, arith}
+use Rattle.std.proofs.Common.{arith}
 use Rattle.key_index.proofs.Spans.{span_at, span_gap, span_between}
 use Rattle.key_index.proofs.index.KeyIndex.span.Goals as goal
 
