@@ -1,0 +1,9 @@
+pub mod Links
+pub mod Added
+pub mod Spans
+pub mod Costs
+pub mod Dropped
+pub mod Cut
+pub mod Compacted
+pub mod Whole
+pub mod Linking

@@ -1,0 +1,74 @@
+-- What a compaction keeps of records, and what it gives back.
+use Rattle.std.specs.Prelude.{◌≡◌, ◌≢◌, ℕ, ◌+◌, ◌<◌, ◌≤◌, List, Bool, true, false, sum_by, Option, Some, None, ◌⊎◌, MatchOption, is_some, if◌then◌else◌, ◌==◌}
+use Rattle.etcd_model.specs.Changes.{Recorded}
+use Rattle.key_index.specs.Entries.{Cells, Entry, change_at, IsNewest}
+
+-- what a compaction at this revision keeps: a change from it on, and a put that none of its key follows up to it
+abbrev pub IsKept : Cells → ℕ → Recorded → Type 0
+IsKept cells revision x = (revision ≤ x.revision) ⊎ ((is_some x.row ≡ true) × ((b : ℕ) (g : Entry) → cells b ≡ Some g → g.change.key ≡ x.key → g.change.revision ≤ revision → g.change.revision ≤ x.revision))
+
+-- what is kept stays under its cell, and nothing else is left
+pub record IsCompacted (old new : Cells) (revision : ℕ) : Type 0 where
+  pub stays : (c : ℕ) (e : Entry) → old c ≡ Some e → IsKept old revision e.change → change_at new c ≡ Some e.change
+  pub only : (c : ℕ) (e : Entry) → new c ≡ Some e → (change_at old c ≡ Some e.change) × IsKept old revision e.change
+
+-- the same for one key, where the records of other keys are untouched
+pub record IsCompactedAt (old new : Cells) (revision : ℕ) (key : List ℕ) : Type 0 where
+  pub stays : (c : ℕ) (e : Entry) → old c ≡ Some e → e.change.key ≡ key → IsKept old revision e.change → change_at new c ≡ Some e.change
+  pub only : (c : ℕ) (e : Entry) → new c ≡ Some e → e.change.key ≡ key → (change_at old c ≡ Some e.change) × IsKept old revision e.change
+  pub others : (c : ℕ) (e : Entry) → e.change.key ≢ key → old c ≡ Some e → new c ≡ Some e
+  pub no_others : (c : ℕ) (e : Entry) → e.change.key ≢ key → new c ≡ Some e → old c ≡ Some e
+
+-- where the chain of a key ended up: its head is still the newest, or none of the key is left
+abbrev pub Remains : Cells → List ℕ → ℕ → Bool → Type 0
+Remains cells key head true = IsNewest cells head
+Remains cells key head false = (c : ℕ) (e : Entry) → cells c ≡ Some e → e.change.key ≢ key
+
+-- Of a key, the records after low and up to top are gone, and nothing else.
+pub record DropsBetween (old new : Cells) (key : List ℕ) (low top : ℕ) : Type 0 where
+  pub gone : (b : ℕ) (g : Entry) → old b ≡ Some g → g.change.key ≡ key → low < g.change.revision → g.change.revision ≤ top → new b ≡ None
+  pub kept : (b : ℕ) (g : Entry) → new b ≡ Some g → (old b ≡ Some g) × (g.change.key ≡ key → (g.change.revision ≤ low) ⊎ (top < g.change.revision))
+  pub stays : (b : ℕ) (g : Entry) → old b ≡ Some g → (g.change.key ≡ key → (g.change.revision ≤ low) ⊎ (top < g.change.revision)) → new b ≡ Some g
+
+-- Of a key, the records up to top are gone, and nothing else.
+pub record DropsUpTo (old new : Cells) (key : List ℕ) (top : ℕ) : Type 0 where
+  pub gone : (b : ℕ) (g : Entry) → old b ≡ Some g → g.change.key ≡ key → g.change.revision ≤ top → new b ≡ None
+  pub kept : (b : ℕ) (g : Entry) → new b ≡ Some g → (old b ≡ Some g) × (g.change.key ≡ key → top < g.change.revision)
+  pub stays : (b : ℕ) (g : Entry) → old b ≡ Some g → (g.change.key ≡ key → top < g.change.revision) → new b ≡ Some g
+
+-- those of the key after low are kept
+abbrev pub KeptAfter : Cells → List ℕ → ℕ → ℕ → Type 0
+KeptAfter cells key revision low = (b : ℕ) (g : Entry) → cells b ≡ Some g → g.change.key ≡ key → low < g.change.revision → IsKept cells revision g.change
+
+-- those of the key up to top are not
+abbrev pub NotKeptUpTo : Cells → List ℕ → ℕ → ℕ → Type 0
+NotKeptUpTo cells key revision top = (b : ℕ) (g : Entry) → cells b ≡ Some g → g.change.key ≡ key → g.change.revision ≤ top → IsKept cells revision g.change → ⊥
+
+-- where a chain is cut: the last record that stays, and the first that goes
+pub record CutsAt (cells : Cells) (key : List ℕ) (revision head : ℕ) (last first : Option ℕ) : Type 0 where
+  pub first_gone : MatchOption first ((b : ℕ) (g : Entry) → cells b ≡ Some g → g.change.key ≡ key → IsKept cells revision g.change)
+      (λ d. (f : Entry) × (cells d ≡ Some f) × (f.change.key ≡ key) × KeptAfter cells key revision f.change.revision × NotKeptUpTo cells key revision f.change.revision)
+  pub last_kept : MatchOption last (first ≡ Some head) (λ c. (e : Entry) × (cells c ≡ Some e) × (e.change.key ≡ key) × (e.older ≡ first))
+
+-- ---- what records cost
+
+-- what the record under a cell costs, by what a change does
+abbrev pub cost_of : (Recorded → ℕ) → Option Entry → ℕ
+cost_of cost None = 0
+cost_of cost (Some e) = cost e.change
+
+-- what the records under some cells cost
+abbrev pub held : (Recorded → ℕ) → Cells → List ℕ → ℕ
+held cost cells cs = sum_by (λ c. cost_of cost (cells c)) cs
+
+-- how often a cell stands in a list
+abbrev pub times : ℕ → List ℕ → ℕ
+times c cs = sum_by (λ b. if b == c then 1 else 0) cs
+
+-- each cell that has a record stands once in the list
+abbrev pub EachOnce : Cells → List ℕ → Type 0
+EachOnce cells cs = (c : ℕ) (e : Entry) → cells c ≡ Some e → times c cs ≡ 1
+
+-- What is free grew by the cost of the records that went: whatever list has each record once, what is free and what the records cost is as much as before.
+abbrev pub GivesBack : (Recorded → ℕ) → Cells → Cells → ℕ → ℕ → Type 0
+GivesBack cost old new free_old free_new = (cs : List ℕ) → EachOnce old cs → free_new + held cost new cs ≡ free_old + held cost old cs

@@ -1,0 +1,4 @@
+pub mod Entries
+pub mod Index
+pub mod Compaction
+pub mod Listed

@@ -1,0 +1,19 @@
+-- Records in a list, under their places.
+use Rattle.std.specs.Prelude.{ℕ, List, Option, Some, None, option_map, sum_by, slice_index_or}
+use Rattle.key_index.specs.Entries.{Cells, Entry}
+use Rattle.key_index.specs.declared.record_list.Record.{Record}
+
+abbrev pub entry_of : Record → Entry
+entry_of r = record { change = record { key = r.key.items; revision = r.revision; row = r.row }; older = r.older }
+
+-- what is under each place
+abbrev pub cells_of : List (Option Record) → Cells
+cells_of items c = option_map entry_of (slice_index_or items c None)
+
+-- an empty place is one cell
+abbrev pub empty_cell : Option Record → ℕ
+empty_cell None = 1
+empty_cell (Some r) = 0
+
+abbrev pub empty_places : List (Option Record) → ℕ
+empty_places items = sum_by empty_cell items

@@ -1,0 +1,123 @@
+//! Compaction of the chain of a key.
+ghost use Rattle.std.specs.Prelude.{◌≡◌, ℕ, ◌+◌, ◌-◌, ◌<◌, ◌≤◌, List, length, slice_index, Option, Some, None, IsSome, is_some, true, false, ◌⊎◌, take};
+ghost use Rattle.key_index.specs.Entries.{Entry, IsChained, IsNewest, linked, without};
+ghost use Rattle.key_index.specs.Index.{IsIndexOf};
+ghost use Rattle.key_index.specs.Compaction.{CutsAt, DropsUpTo, GivesBack, IsCompacted, IsCompactedAt, Remains};
+
+use crate::records::{Records, RecordsMut};
+use etcd_types::CellNo;
+
+/// Where a compaction cuts a chain: the last record that stays, and the first that goes.
+#[derive(Clone, Copy)]
+struct CutPlace {
+    last: Option<CellNo>,
+    first: Option<CellNo>,
+}
+
+/// Compacts the chain of each head at a revision, and moves those of which any is left to the front: so many.
+pub(crate) fn cut_chains<R: RecordsMut>(
+    heads: &mut [CellNo],
+    records: &mut R,
+    revision: u64,
+) -> usize
+    requires chained { IsChained (R.cells records.old) }
+    requires index { IsIndexOf (R.cells records.old) heads.old }
+
+    ensures within { result ≤ length heads.old }
+    ensures index { IsIndexOf (R.cells records.new) (take result heads.new) }
+    ensures chained { IsChained (R.cells records.new) }
+    ensures compacted { IsCompacted (R.cells records.old) (R.cells records.new) revision }
+    ensures free { GivesBack R.cost (R.cells records.old) (R.cells records.new) (R.free records.old) (R.free records.new) }
+    ensures rest { R.same_rest records.old records.new }
+{
+    let mut left = 0;
+    for place in 0..heads.len() {
+        let head = heads[place];
+        if !cut_chain(head, records, revision) {
+            continue;
+        }
+        heads[left] = head;
+        left += 1;
+    }
+    left
+}
+
+/// Compacts the chain of a head at a revision, and says whether any of it is left.
+pub(crate) fn cut_chain<R: RecordsMut>(head: CellNo, records: &mut R, revision: u64) -> bool
+    requires chained { IsChained (R.cells records.old) }
+    requires newest { IsNewest (R.cells records.old) head }
+
+    ensures chained { IsChained (R.cells records.new) }
+    ensures compacted { (e : Entry) → R.cells records.old head ≡ Some e → IsCompactedAt (R.cells records.old) (R.cells records.new) revision e.change.key }
+    ensures remains { (e : Entry) → R.cells records.old head ≡ Some e → Remains (R.cells records.new) e.change.key head result }
+    ensures free { GivesBack R.cost (R.cells records.old) (R.cells records.new) (R.free records.old) (R.free records.new) }
+    ensures rest { R.same_rest records.old records.new }
+{
+    let place = cut_place(head, records, revision);
+    match place.first {
+        None => true,
+        Some(first) => {
+            // Only once the older ones are gone: a drop still reads the links.
+            drop_chain(first, records);
+            match place.last {
+                None => false,
+                Some(last) => {
+                    records.set_older(last, None);
+                    true
+                }
+            }
+        }
+    }
+}
+
+/// Drops a record and the older ones of its key.
+fn drop_chain<R: RecordsMut>(first: CellNo, records: &mut R)
+    requires chained { IsChained (R.cells records.old) }
+    requires first { IsSome (R.cells records.old first) }
+    ensures drops { (e : Entry) → R.cells records.old first ≡ Some e → DropsUpTo (R.cells records.old) (R.cells records.new) e.change.key e.change.revision }
+    ensures free { GivesBack R.cost (R.cells records.old) (R.cells records.new) (R.free records.old) (R.free records.new) }
+    ensures rest { R.same_rest records.old records.new }
+{
+    let mut next = Some(first);
+    while let Some(cell) = next {
+        next = records.older(cell);
+        records.drop_record(cell);
+    }
+}
+
+/// Where a compaction cuts the chain of a head.
+fn cut_place<R: Records>(head: CellNo, records: &R, revision: u64) -> CutPlace
+    requires chained { IsChained (R.cells records.now) }
+    requires newest { IsNewest (R.cells records.now) head }
+    ensures { (e : Entry) → R.cells records.now head ≡ Some e → CutsAt (R.cells records.now) e.change.key revision head result.last result.first }
+{
+    let mut last = None;
+    let mut next = Some(head);
+    while let Some(cell) = next {
+        if records.revision(cell) <= revision {
+            return cut_at(cell, last, records, revision);
+        }
+        last = Some(cell);
+        next = records.older(cell);
+    }
+    CutPlace { last, first: None }
+}
+
+/// The same from the last change up to the revision on, which stays if it is at the revision or a put.
+fn cut_at<R: Records>(cell: CellNo, last: Option<CellNo>, records: &R, revision: u64) -> CutPlace
+    requires { IsSome (R.cells records.now cell) }
+    ensures stays { (e : Entry) → R.cells records.now cell ≡ Some e → (e.change.revision ≡ revision) ⊎ (is_some e.change.row ≡ true) → (result.last ≡ Some cell) × (result.first ≡ e.older) }
+    ensures goes { (e : Entry) → R.cells records.now cell ≡ Some e → (e.change.revision ≡ revision → ⊥) → is_some e.change.row ≡ false → (result.last ≡ last) × (result.first ≡ Some cell) }
+{
+    if records.revision(cell) == revision || records.is_put(cell) {
+        CutPlace {
+            last: Some(cell),
+            first: records.older(cell),
+        }
+    } else {
+        CutPlace {
+            last,
+            first: Some(cell),
+        }
+    }
+}

@@ -1,0 +1,11 @@
+//! The newest record of each key, by ascending key. The records stand elsewhere: each call is lent them.
+#![tactic(auto)]
+
+mod compaction;
+mod index;
+pub mod record_list;
+mod records;
+mod search;
+
+pub use index::KeyIndex;
+pub use records::{Records, RecordsMut};
