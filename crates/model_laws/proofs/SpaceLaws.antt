@@ -21,14 +21,14 @@ use Rattle.etcd_model.specs.History.{key_of, current}
 use Rattle.etcd_model.specs.Order.{key_cmp}
 use Rattle.etcd_model.specs.Interval.{is_in, every_key}
 use Rattle.etcd_model.specs.Kept.{cost, cost_delete}
-use Rattle.etcd_model.specs.Operations.{and_changes, pending_after, adds_any}
+use Rattle.etcd_model.specs.Operations.{kept_value, kept_lease, and_changes, pending_after, adds_any}
 use Rattle.etcd_model.specs.Leases.{attached}
 use Rattle.etcd_model.specs.Changes.{Recorded, OwnRow, keys, Rises, entry_at, change_by, change_of, changes_of, next_row, live, rows, recorded, record_change, record_revision, kept, keeps}
 use Rattle.etcd_model.specs.Store.{Store, IsStore, after, reads_of, record_cells, reserved_cells, cells, kept_store}
 use Rattle.etcd_model.specs.Held.{keep}
 use Rattle.etcd_model.proofs.OrderLaws.{bytes_eq-key_cmp}
 use Rattle.model_laws.specs.Recording.{by_key}
-use Rattle.model_laws.specs.Space.{if_row, room, KeepIsStore, AfterIsStore, CompactIsStore, PutTakesCells, DeleteTakesItsRoom, DeleteTakesNone, FinishTakesNone, FinishTakesKeys, NoPutTakesNone, CompactionTakesNone, RecordsAreUsedCells, KeysAreReserved}
+use Rattle.model_laws.specs.Space.{if_row, room, KeepIsStore, AfterIsStore, CompactIsStore, PutTakesCells, DeleteTakesItsRoom, DeleteTakesNone, OpTakesCells, FinishTakesNone, FinishTakesKeys, NoPutTakesNone, CompactionTakesNone, RecordsAreUsedCells, KeysAreReserved}
 use Rattle.model_laws.proofs.LastLaws.{true_or_false}
 use Rattle.model_laws.proofs.KeptLaws.{all_kept, kept_rises, kept_true, kept_false}
 use Rattle.model_laws.proofs.RowLaws.{has_key, rows_by_their_keys, not_found, row_found, rows_rise, same_rows, live-key}
@@ -236,6 +236,14 @@ finish_takes_none s id is =
     ap (λ (qs : List KeyValue). cells (after s (map Del (map (λ (row : KeyValue). row.key) (filter held qs))))) (rows_pending s [] is every)
     ∙ ap (λ cs. cells (after s cs)) (map-map Del (λ (row : KeyValue). row.key) (filter held rs))
     ∙ deletes_take_none s [] (filter held rs) is (IsStrictlySortedBy-filter by_key held rs (rows_rise s.changes is.own n every)) (all_passed s [] held rs (all_live s [] is (filter every (keys s.changes))))
+
+pub op_takes_cells : OpTakesCells
+op_takes_cells s cs (RangeOp q) is = omega (arith, ap (λ ds. cells (after s ds)) (append-nil cs))
+op_takes_cells s cs (PutOp p) is =
+    let now = (reads_of (after s cs)).row p.key in
+    put_takes_cells s cs p.key (if p.ignore_value then kept_value now else p.value) (if p.ignore_lease then kept_lease now else p.lease) is
+op_takes_cells s cs (DeleteOp d) is = omega (arith, delete_takes_none s cs d is)
+op_takes_cells s cs Nested is = omega (arith, ap (λ ds. cells (after s ds)) (append-nil cs))
 
 no_put : (s : Store) (cs : List Change) (ops : List Op) → IsStore s → adds_any ops ≡ false → cells (after s (pending_after (kept_store.look s) cs ops)) ≡ cells (after s cs)
 no_put s cs [] is h = refl

@@ -1,15 +1,16 @@
 -- Laws: what a step makes of the cells in use.
-use Rattle.std.specs.Prelude.{◌≡◌, ℕ, ◌+◌, ◌-◌, ◌≤◌, true, false, ℤ, List, [], ◌∷◌, ◌++◌, length, map, Option, Some, None}
+use Rattle.std.specs.Prelude.{◌≡◌, ℕ, ◌+◌, ◌-◌, ◌≤◌, true, false, ℤ, List, [], ◌∷◌, ◌++◌, length, map, Option, Some, None, if◌then◌else◌}
 use Rattle.std.specs.List.Sorted.{IsStrictlySortedBy}
 use Rattle.etcd_types.specs.declared.key_value.KeyValue.{KeyValue}
 use Rattle.etcd_types.specs.declared.kv.DeleteReq.{DeleteReq}
 use Rattle.etcd_types.specs.declared.txn.Op.{Op}
-use Rattle.etcd_types.specs.declared.txn.Op.TheVariants.{Delete as DeleteOp}
+use Rattle.etcd_types.specs.declared.txn.Op.TheVariants.{Put as PutOp, Delete as DeleteOp}
 use Rattle.etcd_model.specs.declared.state.History.{History}
 use Rattle.etcd_model.specs.declared.state.Change.{Change}
 use Rattle.etcd_model.specs.declared.state.Change.TheVariants.{Put as Set, Delete as Del}
+use Rattle.etcd_model.specs.Reads.{Reads}
 use Rattle.etcd_model.specs.Kept.{cost_put, cost_delete}
-use Rattle.etcd_model.specs.Operations.{and_changes, pending_after, adds_any, has_lease}
+use Rattle.etcd_model.specs.Operations.{kept_value, and_changes, pending_after, adds_any, has_lease}
 use Rattle.etcd_model.specs.declared.state.State.{State}
 use Rattle.etcd_model.specs.Tenant.{used}
 use Rattle.etcd_model.specs.Leases.{attached, finish}
@@ -53,6 +54,19 @@ DeleteTakesItsRoom = (s : Store) (cs : List Change) (key : List ℕ) → IsStore
 -- so a deleterange takes no cell
 abbrev pub DeleteTakesNone : Type 0
 DeleteTakesNone = (s : Store) (cs : List Change) (d : DeleteReq) → IsStore s → cells (after s (and_changes (kept_store.look s) cs (DeleteOp d))) ≡ cells (after s cs)
+
+-- An operation of a transaction reads what is pending: what it takes of the cells, and what it gives back.
+abbrev pub taken_by : Reads → Op → ℕ
+taken_by R (PutOp p) = cost_put p.key (if p.ignore_value then kept_value (R.row p.key) else p.value) + cost_delete p.key
+taken_by R op = 0
+
+abbrev pub given_by : Reads → Op → ℕ
+given_by R (PutOp p) = room (R.row p.key)
+given_by R op = 0
+
+abbrev pub OpTakesCells : Type 0
+OpTakesCells = (s : Store) (cs : List Change) (op : Op) → IsStore s
+    → cells (after s (and_changes (kept_store.look s) cs op)) + given_by (kept_store.look s cs) op ≡ cells (after s cs) + taken_by (kept_store.look s cs) op
 
 -- nor do operations of which none is a put
 abbrev pub NoPutTakesNone : Type 0

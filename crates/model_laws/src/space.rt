@@ -1,5 +1,5 @@
 //! What a step makes of the cells in use.
-ghost use Rattle.model_laws.specs.Space.{AfterIsStore, CompactIsStore, CompactionTakesNone, DeleteTakesItsRoom, DeleteTakesNone, FinishFreesACell, FinishTakesKeys, FinishTakesNone, KeepIsStore, KeysAreReserved, NoPutTakesNone, PutTakesCells, RecordsAreUsedCells};
+ghost use Rattle.model_laws.specs.Space.{AfterIsStore, CompactIsStore, CompactionTakesNone, DeleteTakesItsRoom, DeleteTakesNone, FinishFreesACell, FinishTakesKeys, FinishTakesNone, KeepIsStore, KeysAreReserved, NoPutTakesNone, OpTakesCells, PutTakesCells, RecordsAreUsedCells};
 
 /// What is kept of a history is a store as appends and compactions make it.
 pub fn keep_is_store()
@@ -29,6 +29,11 @@ pub fn delete_takes_its_room()
 /// A deleterange takes no cell.
 pub fn delete_takes_none()
     ensures { DeleteTakesNone }
+{}
+
+/// An operation with changes pending before it takes and gives back so many cells.
+pub fn op_takes_cells()
+    ensures { OpTakesCells }
 {}
 
 /// Operations of which none is a put take no cell.
