@@ -7,5 +7,6 @@ pub mod record_list;
 mod records;
 mod search;
 
+pub use compaction::kept_as_defined;
 pub use index::KeyIndex;
 pub use records::{Records, RecordsMut};
