@@ -7,3 +7,4 @@ pub mod Cut
 pub mod Compacted
 pub mod Whole
 pub mod Linking
+pub mod Kept

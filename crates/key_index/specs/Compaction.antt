@@ -1,11 +1,21 @@
 -- What a compaction keeps of records, and what it gives back.
-use Rattle.std.specs.Prelude.{◌≡◌, ◌≢◌, ℕ, ◌+◌, ◌<◌, ◌≤◌, List, Bool, true, false, sum_by, Option, Some, None, ◌⊎◌, MatchOption, is_some, if◌then◌else◌, ◌==◌}
-use Rattle.etcd_model.specs.Changes.{Recorded}
+use Rattle.std.specs.Prelude.{◌≡◌, ◌≢◌, ℕ, ◌+◌, ◌<◌, ◌≤◌, List, Bool, true, false, sum_by, Option, Some, None, ◌⊎◌, ◌↔◌, MatchOption, is_some, if◌then◌else◌, ◌==◌}
+use Rattle.std.specs.List.{AllByRecursion, Contains}
+use Rattle.etcd_model.specs.Changes.{Recorded, keeps}
 use Rattle.key_index.specs.Entries.{Cells, Entry, change_at, IsNewest}
 
 -- what a compaction at this revision keeps: a change from it on, and a put that none of its key follows up to it
 abbrev pub IsKept : Cells → ℕ → Recorded → Type 0
 IsKept cells revision x = (revision ≤ x.revision) ⊎ ((is_some x.row ≡ true) × ((b : ℕ) (g : Entry) → cells b ≡ Some g → g.change.key ≡ x.key → g.change.revision ≤ revision → g.change.revision ≤ x.revision))
+
+-- The changes after one in a list: of its key they are those that records have.
+pub record HasLater (cells : Cells) (x : Recorded) (later : List Recorded) : Type 0 where
+  pub there : (c : ℕ) (e : Entry) → cells c ≡ Some e → e.change.key ≡ x.key → x.revision < e.change.revision → Contains later e.change
+  pub only : AllByRecursion (λ y. y.key ≡ x.key → (x.revision < y.revision) × ((c : ℕ) × (change_at cells c ≡ Some y))) later
+
+-- it is what the definition keeps of a list
+abbrev pub KeptAsDefined : Type 0
+KeptAsDefined = (cells : Cells) (revision : ℕ) (x : Recorded) (later : List Recorded) → HasLater cells x later → IsKept cells revision x ↔ (keeps revision x later ≡ true)
 
 -- what is kept stays under its cell, and nothing else is left
 pub record IsCompacted (old new : Cells) (revision : ℕ) : Type 0 where

@@ -2,10 +2,15 @@
 ghost use Rattle.std.specs.Prelude.{◌≡◌, ℕ, ◌+◌, ◌-◌, ◌<◌, ◌≤◌, List, length, slice_index, Option, Some, None, IsSome, is_some, true, false, ◌⊎◌, take};
 ghost use Rattle.key_index.specs.Entries.{Entry, IsChained, IsNewest, linked, without};
 ghost use Rattle.key_index.specs.Index.{IsIndexOf};
-ghost use Rattle.key_index.specs.Compaction.{CutsAt, DropsUpTo, GivesBack, IsCompacted, IsCompactedAt, Remains};
+ghost use Rattle.key_index.specs.Compaction.{CutsAt, DropsUpTo, GivesBack, IsCompacted, IsCompactedAt, KeptAsDefined, Remains};
 
 use crate::records::{Records, RecordsMut};
 use etcd_types::CellNo;
+
+/// What a compaction keeps of records is what it keeps of a list of their changes, by definition.
+pub fn kept_as_defined()
+    ensures { KeptAsDefined }
+{}
 
 /// Where a compaction cuts a chain: the last record that stays, and the first that goes.
 #[derive(Clone, Copy)]
