@@ -1,4 +1,4 @@
-use Rattle.std.proofs.Common.{◌≡◌, ◌+◌, Some, slice_get, subst, sym, ap, arith}
+use Rattle.std.proofs.Common.{◌≡◌, ◌+◌, Some, slice_get, subst, sym, arith}
 use Rattle.etcd_model.specs.Pool.{PoolState, TicketState, IsHeld, AddsUp}
 use Rattle.segment_pool.proofs.Numbers.{sum-written}
 use Rattle.segment_pool.proofs.pool.Pool.grow.Goals as goal
