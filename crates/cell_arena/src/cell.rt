@@ -1,4 +1,4 @@
-// What a cell holds.
+//! What a cell holds.
 
 use crate::link::Link;
 use std::mem::size_of;

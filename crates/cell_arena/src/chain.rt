@@ -1,4 +1,4 @@
-// Records as chains of cells.
+//! Records as chains of cells.
 ghost use Rattle.std.specs.Prelude.{◌≡◌, ◌+◌, ◌*◌, ◌<◌, ◌≤◌, ◌++◌, ◌-◌, ℕ, max, length, true, Some, None, IfSome};
 ghost use Rattle.cell_arena.specs.Chain.{is_head, IsLinked, IsChain, IsLoose, SameRecords, SameRecordsBut, chain_bytes, pieces as cells_for, record_at, cost_at};
 ghost use Rattle.cell_arena.specs.Table.{IsTable, table_at, segments_for};

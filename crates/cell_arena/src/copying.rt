@@ -1,4 +1,4 @@
-// A delete record with the key of another record, copied cell by cell.
+//! A delete record with the key of another record, copied cell by cell.
 ghost use Rattle.std.specs.Prelude.{◌≡◌, ◌+◌, ◌*◌, ◌≤◌, max, length, take, [], true, None, Some, IfSome};
 ghost use Rattle.cell_arena.specs.declared.cell.Kind.{Kind};
 ghost use Rattle.cell_arena.specs.Chain.{is_head, IsLinked, IsChain, IsLoose, SameRecords, SameRecordsBut, chain_bytes, turned_bytes, pieces as cells_for, record_at};

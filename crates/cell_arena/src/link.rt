@@ -1,4 +1,4 @@
-// The number of a cell, or none, in four bytes.
+//! The number of a cell, or none, in four bytes.
 ghost use Rattle.std.specs.Prelude.{◌≡◌, Some, None};
 
 use etcd_types::CellNo;

@@ -1,4 +1,4 @@
-// Numbers in an order, with the place of each.
+//! Numbers in an order, with the place of each.
 ghost use Rattle.std.specs.Prelude.{◌≡◌, ◌<◌, ℕ, IfOk};
 ghost use Rattle.cell_arena.specs.Order.{IsOrder, place_of, swapped, count_of};
 

@@ -1,4 +1,4 @@
-// A part of a record's bytes.
+//! A part of a record's bytes.
 
 use crate::link::Link;
 

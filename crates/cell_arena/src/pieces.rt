@@ -1,4 +1,4 @@
-// Bytes in pieces of 48.
+//! Bytes in pieces of 48.
 ghost use Rattle.std.specs.Prelude.{◌≡◌, ◌+◌, ◌-◌, ◌<◌, ◌≤◌, ◌^◌, ◌++◌, length, take, drop, min};
 ghost use Rattle.cell_arena.specs.Chain.{pieces as cells_for};
 

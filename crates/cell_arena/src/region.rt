@@ -1,4 +1,4 @@
-// A store of records.
+//! A store of records.
 ghost use Rattle.std.specs.Prelude.{◌≡◌, ◌+◌, ◌*◌, ◌/◌, ◌%◌, ◌≤◌, ◌^◌, ◌++◌, max, length, OnOk, OnErr, IfOk, None, IsSome, IfSome, []};
 ghost use Rattle.std.specs.Ordering.{nat_cmp};
 ghost use Rattle.std.specs.Cmp.Lexicographic.{slice_cmp};

@@ -1,4 +1,4 @@
-// What is drawn and given back.
+//! What is drawn and given back.
 ghost use Rattle.std.specs.Prelude.{◌≡◌, ◌+◌, ◌<◌, ℕ, List, length, replicate, IfOk};
 
 use crate::cell::Cell;

@@ -1,4 +1,4 @@
-// Where the bytes of a record go.
+//! Where the bytes of a record go.
 ghost use Rattle.std.specs.Prelude.{◌≡◌, ◌++◌, ℕ, List, OnOk, OnErr};
 
 use etcd_types::Mem;

@@ -1,4 +1,4 @@
-// The cells of one segment, with a list of the free ones.
+//! The cells of one segment, with a list of the free ones.
 ghost use Rattle.std.specs.Prelude.{◌≡◌, ◌+◌, ◌<◌, length, true, false, Some, None};
 ghost use Rattle.cell_arena.specs.Chain.{is_free, slot_at, Writes, IsListed, IsBare, AllFree};
 

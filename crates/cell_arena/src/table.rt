@@ -1,4 +1,4 @@
-// A table of segments, drawn as they are needed.
+//! A table of segments, drawn as they are needed.
 ghost use Rattle.std.specs.Prelude.{◌≡◌, ◌+◌, ◌*◌, ◌<◌, ◌≤◌, ◌/◌, ◌^◌, IfOk, max, length, false, true, ◌==◌, ◌≢◌, slice_index_or, None};
 ghost use Rattle.cell_arena.specs.declared.slot.Slot.{Slot};
 ghost use Rattle.cell_arena.specs.Chain.{is_free, Writes, AllBare};

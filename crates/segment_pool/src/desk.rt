@@ -1,4 +1,4 @@
-// The pool, lent with one ticket.
+//! The pool, lent with one ticket.
 ghost use Rattle.std.specs.Prelude.{◌+◌, ◌-◌, ◌≤◌, ◌∷◌};
 
 use crate::pool::{Pool, Ticket};

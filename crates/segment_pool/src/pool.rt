@@ -1,4 +1,4 @@
-// The pool, and the tickets that reserve its segments.
+//! The pool, and the tickets that reserve its segments.
 ghost use Rattle.std.specs.Prelude.{◌≡◌, ◌+◌, ◌<◌, ◌≤◌, length, None, Some, replicate, slice_set, IfOk, OnOk, OnErr};
 ghost use Rattle.etcd_model.specs.Pool.{IsLeastUnheld, IsHeld, AddsUp};
 

@@ -1,4 +1,4 @@
-// Segments that are held, with room for more.
+//! Segments that are held, with room for more.
 ghost use Rattle.std.specs.Prelude.{◌≡◌, ◌+◌, ◌≤◌, ◌∷◌, [], max, IfOk, IsOk, OnOk, OnErr};
 
 use crate::supply::new_segments;

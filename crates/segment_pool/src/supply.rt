@@ -1,4 +1,4 @@
-// New segments.
+//! New segments.
 ghost use Rattle.std.specs.Prelude.{◌≡◌, vec_len, vec_capacity, IfOk};
 
 use cell_arena::{Cell, Link, Segment};

@@ -1,4 +1,4 @@
-// Gives segments that come filled with stray cells and bytes `0xA5`.
+//! Gives segments that come filled with stray cells and bytes `0xA5`.
 ghost use Rattle.std.specs.Prelude.{◌≡◌, ◌+◌, ◌∷◌, [], IfOk};
 
 use crate::shelf::{Fill, Shelf};

@@ -1,4 +1,4 @@
-// Gives the free segment of the lowest number.
+//! Gives the free segment of the lowest number.
 ghost use Rattle.std.specs.Prelude.{◌≡◌, ◌+◌, ◌∷◌, [], IfOk};
 
 use crate::shelf::{Fill, Shelf};

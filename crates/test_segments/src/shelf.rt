@@ -1,4 +1,4 @@
-// The free segments of a source.
+//! The free segments of a source.
 ghost use Rattle.std.specs.Prelude.{◌≡◌, ◌+◌, ◌<◌, IfOk, length};
 
 use cell_arena::{Cell, Fields, HeadCell, Kind, Link, Segment};
