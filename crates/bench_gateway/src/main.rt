@@ -6,16 +6,14 @@
 
 mod bodies;
 mod by_values;
-mod measure;
 mod reading;
 mod replies;
 mod report;
 mod writing;
 
 use anyhow::Result;
+use bench_measure::is_asked;
 use report::{measure_all, say_what};
-use std::env;
-use std::rt::Env;
 
 fn main(rt: HostRuntime) -> Result<()> {
     if is_asked(&rt)? {
@@ -23,12 +21,4 @@ fn main(rt: HostRuntime) -> Result<()> {
     } else {
         say_what(&rt)
     }
-}
-
-/// Whether the one argument is `measure`.
-fn is_asked(rt: &(impl Env + Alloc)) -> Result<bool> {
-    let mut words = env::args(rt)?;
-    let _program = words.next();
-    let asked = words.next();
-    Ok(asked.is_some_and(|word| word.as_str() == "measure") && words.next().is_none())
 }

@@ -1,7 +1,7 @@
 //! A request's body that is read.
 use crate::by_values::read;
-use crate::measure::Work;
 use anyhow::{Result, anyhow};
+use bench_measure::Work;
 use etcd_types::{Call, Step};
 use gateway_json::read_step;
 use std::alloc::Global;
@@ -16,14 +16,14 @@ pub(crate) struct Reading<'a> {
 impl Work for Reading<'_> {
     type Output = Step;
 
-    fn by_gateway(&self, alloc: Global) -> Result<Step> {
+    fn ours(&mut self, alloc: Global) -> Result<Step> {
         read_step(alloc, self.call, self.body.as_bytes()).map_err(|refusal| anyhow!(
             "{}",
             refusal.text()
         ))
     }
 
-    fn by_values(&self, alloc: Global) -> Result<Step> {
+    fn other(&mut self, alloc: Global) -> Result<Step> {
         read(alloc, self.call, self.body)
     }
 }

@@ -1,11 +1,11 @@
 //! What is measured, and what is said of it.
 ghost use Rattle.std.specs.Prelude.{◌<◌};
 
-use crate::measure::{Work, measure};
 use crate::reading::Reading;
 use crate::writing::Writing;
 use crate::{bodies, replies};
 use anyhow::Result;
+use bench_measure::{print_heading, print_times};
 use etcd_types::Call;
 use std::alloc::Global;
 use std::time::CpuClock;
@@ -44,33 +44,9 @@ pub(crate) fn say_what(rt: &impl Print) -> Result<()> {
 
 /// Measures all, and prints a line for each.
 pub(crate) fn measure_all(rt: &(impl Print + CpuClock + Alloc<A = Global>)) -> Result<()> {
-    println!(rt;
-        "{:<40}{:>12}{:>12}{:>10}",
-        "nanoseconds", "gateway", "by values", "ratio"
-    )?;
+    print_heading(rt, "gateway", "by values")?;
     measure_reading(rt)?;
     measure_writing(rt)
-}
-
-/// Measures some work, and prints its line.
-fn print_times<W: Work>(
-    rt: &(impl Print + CpuClock + Alloc<A = Global>),
-    name: &str,
-    work: &W,
-    turns: u32,
-) -> Result<()>
-    requires { 0 < turns }
-{
-    let times = measure(rt, rt.alloc(), work, turns)?;
-    let ratio = times.ratio();
-    println!(rt;
-        "{name:<40}{:>12}{:>12}{:>7}.{:02}",
-        times.by_gateway,
-        times.by_values,
-        ratio / 100,
-        ratio % 100
-    )?;
-    Ok(())
 }
 
 fn measure_reading(rt: &(impl Print + CpuClock + Alloc<A = Global>)) -> Result<()> {
@@ -93,7 +69,7 @@ fn measure_body(
 ) -> Result<()>
     requires { 0 < turns }
 {
-    print_times(rt, name, &Reading { call, body }, turns)
+    print_times(rt, name, &mut Reading { call, body }, turns)
 }
 
 fn measure_writing(rt: &(impl Print + CpuClock + Alloc<A = Global>)) -> Result<()> {
@@ -111,5 +87,5 @@ fn measure_rows(
     requires { 0 < turns }
 {
     let reply = replies::range(rt.alloc(), rows)?;
-    print_times(rt, name, &Writing { reply }, turns)
+    print_times(rt, name, &mut Writing { reply }, turns)
 }

@@ -1,7 +1,7 @@
 //! A reply whose body is written.
 use crate::by_values::write;
-use crate::measure::Work;
 use anyhow::Result;
+use bench_measure::Work;
 use etcd_types::Reply;
 use gateway_text::write_reply;
 use std::alloc::Global;
@@ -15,12 +15,12 @@ pub(crate) struct Writing {
 impl Work for Writing {
     type Output = Vec<u8>;
 
-    fn by_gateway(&self, alloc: Global) -> Result<Vec<u8>> {
+    fn ours(&mut self, alloc: Global) -> Result<Vec<u8>> {
         let (_status, body) = write_reply(alloc, &self.reply)?;
         Ok(body)
     }
 
-    fn by_values(&self, alloc: Global) -> Result<Vec<u8>> {
+    fn other(&mut self, alloc: Global) -> Result<Vec<u8>> {
         write(alloc, &self.reply)
     }
 }

@@ -4,7 +4,7 @@ use Rattle.std.specs.FinMap.{get}
 use Rattle.cell_arena.specs.declared.cell.Kind.TheVariants.{Delete}
 use Rattle.cell_arena.specs.Chain.{Record}
 use Rattle.cell_arena.specs.Held.{Held}
-use Rattle.test_segments.proofs.Inserted.{some_inserted, if_inserted, some_changed}
+use Rattle.cell_arena.proofs.Inserted.{some_inserted, if_inserted, some_changed}
 use Rattle.test_segments.proofs.tests.copies.Goals as goal
 
 pub place_delete-delete-requires-clause-head : goal.place_delete-delete-requires-clause-head

@@ -1,4 +1,4 @@
-use Rattle.test_segments.proofs.Inserted.{some_inserted}
+use Rattle.cell_arena.proofs.Inserted.{some_inserted}
 use Rattle.test_segments.proofs.tests.keeps.Goals as goal
 
 pub read_key-requires : goal.read_key-requires
