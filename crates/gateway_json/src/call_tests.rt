@@ -8,7 +8,7 @@ use std::alloc::{AllocError, Global};
 use std::test::Fail;
 
 /// What the worked rows are refused for when they are read, if anything.
-const WORKED: [(Call, &str, Option<Refusal>); 26] = [
+const WORKED: [(Call, &str, Option<Refusal>); 45] = [
     (Call::Compaction, "{\"revision\":\"3\"}", None),
     (
         Call::DeleteRange,
@@ -79,6 +79,73 @@ const WORKED: [(Call, &str, Option<Refusal>); 26] = [
         Some(Refusal::NotOffered),
     ),
     (Call::Watch, "{}", Some(Refusal::BadBody)),
+    (Call::Compaction, "{\"revision\":\"5\"}", None),
+    (Call::Compaction, "{\"revision\":\"6\"}", None),
+    (Call::DeleteRange, "{\"key\":\"YQ==\"}", None),
+    (
+        Call::DeleteRange,
+        "{\"key\":\"Zm9v\",\"prev_kv\":true}",
+        None,
+    ),
+    (
+        Call::Txn,
+        "{\"compare\":[{\"key\":\"Zm9v\",\"target\":\"VERSION\",\"version\":\"0\"}]}",
+        None,
+    ),
+    (
+        Call::Txn,
+        "{\"success\":[{\"request_put\":{\"key\":\"YQ==\",\"value\":\"MQ==\"}},{\"request_range\":{\"key\":\"YQ==\",\"revision\":\"2\"}}]}",
+        None,
+    ),
+    (
+        Call::Txn,
+        "{\"success\":[{\"request_put\":{\"key\":\"YQ==\",\"value\":\"MQ==\"}},{\"request_range\":{\"key\":\"YQ==\"}},{\"request_delete_range\":{\"key\":\"Yg==\"}}]}",
+        None,
+    ),
+    (Call::Grant, "{\"ID\":\"5\",\"TTL\":\"10\"}", None),
+    (Call::Grant, "{\"TTL\":\"0\"}", None),
+    (Call::TimeToLive, "{\"ID\":\"9\"}", None),
+    (Call::Alarm, "{}", None),
+    (
+        Call::Alarm,
+        "{\"action\":\"ACTIVATE\",\"alarm\":\"NOSPACE\",\"memberID\":\"2\"}",
+        None,
+    ),
+    (
+        Call::Alarm,
+        "{\"action\":\"DEACTIVATE\",\"alarm\":\"NOSPACE\"}",
+        None,
+    ),
+    (
+        Call::Watch,
+        "{\"create_request\":{\"key\":\"AA==\",\"range_end\":\"AA==\",\"filters\":[\"NOPUT\"]}}",
+        None,
+    ),
+    (
+        Call::Watch,
+        "{\"create_request\":{\"key\":\"AA==\",\"range_end\":\"AA==\",\"start_revision\":\"4\"}}",
+        None,
+    ),
+    (
+        Call::Watch,
+        "{\"create_request\":{\"key\":\"YQ==\",\"progress_notify\":true,\"start_revision\":\"10\"}}",
+        None,
+    ),
+    (
+        Call::Watch,
+        "{\"create_request\":{\"key\":\"YQ==\",\"start_revision\":\"2\",\"filters\":[\"NOPUT\"],\"watch_id\":\"5\"}}",
+        None,
+    ),
+    (
+        Call::Watch,
+        "{\"create_request\":{\"key\":\"YQ==\",\"start_revision\":\"5\",\"prev_kv\":true}}",
+        None,
+    ),
+    (
+        Call::Watch,
+        "{\"create_request\":{\"key\":\"Zm9v\",\"start_revision\":\"2\"}}",
+        None,
+    ),
 ];
 
 #[test]
