@@ -13,7 +13,7 @@ use crate::segments::Segments;
 use crate::table::{self, Table};
 use etcd_types::CellNo;
 
-// What a head says.
+/// What a head says.
 pub fn head_at(table: &Table, at: CellNo) -> (Kind, &HeadCell)
     requires { is_head (table_at table.now at) ≡ true }
     ensures { table_at table.now at ≡ Cell.Head result.0 result.1.now }
@@ -24,7 +24,7 @@ pub fn head_at(table: &Table, at: CellNo) -> (Kind, &HeadCell)
     }
 }
 
-// The bytes of the cell that a link names, and the next one.
+/// The bytes of the cell that a link names, and the next one.
 pub fn rest_at(table: &Table, link: Link) -> (CellNo, &[u8; 48], Link)
     requires { (count : ℕ) × (0 < count) × IsChain (table_at table.now) count link }
     ensures link { link ≡ Some result.0 }
@@ -42,7 +42,7 @@ pub fn rest_at(table: &Table, link: Link) -> (CellNo, &[u8; 48], Link)
     }
 }
 
-// Frees the cells of a chain that no head names.
+/// Frees the cells of a chain that no head names.
 fn free_chain<S: Segments>(table: &mut Table, segments: &mut S, first: Link, count: usize)
     requires table { IsTable table.old }
     requires linked { IsLinked (table_at table.old) }
@@ -68,7 +68,7 @@ fn free_chain<S: Segments>(table: &mut Table, segments: &mut S, first: Link, cou
     }
 }
 
-// Frees a record's cells.
+/// Frees a record's cells.
 pub fn release<S: Segments>(table: &mut Table, segments: &mut S, at: CellNo)
     requires table { IsTable table.old }
     requires linked { IsLinked (table_at table.old) }
@@ -93,7 +93,7 @@ pub fn release<S: Segments>(table: &mut Table, segments: &mut S, at: CellNo)
     free_chain(table, segments, first, count);
 }
 
-// Fills a chain with a key followed by a value, from its last cell on.
+/// Fills a chain with a key followed by a value, from its last cell on.
 fn store_bytes<S: Segments>(table: &mut Table, segments: &mut S, key: &[u8], value: &[u8]) -> Link
     requires table { IsTable table.old }
     requires linked { IsLinked (table_at table.old) }
@@ -115,7 +115,7 @@ fn store_bytes<S: Segments>(table: &mut Table, segments: &mut S, key: &[u8], val
     next
 }
 
-// Adds a record.
+/// Adds a record.
 pub fn place<S: Segments>(
     table: &mut Table,
     segments: &mut S,
@@ -158,7 +158,7 @@ pub fn place<S: Segments>(
     )
 }
 
-// Where a record's key lies.
+/// Where a record's key lies.
 pub fn key_part(table: &Table, at: CellNo) -> Part
     requires linked { IsLinked (table_at table.now) }
     requires head { is_head (table_at table.now at) ≡ true }
@@ -174,7 +174,7 @@ pub fn key_part(table: &Table, at: CellNo) -> Part
     }
 }
 
-// Where a record's value lies.
+/// Where a record's value lies.
 pub fn value_part(table: &Table, at: CellNo) -> Part
     requires linked { IsLinked (table_at table.now) }
     requires head { is_head (table_at table.now at) ≡ true }
@@ -190,7 +190,7 @@ pub fn value_part(table: &Table, at: CellNo) -> Part
     }
 }
 
-// Sets the next older record of its key.
+/// Sets the next older record of its key.
 pub fn set_older(table: &mut Table, at: CellNo, older: Link)
     requires table { IsTable table.old }
     requires linked { IsLinked (table_at table.old) }

@@ -12,7 +12,7 @@ use crate::segments::Segments;
 use crate::table::{self, Table};
 use etcd_types::CellNo;
 
-// Copies the first cells of a chain, each before the one that was copied before it.
+/// Copies the first cells of a chain, each before the one that was copied before it.
 fn copy_cells<S: Segments>(
     table: &mut Table,
     segments: &mut S,
@@ -51,7 +51,7 @@ fn copy_cells<S: Segments>(
     back
 }
 
-// Links the cells of a chain the other way round.
+/// Links the cells of a chain the other way round.
 fn turn_chain(table: &mut Table, first: Link, count: usize) -> Link
     requires table { IsTable table.old }
     requires linked { IsLinked (table_at table.old) }
@@ -80,7 +80,7 @@ fn turn_chain(table: &mut Table, first: Link, count: usize) -> Link
     next
 }
 
-// Adds a delete record of the key of another record.
+/// Adds a delete record of the key of another record.
 pub fn place_delete<S: Segments>(
     table: &mut Table,
     segments: &mut S,

@@ -11,7 +11,7 @@ pub struct Order {
     pub place: Vec<u32>,
 }
 
-// The numbers below this one, in order.
+/// The numbers below this one, in order.
 pub fn new(alloc: Global, count: u32) -> Mem<Order>
     ensures { IfOk result (λ o. IsOrder o × (count_of o ≡ count)) }
 {
@@ -24,7 +24,7 @@ pub fn new(alloc: Global, count: u32) -> Mem<Order>
     Ok(Order { order, place })
 }
 
-// Two places change their numbers.
+/// Two places change their numbers.
 pub fn swap(o: &mut Order, i: u32, j: u32)
     requires order { IsOrder o.old }
     requires i { i < count_of o.old }

@@ -4,7 +4,7 @@ ghost use Rattle.cell_arena.specs.Chain.{pieces as cells_for};
 
 use crate::cell::CELL_BYTES;
 
-// How many cells so many bytes fill.
+/// How many cells so many bytes fill.
 pub fn pieces(len: usize) -> usize
     requires { len < 2 ^ 32 }
     ensures { result ≡ cells_for len }
@@ -12,7 +12,7 @@ pub fn pieces(len: usize) -> usize
     (len + CELL_BYTES - 1) / CELL_BYTES
 }
 
-// Copies to this place as many bytes as fit, and answers how many.
+/// Copies to this place as many bytes as fit, and answers how many.
 fn fill(out: &mut [u8], at: usize, from: &[u8]) -> usize
     requires { at ≤ length out.old }
     ensures count { result ≡ min (length out.old - at) (length from.now) }
@@ -23,7 +23,7 @@ fn fill(out: &mut [u8], at: usize, from: &[u8]) -> usize
     count
 }
 
-// The first bytes of one text followed by another.
+/// The first bytes of one text followed by another.
 fn piece_of(front: &[u8], back: &[u8]) -> [u8; 48]
     ensures size { length result ≡ 48 }
     ensures bytes { take (length front.now + length back.now) result ≡ take 48 (front.now ++ back.now) }
@@ -34,7 +34,7 @@ fn piece_of(front: &[u8], back: &[u8]) -> [u8; 48]
     out
 }
 
-// What the cell from this byte on holds of a key followed by a value.
+/// What the cell from this byte on holds of a key followed by a value.
 pub fn piece_at(key: &[u8], value: &[u8], from: usize) -> [u8; 48]
     requires { from < length key.now + length value.now }
     ensures size { length result ≡ 48 }

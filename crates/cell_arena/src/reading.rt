@@ -14,7 +14,7 @@ use crate::table::Table;
 use etcd_types::Mem;
 use std::cmp::Ordering;
 
-// Gives a part of a chain's bytes, a piece a cell.
+/// Gives a part of a chain's bytes, a piece a cell.
 pub fn read_part<S: Sink>(table: &Table, part: Part, sink: &mut S) -> Mem<()>
     requires { IsPart (table_at table.now) part }
     ensures ok { OnOk result (S.taken sink.new ≡ S.taken sink.old ++ part_bytes (table_at table.now) part) }
@@ -40,7 +40,7 @@ pub fn read_part<S: Sink>(table: &Table, part: Part, sink: &mut S) -> Mem<()>
     Ok(())
 }
 
-// How a part of a chain's bytes stands to a text, in byte order.
+/// How a part of a chain's bytes stands to a text, in byte order.
 pub fn compare_part(table: &Table, part: Part, text: &[u8]) -> Ordering
     requires { IsPart (table_at table.now) part }
     ensures { result ≡ slice_cmp nat_cmp (part_bytes (table_at table.now) part) text.now }

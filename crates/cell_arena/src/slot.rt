@@ -18,7 +18,7 @@ pub struct Slot {
     pub free: u32,
 }
 
-// A link within one segment.
+/// A link within one segment.
 fn link_to(place: u32) -> Link
     requires { place < 64 }
     ensures { result ≡ Some place }
@@ -26,7 +26,7 @@ fn link_to(place: u32) -> Link
     Link::to(CellNo::at(0, place))
 }
 
-// The first free cell, and the one after it.
+/// The first free cell, and the one after it.
 fn first_free(slot: &Slot) -> (u32, Link)
     requires listed { IsListed slot.now }
     requires room { 0 < slot.now.free }
@@ -43,7 +43,7 @@ fn first_free(slot: &Slot) -> (u32, Link)
     }
 }
 
-// Takes the first free cell, and writes it.
+/// Takes the first free cell, and writes it.
 pub fn store(slot: &mut Slot, cell: Cell) -> u32
     requires listed { IsListed slot.old }
     requires room { 0 < slot.old.free }
@@ -62,7 +62,7 @@ pub fn store(slot: &mut Slot, cell: Cell) -> u32
     place
 }
 
-// Puts a cell that is in use on the list of the free ones.
+/// Puts a cell that is in use on the list of the free ones.
 pub fn free_cell(slot: &mut Slot, place: u32)
     requires listed { IsListed slot.old }
     requires used { is_free (slot_at slot.old place) ≡ false }
@@ -76,7 +76,7 @@ pub fn free_cell(slot: &mut Slot, place: u32)
     slot.free += 1;
 }
 
-// Writes a cell that is in use and stays so.
+/// Writes a cell that is in use and stays so.
 pub fn rewrite(slot: &mut Slot, place: u32, cell: Cell)
     requires listed { IsListed slot.old }
     requires used { is_free (slot_at slot.old place) ≡ false }
@@ -89,7 +89,7 @@ pub fn rewrite(slot: &mut Slot, place: u32, cell: Cell)
     slot.cells[place as usize] = cell;
 }
 
-// A slot without a segment, which takes no memory.
+/// A slot without a segment, which takes no memory.
 pub fn none(alloc: Global) -> Slot
     ensures { IsBare result }
 {
@@ -101,7 +101,7 @@ pub fn none(alloc: Global) -> Slot
     }
 }
 
-// Makes all cells of a segment free, whatever they held.
+/// Makes all cells of a segment free, whatever they held.
 pub fn clean(segment: Segment) -> Slot
     ensures listed { IsListed result }
     ensures all { AllFree result }

@@ -25,7 +25,7 @@ pub struct Table {
     pub alloc: Global,
 }
 
-// A table with so many slots, and no segment.
+/// A table with so many slots, and no segment.
 pub fn new(alloc: Global, slots: u32) -> Mem<Table>
     requires { slots ≤ 2 ^ 14 }
     ensures { IfOk result (λ table. IsTable table × AllBare table.slots.items × (length table.slots.items ≡ slots) × (table.reserved ≡ slots) × (table.drawn ≡ 0) × (table.used ≡ 0)) }
@@ -46,7 +46,7 @@ pub fn new(alloc: Global, slots: u32) -> Mem<Table>
     })
 }
 
-// A cell that is in use.
+/// A cell that is in use.
 pub fn look(table: &Table, at: CellNo) -> &Cell
     requires { is_free (table_at table.now at) ≡ false }
     ensures { table_at table.now at ≡ result.now }
@@ -54,7 +54,7 @@ pub fn look(table: &Table, at: CellNo) -> &Cell
     &table.slots[at.slot() as usize].cells[at.place() as usize]
 }
 
-// Writes a free cell of the segments that are drawn.
+/// Writes a free cell of the segments that are drawn.
 fn put_open(table: &mut Table, cell: Cell) -> CellNo
     requires table { IsTable table.old }
     requires ready { 0 < table.old.ready }
@@ -80,7 +80,7 @@ fn put_open(table: &mut Table, cell: Cell) -> CellNo
     CellNo::at(number, place)
 }
 
-// Draws a segment, and writes one of its cells.
+/// Draws a segment, and writes one of its cells.
 fn put_drawn<S: Segments>(table: &mut Table, segments: &mut S, cell: Cell) -> CellNo
     requires table { IsTable table.old }
     requires none_ready { table.old.ready ≡ 0 }
@@ -109,7 +109,7 @@ fn put_drawn<S: Segments>(table: &mut Table, segments: &mut S, cell: Cell) -> Ce
     CellNo::at(number, place)
 }
 
-// Writes a free cell. A segment is drawn only where no cell of the drawn ones is free.
+/// Writes a free cell. A segment is drawn only where no cell of the drawn ones is free.
 pub fn put<S: Segments>(table: &mut Table, segments: &mut S, cell: Cell) -> CellNo
     requires table { IsTable table.old }
     requires room { table.old.used < 64 * table.old.reserved }
@@ -133,7 +133,7 @@ pub fn put<S: Segments>(table: &mut Table, segments: &mut S, cell: Cell) -> Cell
     }
 }
 
-// Frees a cell of a segment that has others in use.
+/// Frees a cell of a segment that has others in use.
 fn free_in(table: &mut Table, number: u32, place: u32)
     requires table { IsTable table.old }
     requires small { place < 64 }
@@ -158,7 +158,7 @@ fn free_in(table: &mut Table, number: u32, place: u32)
     }
 }
 
-// Gives back a segment with one cell in use.
+/// Gives back a segment with one cell in use.
 fn empty_slot<S: Segments>(table: &mut Table, segments: &mut S, number: u32, place: u32)
     requires table { IsTable table.old }
     requires small { place < 64 }
@@ -194,7 +194,7 @@ fn empty_slot<S: Segments>(table: &mut Table, segments: &mut S, number: u32, pla
     table.used -= 1;
 }
 
-// Frees a cell that is in use, and gives its segment back where that was the last in use.
+/// Frees a cell that is in use, and gives its segment back where that was the last in use.
 pub fn free<S: Segments>(table: &mut Table, segments: &mut S, at: CellNo)
     requires table { IsTable table.old }
     requires used { is_free (table_at table.old at) ≡ false }
@@ -217,7 +217,7 @@ pub fn free<S: Segments>(table: &mut Table, segments: &mut S, at: CellNo)
     }
 }
 
-// Writes a cell that is in use and stays so.
+/// Writes a cell that is in use and stays so.
 pub fn rewrite(table: &mut Table, at: CellNo, cell: Cell)
     requires table { IsTable table.old }
     requires used { is_free (table_at table.old at) ≡ false }

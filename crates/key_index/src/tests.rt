@@ -11,7 +11,7 @@ fn is_older<R: Records>(records: &R, cell: CellNo, revision: u64) -> bool
     records.revision(cell) < revision && !records.is_put(cell)
 }
 
-// The body that tests use meets the bound.
+/// The body that tests use meets the bound.
 #[test]
 fn reads_a_record(rt: HostRuntime) -> Result<(), Fail> {
     let mut items = Vec::new(rt.alloc());

@@ -54,7 +54,7 @@ fn moves_segments_between_stocks(rt: HostRuntime) -> Result<(), Fail> {
     Ok(())
 }
 
-// What a region does with the segments that it is lent.
+/// What a region does with the segments that it is lent.
 fn draw_one<S: Segments>(segments: &mut S)
     requires { 0 < S.left segments.old }
     ensures left { S.left segments.new ≡ S.left segments.old }

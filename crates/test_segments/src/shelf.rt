@@ -86,7 +86,7 @@ impl Shelf {
     }
 }
 
-// What a cell of a new segment holds.
+/// What a cell of a new segment holds.
 fn cell_of(fill: Fill, place: u32) -> Cell
     requires { place < 64 }
 {
@@ -99,7 +99,7 @@ fn cell_of(fill: Fill, place: u32) -> Cell
     }
 }
 
-// A head that no record has.
+/// A head that no record has.
 fn stray_head(link: Link) -> HeadCell {
     HeadCell {
         key_len: 0xA5,
@@ -123,7 +123,7 @@ fn segment_of(alloc: Global, number: u32, fill: Fill) -> Mem<Segment> {
     Ok(Segment { number, cells })
 }
 
-// Where the segment of the lowest number stands.
+/// Where the segment of the lowest number stands.
 fn lowest(segments: &[Segment]) -> usize
     requires { 0 < length segments.now }
     ensures { result < length segments.now }
@@ -137,7 +137,7 @@ fn lowest(segments: &[Segment]) -> usize
     best
 }
 
-// Where the segment of the highest number stands.
+/// Where the segment of the highest number stands.
 fn highest(segments: &[Segment]) -> usize
     requires { 0 < length segments.now }
     ensures { result < length segments.now }

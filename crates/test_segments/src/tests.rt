@@ -14,7 +14,7 @@ const NUMBERS: Fields = Fields {
     lease: 5,
 };
 
-// Whether a record reads as it was put, in a region of so many segments, and leaves nothing.
+/// Whether a record reads as it was put, in a region of so many segments, and leaves nothing.
 fn keeps<S: Segments>(
     alloc: Global,
     segments: &mut S,
@@ -38,7 +38,7 @@ fn keeps<S: Segments>(
     Ok(same_key && same_value && region.free_cells() == count * 64)
 }
 
-// Whether a delete record has the other's key, its own numbers, and the older one that is set.
+/// Whether a delete record has the other's key, its own numbers, and the older one that is set.
 fn copies<S: Segments>(alloc: Global, segments: &mut S, key: &[u8], value: &[u8]) -> Mem<bool>
     requires fits { (length key.now + length value.now + 47) / 48 ≤ 30 }
     requires left { S.left segments.old ≡ 1 }
