@@ -1,12 +1,18 @@
 -- Byte order of a text in pieces.
-use Rattle.std.proofs.Common.{◌≡◌, ◌≢◌, ℕ, ◌-◌, ◌<◌, ◌≤◌, min, List, [], ◌∷◌, ◌++◌, length, take, drop, refl, sym, ap, ◌∙◌, inl, inr, arith}
+use Rattle.std.proofs.Common.{◌≡◌, ◌≢◌, ℕ, ◌+◌, ◌-◌, ◌*◌, ◌<◌, ◌≤◌, min, List, [], ◌∷◌, ◌++◌, length, take, drop, refl, sym, ap, ◌∙◌, inl, inr, ◌⊎◌, arith}
 use Rattle.std.proofs.lemmas.Bool.{cases_lt}
 use Rattle.std.proofs.lemmas.List.{length-take, length-drop, take_min, take_rest, drop_all}
 use Rattle.std.specs.Ordering.{nat_cmp, ordering_then}
+use Rattle.std.specs.Cmp.{nat_cmp_is}
 use Rattle.std.specs.Cmp.Lexicographic.{slice_cmp}
 use Rattle.std.specs.declared.cmp.Ordering.{Ordering}
 use Rattle.std.specs.declared.cmp.Ordering.TheVariants.{Less, Equal, Greater}
+use Rattle.cell_arena.specs.declared.cell.Cell.{Cell}
+use Rattle.cell_arena.specs.declared.part.Part.{Part}
+use Rattle.cell_arena.specs.Chain.{chain_bytes}
+use Rattle.cell_arena.specs.Part.{IsPart, part_bytes}
 use Rattle.cell_arena.proofs.Cutting.{part_here, part_later}
+use Rattle.cell_arena.proofs.Records.{length-chain_bytes}
 
 then_assoc : (a b c : Ordering) → ordering_then (ordering_then a b) c ≡ ordering_then a (ordering_then b c)
 then_assoc Less b c = refl
@@ -68,3 +74,54 @@ compared_all chain piece rest text skip left n m k all o was is size early is_n 
 pub compared_later : (chain piece rest text : List ℕ) (skip left : ℕ) (all : Ordering) → slice_cmp nat_cmp (take left (drop skip chain)) text ≡ all → chain ≡ piece ++ rest → length piece ≡ 48 → 48 ≤ skip → slice_cmp nat_cmp (take left (drop (skip - 48) rest)) text ≡ all
 compared_later chain piece rest text skip left all was is size late =
     ap (λ xs. slice_cmp nat_cmp xs text) (sym (part_later piece rest skip left size late) ∙ ap (λ xs. take left (drop skip xs)) (sym is)) ∙ was
+
+-- two texts that are cut, where nothing follows the shorter of two first pieces
+cmp_pieces : (xs ys us vs : List ℕ) → (length xs < length us → ys ≡ []) → (length us < length xs → vs ≡ []) → slice_cmp nat_cmp (xs ++ ys) (us ++ vs) ≡ ordering_then (slice_cmp nat_cmp xs us) (slice_cmp nat_cmp ys vs)
+cmp_pieces [] ys [] vs one other = refl
+cmp_pieces [] ys (u ∷ us) vs one other = ap (λ zs. slice_cmp nat_cmp zs (u ∷ (us ++ vs))) (one (omega arith))
+cmp_pieces (x ∷ xs) ys [] vs one other = ap (slice_cmp nat_cmp (x ∷ (xs ++ ys))) (other (omega arith))
+cmp_pieces (x ∷ xs) ys (u ∷ us) vs one other =
+    ap (ordering_then (nat_cmp x u)) (cmp_pieces xs ys us vs (λ less. one (omega arith)) (λ less. other (omega arith)))
+    ∙ sym (then_assoc (nat_cmp x u) (slice_cmp nat_cmp xs us) (slice_cmp nat_cmp ys vs))
+
+none_left : (n : ℕ) (xs : List ℕ) → n ≡ 0 → take n xs ≡ []
+none_left n xs none = ap (λ k. take k xs) none
+
+-- two fronts, by their first pieces and what follows
+fronts_cut : (xs ys us vs : List ℕ) (n m k j : ℕ) → length xs ≡ min n 48 → length us ≡ min m 48 → k + length xs ≡ n → j + length us ≡ m → slice_cmp nat_cmp (xs ++ take k ys) (us ++ take j vs) ≡ ordering_then (slice_cmp nat_cmp xs us) (slice_cmp nat_cmp (take k ys) (take j vs))
+fronts_cut xs ys us vs n m k j size other_size left other_left =
+    cmp_pieces xs (take k ys) us (take j vs) (λ less. none_left k ys (omega arith)) (λ less. none_left j vs (omega arith))
+
+-- first pieces that are equal
+pub fronts_here : (one other xs ys us vs : List ℕ) (n m k j : ℕ) (all o : Ordering) → slice_cmp nat_cmp one other ≡ all → one ≡ xs ++ take k ys → other ≡ us ++ take j vs → length xs ≡ min n 48 → length us ≡ min m 48 → k + length xs ≡ n → j + length us ≡ m → o ≡ slice_cmp nat_cmp xs us → o ≡ Equal → slice_cmp nat_cmp (take k ys) (take j vs) ≡ all
+fronts_here one other xs ys us vs n m k j all o was is other_is size other_size left other_left says equal =
+    sym (ap (λ x. ordering_then x (slice_cmp nat_cmp (take k ys) (take j vs))) (sym says ∙ equal))
+    ∙ sym (fronts_cut xs ys us vs n m k j size other_size left other_left)
+    ∙ sym (ap (λ zs. slice_cmp nat_cmp zs (us ++ take j vs)) is)
+    ∙ sym (ap (slice_cmp nat_cmp one) other_is)
+    ∙ was
+
+-- first pieces that decide
+pub fronts_all : (one other xs ys us vs : List ℕ) (n m k j : ℕ) (all o : Ordering) → slice_cmp nat_cmp one other ≡ all → one ≡ xs ++ take k ys → other ≡ us ++ take j vs → length xs ≡ min n 48 → length us ≡ min m 48 → k + length xs ≡ n → j + length us ≡ m → o ≡ slice_cmp nat_cmp xs us → o ≢ Equal → o ≡ all
+fronts_all one other xs ys us vs n m k j all o was is other_is size other_size left other_left says apart =
+    sym (decided o (slice_cmp nat_cmp (take k ys) (take j vs)) apart)
+    ∙ ap (λ x. ordering_then x (slice_cmp nat_cmp (take k ys) (take j vs))) says
+    ∙ sym (fronts_cut xs ys us vs n m k j size other_size left other_left)
+    ∙ sym (ap (λ zs. slice_cmp nat_cmp zs (us ++ take j vs)) is)
+    ∙ sym (ap (slice_cmp nat_cmp one) other_is)
+    ∙ was
+
+-- where one of two texts is at its end, the longer one is greater
+pub fronts_ended : (xs us : List ℕ) (n m : ℕ) → length xs ≡ n → length us ≡ m → (n ≡ 0) ⊎ (m ≡ 0) → nat_cmp n m ≡ slice_cmp nat_cmp xs us
+fronts_ended [] [] n m size other_size ended = sym (nat_cmp_is n m Equal (omega arith))
+fronts_ended [] (u ∷ us) n m size other_size ended = sym (nat_cmp_is n m Less (omega arith))
+fronts_ended (x ∷ xs) [] n m size other_size ended = sym (nat_cmp_is n m Greater (omega arith))
+fronts_ended (x ∷ xs) (u ∷ us) n m size other_size (inl none) = absurd (omega arith)
+fronts_ended (x ∷ xs) (u ∷ us) n m size other_size (inr none) = absurd (omega arith)
+
+-- a part has as many bytes as it says
+pub part_size : (at : ℕ → Cell) (part : Part) → IsPart at part → length (part_bytes at part) ≡ part.count
+part_size at part is =
+    let chain = chain_bytes at part.cells part.first in
+    let size : length chain ≡ part.cells * 48 = length-chain_bytes at part.cells part.first is.chain in
+    length-take part.count (drop part.from chain) ∙ omega (arith, is.fits, length-drop part.from chain)

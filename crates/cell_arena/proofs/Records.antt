@@ -6,7 +6,7 @@ use Rattle.std.specs.Cmp.{unsigned_tied, nat_cmp_total}
 use Rattle.std.specs.FinMap.{FinMap, get, insert, remove, empty, find, get-from_entries, get-insert, get-remove, get-empty, same_map, nat_cmp-IsAntisymmetric}
 use Rattle.cell_arena.specs.declared.cell.Cell.{Cell}
 use Rattle.cell_arena.specs.declared.cell.Cell.TheVariants.{Free, Head, Rest}
-use Rattle.std.specs.Prelude.{IsSome, IfSome}
+use Rattle.std.specs.Prelude.{IsSome, is_some, IfSome}
 use Rattle.std.proofs.lemmas.List.{get_or_past, length-map, length-take, length-drop, length-append}
 use Rattle.std.proofs.Common.{map as list_map}
 use Rattle.cell_arena.specs.declared.cell.HeadCell.{HeadCell}
@@ -117,6 +117,11 @@ is_head_from at (Rest bytes next) some = absurd (cc)
 pub held_head : (t : Table) (k : ℕ) → IsSome (get (held_of t).records k) → is_head (table_at t k) ≡ true
 held_head t k some = is_head_from (table_at t) (table_at t k) (subst IsSome (get_held t k) some)
 
+is_head_some : (at : ℕ → Cell) (c : Cell) → is_head c ≡ is_some (record_of at c)
+is_head_some at (Free next) = refl
+is_head_some at (Head kind head) = refl
+is_head_some at (Rest bytes next) = refl
+
 pub held_cost : (t : Table) (k n : ℕ) → IsLinked (table_at t) → n ≡ (held_of t).free + cost_at (table_at t k) → is_head (table_at t k) ≡ true → IfSome (get (held_of t).records k) (λ r. n ≡ (held_of t).free + cost r)
 held_cost t k n linked more is = subst (λ o. IfSome o (λ r. n ≡ (held_of t).free + cost r)) (sym (get_held t k)) (by_cell (table_at t k) refl is)
   where
@@ -141,6 +146,9 @@ seen_get t seen q is = ap (λ (h : Held). get h.records q) (sym is) ∙ get_held
 
 pub seen_head : (t : Table) (seen : Held) (k : ℕ) → held_of t ≡ seen → IsSome (get seen.records k) → is_head (table_at t k) ≡ true
 seen_head t seen k is some = held_head t k (subst (λ (h : Held). IsSome (get h.records k)) (sym is) some)
+
+pub seen_has : (t : Table) (seen : Held) (k : ℕ) → held_of t ≡ seen → is_head (table_at t k) ≡ is_some (get seen.records k)
+seen_has t seen k is = is_head_some (table_at t) (table_at t k) ∙ sym (ap is_some (seen_get t seen k is))
 
 pub seen_cost : (t : Table) (seen : Held) (k n : ℕ) → held_of t ≡ seen → IsLinked (table_at t) → n ≡ (held_of t).free + cost_at (table_at t k) → is_head (table_at t k) ≡ true → IfSome (get seen.records k) (λ r. n ≡ seen.free + cost r)
 seen_cost t seen k n is linked more head = subst (λ (h : Held). IfSome (get h.records k) (λ r. n ≡ h.free + cost r)) is (held_cost t k n linked more head)
@@ -182,6 +190,14 @@ key_size at k kind head linked read =
     let bytes = chain_bytes at (head_pieces head) head.first in
     let size : length bytes ≡ head_pieces head * 48 = length-chain_bytes at (head_pieces head) head.first (linked.heads k kind head read) in
     length-take head.key_len bytes ∙ omega arith
+
+-- and so is a value
+pub value_size : (at : ℕ → Cell) (k : ℕ) (kind : Kind) (head : HeadCell) → IsLinked at → at k ≡ Head kind head
+    → length (take head.value_len (drop head.key_len (chain_bytes at (head_pieces head) head.first))) ≡ head.value_len
+value_size at k kind head linked read =
+    let bytes = chain_bytes at (head_pieces head) head.first in
+    let size : length bytes ≡ head_pieces head * 48 = length-chain_bytes at (head_pieces head) head.first (linked.heads k kind head read) in
+    length-take head.value_len (drop head.key_len bytes) ∙ omega (arith, size, length-drop head.key_len bytes)
 
 -- the other way: what holds of a record that is seen
 pub if_seen : (t : Table) (seen : Held) (k : ℕ) (P Q : Record → Type 0) → held_of t ≡ seen → ((r : Record) → P r → Q r) → IfSome (get seen.records k) P → IfSome (record_at (table_at t) k) Q

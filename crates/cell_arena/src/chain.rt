@@ -14,7 +14,7 @@ use crate::table::{self, Table};
 use etcd_types::CellNo;
 
 /// What a head says.
-pub fn head_at(table: &Table, at: CellNo) -> (Kind, &HeadCell)
+pub(crate) fn head_at(table: &Table, at: CellNo) -> (Kind, &HeadCell)
     requires { is_head (table_at table.now at) ≡ true }
     ensures { table_at table.now at ≡ Cell.Head result.0 result.1.now }
 {
@@ -24,8 +24,15 @@ pub fn head_at(table: &Table, at: CellNo) -> (Kind, &HeadCell)
     }
 }
 
+/// Whether a record begins at the cell.
+pub(crate) fn begins_at(table: &Table, at: CellNo) -> bool
+    ensures { result ≡ is_head (table_at table.now at) }
+{
+    matches!(table::find(table, at), Some(Cell::Head(_, _)))
+}
+
 /// The bytes of the cell that a link names, and the next one.
-pub fn rest_at(table: &Table, link: Link) -> (CellNo, &[u8; 48], Link)
+pub(crate) fn rest_at(table: &Table, link: Link) -> (CellNo, &[u8; 48], Link)
     requires { (count : ℕ) × (0 < count) × IsChain (table_at table.now) count link }
     ensures link { link ≡ Some result.0 }
     ensures cell { table_at table.now result.0 ≡ Cell.Rest result.1.now result.2 }
@@ -69,7 +76,7 @@ fn free_chain<S: Segments>(table: &mut Table, segments: &mut S, first: Link, cou
 }
 
 /// Frees a record's cells.
-pub fn release<S: Segments>(table: &mut Table, segments: &mut S, at: CellNo)
+pub(crate) fn release<S: Segments>(table: &mut Table, segments: &mut S, at: CellNo)
     requires table { IsTable table.old }
     requires linked { IsLinked (table_at table.old) }
     requires head { is_head (table_at table.old at) ≡ true }
@@ -116,7 +123,7 @@ fn store_bytes<S: Segments>(table: &mut Table, segments: &mut S, key: &[u8], val
 }
 
 /// Adds a record.
-pub fn place<S: Segments>(
+pub(crate) fn place<S: Segments>(
     table: &mut Table,
     segments: &mut S,
     kind: Kind,
@@ -159,10 +166,11 @@ pub fn place<S: Segments>(
 }
 
 /// Where a record's key lies.
-pub fn key_part(table: &Table, at: CellNo) -> Part
+pub(crate) fn key_part(table: &Table, at: CellNo) -> Part
     requires linked { IsLinked (table_at table.now) }
     requires head { is_head (table_at table.now at) ≡ true }
     ensures part { IsPart (table_at table.now) result }
+    ensures front { result.from ≡ 0 }
     ensures bytes { IfSome (record_at (table_at table.now) at) (λ r. part_bytes (table_at table.now) result ≡ r.key) }
 {
     let (_kind, head) = head_at(table, at);
@@ -175,7 +183,7 @@ pub fn key_part(table: &Table, at: CellNo) -> Part
 }
 
 /// Where a record's value lies.
-pub fn value_part(table: &Table, at: CellNo) -> Part
+pub(crate) fn value_part(table: &Table, at: CellNo) -> Part
     requires linked { IsLinked (table_at table.now) }
     requires head { is_head (table_at table.now at) ≡ true }
     ensures part { IsPart (table_at table.now) result }
@@ -191,7 +199,7 @@ pub fn value_part(table: &Table, at: CellNo) -> Part
 }
 
 /// Sets the next older record of its key.
-pub fn set_older(table: &mut Table, at: CellNo, older: Link)
+pub(crate) fn set_older(table: &mut Table, at: CellNo, older: Link)
     requires table { IsTable table.old }
     requires linked { IsLinked (table_at table.old) }
     requires head { is_head (table_at table.old at) ≡ true }

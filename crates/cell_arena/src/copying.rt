@@ -81,7 +81,7 @@ fn turn_chain(table: &mut Table, first: Link, count: usize) -> Link
 }
 
 /// Adds a delete record of the key of another record.
-pub fn place_delete<S: Segments>(
+pub(crate) fn place_delete<S: Segments>(
     table: &mut Table,
     segments: &mut S,
     of: CellNo,

@@ -20,7 +20,7 @@ mod sink;
 mod slot;
 mod table;
 
-pub use cell::{Cell, Fields, HeadCell, Kind};
+pub use cell::{CELL_BYTES, Cell, Fields, HeadCell, Kind};
 pub use link::Link;
 pub use region::Region;
 pub use segments::{Segment, Segments};

@@ -12,7 +12,7 @@ pub struct Order {
 }
 
 /// The numbers below this one, in order.
-pub fn new(alloc: Global, count: u32) -> Mem<Order>
+pub(crate) fn new(alloc: Global, count: u32) -> Mem<Order>
     ensures { IfOk result (λ o. IsOrder o × (count_of o ≡ count)) }
 {
     let mut order = Vec::with_capacity(alloc, count as usize)?;
@@ -25,7 +25,7 @@ pub fn new(alloc: Global, count: u32) -> Mem<Order>
 }
 
 /// Two places change their numbers.
-pub fn swap(o: &mut Order, i: u32, j: u32)
+pub(crate) fn swap(o: &mut Order, i: u32, j: u32)
     requires order { IsOrder o.old }
     requires i { i < count_of o.old }
     requires j { j < count_of o.old }

@@ -5,7 +5,7 @@ ghost use Rattle.cell_arena.specs.Chain.{pieces as cells_for};
 use crate::cell::CELL_BYTES;
 
 /// How many cells so many bytes fill.
-pub fn pieces(len: usize) -> usize
+pub(crate) fn pieces(len: usize) -> usize
     requires { len < 2 ^ 32 }
     ensures { result ≡ cells_for len }
 {
@@ -35,7 +35,7 @@ fn piece_of(front: &[u8], back: &[u8]) -> [u8; 48]
 }
 
 /// What the cell from this byte on holds of a key followed by a value.
-pub fn piece_at(key: &[u8], value: &[u8], from: usize) -> [u8; 48]
+pub(crate) fn piece_at(key: &[u8], value: &[u8], from: usize) -> [u8; 48]
     requires { from < length key.now + length value.now }
     ensures size { length result ≡ 48 }
     ensures bytes { take (length (key.now ++ value.now) - from) result ≡ take 48 (drop from (key.now ++ value.now)) }

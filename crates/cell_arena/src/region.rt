@@ -1,5 +1,5 @@
 //! A store of records.
-ghost use Rattle.std.specs.Prelude.{◌≡◌, ◌+◌, ◌*◌, ◌/◌, ◌%◌, ◌≤◌, ◌^◌, ◌++◌, max, length, OnOk, OnErr, IfOk, None, IsSome, IfSome, []};
+ghost use Rattle.std.specs.Prelude.{◌≡◌, ◌+◌, ◌*◌, ◌/◌, ◌%◌, ◌≤◌, ◌^◌, ◌++◌, max, length, OnOk, OnErr, IfOk, None, IsSome, is_some, IfSome, []};
 ghost use Rattle.std.specs.Ordering.{nat_cmp};
 ghost use Rattle.std.specs.Cmp.Lexicographic.{slice_cmp};
 ghost use Rattle.std.specs.FinMap as map;
@@ -59,6 +59,13 @@ impl Region {
         ensures small { result ≤ 64 * self.now.reserved }
     {
         64 * self.table.reserved - self.table.used
+    }
+
+    /// How many cells are in use.
+    pub fn used_cells(&self) -> u32
+        ensures { result ≡ used_cells self.now }
+    {
+        self.table.used
     }
 
     /// Adds a record, which takes one cell and one more for each 48 bytes of its key and value.
@@ -128,6 +135,13 @@ impl Region {
         chain::release(&mut self.table, segments, cell);
     }
 
+    /// Whether a record begins at the cell.
+    pub fn has(&self, cell: CellNo) -> bool
+        ensures { result ≡ is_some (map.get self.now.records cell) }
+    {
+        chain::begins_at(&self.table, cell)
+    }
+
     /// What the record is.
     pub fn kind(&self, cell: CellNo) -> Kind
         requires { IsSome (map.get self.now.records cell) }
@@ -143,6 +157,24 @@ impl Region {
     {
         let (_kind, head) = chain::head_at(&self.table, cell);
         head.fields
+    }
+
+    /// How many bytes the record's key has.
+    pub fn key_len(&self, cell: CellNo) -> u32
+        requires { IsSome (map.get self.now.records cell) }
+        ensures { IfSome (map.get self.now.records cell) (λ r. result ≡ length r.key) }
+    {
+        let (_kind, head) = chain::head_at(&self.table, cell);
+        head.key_len
+    }
+
+    /// How many bytes the record's value has.
+    pub fn value_len(&self, cell: CellNo) -> u32
+        requires { IsSome (map.get self.now.records cell) }
+        ensures { IfSome (map.get self.now.records cell) (λ r. result ≡ length r.value) }
+    {
+        let (_kind, head) = chain::head_at(&self.table, cell);
+        head.value_len
     }
 
     /// The next older record of its key, as it was set.
@@ -196,6 +228,17 @@ impl Region {
     {
         let part = chain::key_part(&self.table, cell);
         reading::compare_part(&self.table, part, key)
+    }
+
+    /// How the key of one record stands to that of another, in byte order.
+    pub fn keys_cmp(&self, cell: CellNo, other: CellNo) -> Ordering
+        requires cell { IsSome (map.get self.now.records cell) }
+        requires other { IsSome (map.get self.now.records other) }
+        ensures { IfSome (map.get self.now.records cell) (λ r. IfSome (map.get self.now.records other) (λ s. result ≡ slice_cmp nat_cmp r.key s.key)) }
+    {
+        let one_part = chain::key_part(&self.table, cell);
+        let other_part = chain::key_part(&self.table, other);
+        reading::compare_fronts(&self.table, one_part, other_part)
     }
 
     /// How the record's value stands to a text, in byte order.

@@ -44,7 +44,7 @@ fn first_free(slot: &Slot) -> (u32, Link)
 }
 
 /// Takes the first free cell, and writes it.
-pub fn store(slot: &mut Slot, cell: Cell) -> u32
+pub(crate) fn store(slot: &mut Slot, cell: Cell) -> u32
     requires listed { IsListed slot.old }
     requires room { 0 < slot.old.free }
     requires used { is_free cell ≡ false }
@@ -63,7 +63,7 @@ pub fn store(slot: &mut Slot, cell: Cell) -> u32
 }
 
 /// Puts a cell that is in use on the list of the free ones.
-pub fn free_cell(slot: &mut Slot, place: u32)
+pub(crate) fn free_cell(slot: &mut Slot, place: u32)
     requires listed { IsListed slot.old }
     requires used { is_free (slot_at slot.old place) ≡ false }
     ensures listed { IsListed slot.new }
@@ -77,7 +77,7 @@ pub fn free_cell(slot: &mut Slot, place: u32)
 }
 
 /// Writes a cell that is in use and stays so.
-pub fn rewrite(slot: &mut Slot, place: u32, cell: Cell)
+pub(crate) fn rewrite(slot: &mut Slot, place: u32, cell: Cell)
     requires listed { IsListed slot.old }
     requires used { is_free (slot_at slot.old place) ≡ false }
     requires stays { is_free cell ≡ false }
@@ -90,7 +90,7 @@ pub fn rewrite(slot: &mut Slot, place: u32, cell: Cell)
 }
 
 /// A slot without a segment, which takes no memory.
-pub fn none(alloc: Global) -> Slot
+pub(crate) fn none(alloc: Global) -> Slot
     ensures { IsBare result }
 {
     Slot {
@@ -102,7 +102,7 @@ pub fn none(alloc: Global) -> Slot
 }
 
 /// Makes all cells of a segment free, whatever they held.
-pub fn clean(segment: Segment) -> Slot
+pub(crate) fn clean(segment: Segment) -> Slot
     ensures listed { IsListed result }
     ensures all { AllFree result }
     ensures free { result.free ≡ 64 }

@@ -1,8 +1,8 @@
 //! A table of segments, drawn as they are needed.
-ghost use Rattle.std.specs.Prelude.{◌≡◌, ◌+◌, ◌*◌, ◌<◌, ◌≤◌, ◌/◌, ◌^◌, IfOk, max, length, false, true, ◌==◌, ◌≢◌, slice_index_or, None};
+ghost use Rattle.std.specs.Prelude.{◌≡◌, ◌+◌, ◌*◌, ◌<◌, ◌≤◌, ◌/◌, ◌^◌, IfOk, max, length, false, true, ◌==◌, ◌≢◌, slice_index_or, None, MatchOption};
 ghost use Rattle.cell_arena.specs.declared.slot.Slot.{Slot};
 ghost use Rattle.cell_arena.specs.Chain.{is_free, Writes, AllBare};
-ghost use Rattle.cell_arena.specs.Table.{IsTable, table_at, segments_for};
+ghost use Rattle.cell_arena.specs.Table.{IsTable, hidden, table_at, segments_for};
 
 use crate::cell::Cell;
 use crate::order::{self, Order};
@@ -26,7 +26,7 @@ pub struct Table {
 }
 
 /// A table with so many slots, and no segment.
-pub fn new(alloc: Global, slots: u32) -> Mem<Table>
+pub(crate) fn new(alloc: Global, slots: u32) -> Mem<Table>
     requires { slots ≤ 2 ^ 14 }
     ensures { IfOk result (λ table. IsTable table × AllBare table.slots.items × (length table.slots.items ≡ slots) × (table.reserved ≡ slots) × (table.drawn ≡ 0) × (table.used ≡ 0)) }
 {
@@ -47,11 +47,19 @@ pub fn new(alloc: Global, slots: u32) -> Mem<Table>
 }
 
 /// A cell that is in use.
-pub fn look(table: &Table, at: CellNo) -> &Cell
+pub(crate) fn look(table: &Table, at: CellNo) -> &Cell
     requires { is_free (table_at table.now at) ≡ false }
     ensures { table_at table.now at ≡ result.now }
 {
     &table.slots[at.slot() as usize].cells[at.place() as usize]
+}
+
+/// The cell at a number, or none where there is no segment.
+pub(crate) fn find(table: &Table, at: CellNo) -> Option<&Cell>
+    ensures { MatchOption result (table_at table.now at ≡ Cell.Free None) (λ cell. table_at table.now at ≡ hidden cell.now) }
+{
+    let slot = table.slots.get(at.slot() as usize)?;
+    slot.cells.get(at.place() as usize)
 }
 
 /// Writes a free cell of the segments that are drawn.
@@ -110,7 +118,7 @@ fn put_drawn<S: Segments>(table: &mut Table, segments: &mut S, cell: Cell) -> Ce
 }
 
 /// Writes a free cell. A segment is drawn only where no cell of the drawn ones is free.
-pub fn put<S: Segments>(table: &mut Table, segments: &mut S, cell: Cell) -> CellNo
+pub(crate) fn put<S: Segments>(table: &mut Table, segments: &mut S, cell: Cell) -> CellNo
     requires table { IsTable table.old }
     requires room { table.old.used < 64 * table.old.reserved }
     requires left { S.left segments.old + table.old.drawn ≡ table.old.reserved }
@@ -195,7 +203,7 @@ fn empty_slot<S: Segments>(table: &mut Table, segments: &mut S, number: u32, pla
 }
 
 /// Frees a cell that is in use, and gives its segment back where that was the last in use.
-pub fn free<S: Segments>(table: &mut Table, segments: &mut S, at: CellNo)
+pub(crate) fn free<S: Segments>(table: &mut Table, segments: &mut S, at: CellNo)
     requires table { IsTable table.old }
     requires used { is_free (table_at table.old at) ≡ false }
     requires room { table.old.drawn ≤ S.room segments.old }
@@ -218,7 +226,7 @@ pub fn free<S: Segments>(table: &mut Table, segments: &mut S, at: CellNo)
 }
 
 /// Writes a cell that is in use and stays so.
-pub fn rewrite(table: &mut Table, at: CellNo, cell: Cell)
+pub(crate) fn rewrite(table: &mut Table, at: CellNo, cell: Cell)
     requires table { IsTable table.old }
     requires used { is_free (table_at table.old at) ≡ false }
     requires stays { is_free cell ≡ false }

@@ -34,8 +34,10 @@ fn keeps<S: Segments>(
     let mut read = Vec::new(alloc);
     region.read_value(cell, &mut read)?;
     let same_value = read.as_slice() == value && region.value_cmp(cell, value) == Ordering::Equal;
+    let stands = region.has(cell);
     region.release(segments, cell);
-    Ok(same_key && same_value && region.free_cells() == count * 64)
+    let gone = !region.has(cell) && region.free_cells() == count * 64;
+    Ok(same_key && same_value && stands && gone)
 }
 
 /// Whether a delete record has the other's key, its own numbers, and the older one that is set.
