@@ -1,7 +1,7 @@
 -- The reservations of a pool's numbers, and their sum.
 use Rattle.std.proofs.Common.{◌≡◌, ◌≢◌, ℕ, suc, ◌+◌, ◌<◌, ◌≤◌, List, [], ◌∷◌, length, Vec, vec_len, sum, Some, slice_get, set, get_or, inl, inr, subst, arith, ap, ◌∙◌}
 use Rattle.std.proofs.lemmas.List.{length-set, get_or-set_same, with_items_is}
-use Rattle.std.proofs.lemmas.List.Sums.{sum_by-set, sum_by-cons}
+use Rattle.std.proofs.lemmas.List.Sums.{sum_by-set, sum_by-cons, get_or-le-sum_by}
 use Rattle.std.proofs.lemmas.Bool.{cases_lt}
 use Rattle.std.proofs.lemmas.Option.{slice_get_within, get_or_from_slice_get, slice_get-get_or}
 use Rattle.std.specs.Vec.{with_items}
@@ -11,6 +11,11 @@ use Rattle.etcd_model.specs.Pool.{IsLeastUnheld}
 items-written : {Z : Type 0} (v : Vec ℕ Z) (seen new : List ℕ) (number now : ℕ) → seen ≡ v.items → length seen ≡ vec_len v → new ≡ set seen number now → (with_items v new).items ≡ set v.items number now
 items-written v seen new number now same size written =
     with_items_is v new (ap length written ∙ length-set seen number now ∙ size) ∙ written ∙ ap (λ (ys : List ℕ). set ys number now) same
+
+-- one reservation is at most the sum
+pub reserved-le-sum : (xs : List ℕ) (number was promised out : ℕ) → slice_get xs number ≡ Some was → sum xs ≡ promised + out → was ≤ promised + out
+reserved-le-sum xs number was promised out held adds =
+    omega (arith, get_or-le-sum_by (λ x. x) xs number 0 (slice_get_within xs number was held), get_or_from_slice_get xs number was 0 held, adds)
 
 -- one reservation changes by as much as the sum
 sum-set_held : (xs : List ℕ) (number was now left out promised : ℕ) → slice_get xs number ≡ Some was → sum xs ≡ promised + out → left + was ≡ promised + now → sum (set xs number now) ≡ left + out

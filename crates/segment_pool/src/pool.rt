@@ -1,5 +1,5 @@
 //! The pool, and the tickets that reserve its segments.
-ghost use Rattle.std.specs.Prelude.{◌≡◌, ◌+◌, ◌<◌, ◌≤◌, length, None, Some, replicate, slice_set, IfOk, OnOk, OnErr};
+ghost use Rattle.std.specs.Prelude.{◌≡◌, ◌+◌, ◌-◌, ◌^◌, ◌<◌, ◌≤◌, min, length, None, Some, replicate, slice_set, IfOk, OnOk, OnErr};
 ghost use Rattle.etcd_model.specs.Pool.{IsLeastUnheld, IsHeld, AddsUp};
 
 use crate::supply::new_segments;
@@ -185,26 +185,26 @@ impl Pool {
         self.free.push_reserved(segment);
     }
 
-    /// Reserves so many more, or says that fewer are unreserved.
+    /// Reserves so many more, or says that fewer are unreserved. A reservation stays at 2^32 - 1,
+    /// which no ticket of this pool comes near.
     pub fn grow(&mut self, ticket: &mut Ticket, segments: u32) -> Result<(), Short>
-        requires { ticket.old.reserved ≤ self.old.promised + self.old.out }
-
-        ensures ticket { OnOk result (ticket.new ≡ record ticket.old { reserved = ticket.old.reserved + segments }) }
+        ensures ticket { OnOk result (ticket.new ≡ record ticket.old { reserved = min (ticket.old.reserved + segments) (2 ^ 32 - 1) }) }
         ensures pool { OnOk result (self.new ≡ record self.old {
           promised = self.old.promised + segments;
-          reservations = slice_set self.old.reservations ticket.old.number (ticket.old.reserved + segments);
+          reservations = slice_set self.old.reservations ticket.old.number ticket.new.reserved;
         }) }
         ensures enough { OnOk result (self.old.promised + segments ≤ self.old.free) }
         ensures short { OnErr result (self.old.free < self.old.promised + segments) }
         ensures err { OnErr result ((self.new ≡ self.old) × (ticket.new ≡ ticket.old)) }
 
+        ensures exact { OnOk result (AddsUp self.old → IsHeld self.old ticket.old → ticket.new.reserved ≡ ticket.old.reserved + segments) }
         ensures held { OnOk result (IsHeld self.old ticket.old → IsHeld self.new ticket.new) }
         ensures adds_up { OnOk result (AddsUp self.old → IsHeld self.old ticket.old → AddsUp self.new) }
     {
         if self.unreserved() < segments {
             return Err(Short);
         }
-        ticket.reserved += segments;
+        ticket.reserved = ticket.reserved.saturating_add(segments);
         set_at(
             self.reservations.as_mut_slice(),
             ticket.number,
