@@ -1,11 +1,11 @@
 //! Every call, on bodies with known meaning. What is built so far is not asked.
 use crate::read_step;
+use crate::tests::refusal;
 use etcd_types::limits::MAX_OPS;
 use etcd_types::{
-    AlarmAction, AlarmKind, AlarmReq, Call, Compare, Op, Operand, Refusal, Step, TxnReq, WatchReq,
+    AlarmAction, AlarmKind, AlarmReq, Call, GrantReq, Mem, Op, Operand, Refusal, Step, TxnReq,
 };
-use std::alloc::{AllocError, Global};
-use std::test::Fail;
+use std::alloc::Global;
 
 /// What the worked rows are refused for when they are read, if anything.
 const WORKED: [(Call, &str, Option<Refusal>); 45] = [
@@ -150,9 +150,12 @@ const WORKED: [(Call, &str, Option<Refusal>); 45] = [
 
 #[test]
 fn worked_bodies(rt: HostRuntime) {
-    for (call, body, refusal) in WORKED.iter() {
-        let read = read_step(rt.alloc(), *call, body.as_bytes());
-        assert_eq!(rt; read.err(), *refusal, "{body}");
+    for (call, body, wanted) in WORKED.iter() {
+        assert_eq!(rt;
+            refusal(rt.alloc(), *call, body.as_bytes()),
+            *wanted,
+            "{body}"
+        );
     }
 }
 
@@ -163,51 +166,43 @@ fn read_txn(alloc: Global, body: &str) -> Result<TxnReq, Refusal> {
     }
 }
 
+/// The number that an operand of that target has.
+fn number_of(operand: &Operand, target: &str) -> Option<i64> {
+    match operand {
+        Operand::Version(number) if target == "VERSION" => Some(*number),
+        Operand::Create(number) if target == "CREATE" => Some(*number),
+        Operand::Mod(number) if target == "MOD" => Some(*number),
+        Operand::Lease(number) if target == "LEASE" => Some(*number),
+        _ => None,
+    }
+}
+
 /// The number that a compare of that target looks at: each of the four has another.
-fn number_compared(alloc: Global, target: &str) -> Result<i64, Fail> {
-    let body = format!(in alloc;
+fn number_compared(alloc: Global, target: &str) -> Result<Option<i64>, Refusal> {
+    let Ok(body) = format!(in alloc;
         "{{\"compare\":[{{\"key\":\"YQ==\",\"target\":\"{target}\",\"version\":\"1\",\"create_revision\":\"2\",\"modRevision\":3,\"lease\":\"-4\",\"value\":\"Yg==\"}}]}}"
-    )?;
-    let request = read_txn(alloc, body.as_str())?;
-    match request.compare.as_slice() {
-        [
-            Compare {
-                operand: Operand::Version(number),
-                ..
-            },
-        ] if target == "VERSION" => Ok(*number),
-        [
-            Compare {
-                operand: Operand::Create(number),
-                ..
-            },
-        ] if target == "CREATE" => Ok(*number),
-        [
-            Compare {
-                operand: Operand::Mod(number),
-                ..
-            },
-        ] if target == "MOD" => Ok(*number),
-        [
-            Compare {
-                operand: Operand::Lease(number),
-                ..
-            },
-        ] if target == "LEASE" => Ok(*number),
-        _ => Err("another target")?,
+    ) else {
+        return Err(Refusal::Memory);
+    };
+    match read_txn(alloc, body.as_str())?.compare.as_slice() {
+        [compare] => Ok(number_of(&compare.operand, target)),
+        _ => Ok(None),
     }
 }
 
 #[test]
-fn operands(rt: HostRuntime) -> Result<(), Fail> {
+fn operands(rt: HostRuntime) {
     for (target, number) in [("VERSION", 1), ("CREATE", 2), ("MOD", 3), ("LEASE", -4)] {
-        assert_eq!(rt; number_compared(rt.alloc(), target)?, number, "{target}");
+        assert_eq!(rt;
+            number_compared(rt.alloc(), target),
+            Ok(Some(number)),
+            "{target}"
+        );
     }
-    Ok(())
 }
 
 /// A transaction with that many nested ones in its second branch, of which the last has a lone value.
-fn nested(alloc: Global, count: usize) -> Result<String, AllocError> {
+fn nested(alloc: Global, count: usize) -> Mem<String> {
     let mut body = String::from_str(alloc, "{\"failure\":[{\"requestTxn\":7}")?;
     for _ in 1..count {
         body.push_str(",{\"request_txn\":{\"compare\":5}}")?;
@@ -216,49 +211,63 @@ fn nested(alloc: Global, count: usize) -> Result<String, AllocError> {
     Ok(body)
 }
 
-#[test]
-fn nested_transactions_count(rt: HostRuntime) -> Result<(), Fail> {
-    let offered = nested(rt.alloc(), MAX_OPS)?;
-    let refusal = read_txn(rt.alloc(), offered.as_str()).err();
-    assert_eq!(rt; refusal, Some(Refusal::NotOffered));
-    let over = nested(rt.alloc(), MAX_OPS + 1)?;
-    let refusal = read_txn(rt.alloc(), over.as_str()).err();
-    assert_eq!(rt; refusal, Some(Refusal::TooManyOps));
-    Ok(())
+/// What it is refused for.
+fn nesting_refusal(alloc: Global, count: usize) -> Option<Refusal> {
+    match nested(alloc, count) {
+        Ok(body) => read_txn(alloc, body.as_str()).err(),
+        Err(_) => Some(Refusal::Memory),
+    }
 }
 
 #[test]
-fn operations(rt: HostRuntime) -> Result<(), Fail> {
-    let body =
-        "{\"success\":[{\"request_range\":{\"key\":\"YQ==\"}},{\"requestPut\":{\"key\":\"Yg==\"}},{\"requestDeleteRange\":{\"key\":\"Yw==\"}}]}";
-    let request = read_txn(rt.alloc(), body)?;
-    let kinds = matches!(
+fn nested_transactions_count(rt: HostRuntime) {
+    let offered = nesting_refusal(rt.alloc(), MAX_OPS);
+    assert_eq!(rt; offered, Some(Refusal::NotOffered));
+    let over = nesting_refusal(rt.alloc(), MAX_OPS + 1);
+    assert_eq!(rt; over, Some(Refusal::TooManyOps));
+}
+
+/// Whether a transaction's first branch is a range, a put and a delete.
+fn has_each_kind(alloc: Global, body: &str) -> Result<bool, Refusal> {
+    let request = read_txn(alloc, body)?;
+    Ok(matches!(
         request.success.as_slice(),
         [Op::Range(_), Op::Put(_), Op::Delete(_)]
-    );
-    assert!(rt; kinds);
+    ))
+}
+
+#[test]
+fn operations(rt: HostRuntime) {
+    let body =
+        "{\"success\":[{\"request_range\":{\"key\":\"YQ==\"}},{\"requestPut\":{\"key\":\"Yg==\"}},{\"requestDeleteRange\":{\"key\":\"Yw==\"}}]}";
+    assert_eq!(rt; has_each_kind(rt.alloc(), body), Ok(true));
     let two =
         "{\"success\":[{\"request_put\":{\"key\":\"YQ==\"},\"request_range\":{\"key\":\"YQ==\"}}]}";
     assert_eq!(rt; read_txn(rt.alloc(), two).err(), Some(Refusal::BadBody));
     let both = "{\"success\":[{\"request_txn\":{},\"request_put\":{\"key\":\"YQ==\"}}]}";
     assert_eq!(rt; read_txn(rt.alloc(), both).err(), Some(Refusal::BadBody));
-    Ok(())
 }
 
-fn read_watch(alloc: Global, filters: &str) -> Result<WatchReq, Refusal> {
+/// Which events a watch with such filters leaves out, its start and its number.
+fn read_watch(alloc: Global, filters: &str) -> Result<(bool, bool, i64, i64), Refusal> {
     let Ok(body) = format!(in alloc;
         "{{\"createRequest\":{{\"key\":\"YQ==\",\"filters\":{filters},\"startRevision\":\"4\",\"watch_id\":5}}}}"
     ) else {
         return Err(Refusal::Memory);
     };
     match read_step(alloc, Call::Watch, body.as_bytes())? {
-        Step::Watch(request) => Ok(request),
+        Step::Watch(request) => Ok((
+            request.no_put,
+            request.no_delete,
+            request.start_revision,
+            request.watch_id,
+        )),
         _ => Err(Refusal::NotOffered),
     }
 }
 
 #[test]
-fn filters(rt: HostRuntime) -> Result<(), Fail> {
+fn filters(rt: HostRuntime) {
     let cases = [
         ("[]", false, false),
         ("[\"NOPUT\"]", true, false),
@@ -266,23 +275,19 @@ fn filters(rt: HostRuntime) -> Result<(), Fail> {
         ("[\"NOPUT\",\"NODELETE\",\"NOPUT\"]", true, true),
     ];
     for (filters, no_put, no_delete) in cases {
-        let request = read_watch(rt.alloc(), filters)?;
         assert_eq!(rt;
-            (request.no_put, request.no_delete),
-            (no_put, no_delete),
-            "{filters}"
-        );
-        assert_eq!(rt;
-            (request.start_revision, request.watch_id),
-            (4, 5),
+            read_watch(rt.alloc(), filters),
+            Ok((no_put, no_delete, 4, 5)),
             "{filters}"
         );
     }
     for filters in ["[\"noput\"]", "[2]", "[null]", "\"NOPUT\""] {
-        let refusal = read_watch(rt.alloc(), filters).err();
-        assert_eq!(rt; refusal, Some(Refusal::BadBody), "{filters}");
+        assert_eq!(rt;
+            read_watch(rt.alloc(), filters),
+            Err(Refusal::BadBody),
+            "{filters}"
+        );
     }
-    Ok(())
 }
 
 fn read_alarm(alloc: Global, member: &str) -> Result<AlarmReq, Refusal> {
@@ -298,7 +303,7 @@ fn read_alarm(alloc: Global, member: &str) -> Result<AlarmReq, Refusal> {
 }
 
 #[test]
-fn members(rt: HostRuntime) -> Result<(), Fail> {
+fn members(rt: HostRuntime) {
     let cases = [
         ("\"18446744073709551615\"", u64::MAX),
         ("18446744073709551615", u64::MAX),
@@ -306,13 +311,12 @@ fn members(rt: HostRuntime) -> Result<(), Fail> {
         ("\"007\"", 7),
     ];
     for (text, member) in cases {
-        let request = read_alarm(rt.alloc(), text)?;
         let wanted = AlarmReq {
             action: AlarmAction::Deactivate,
             member,
             alarm: AlarmKind::NoSpace,
         };
-        assert_eq!(rt; request, wanted, "{text}");
+        assert_eq!(rt; read_alarm(rt.alloc(), text), Ok(wanted), "{text}");
     }
     for text in [
         "\"18446744073709551616\"",
@@ -324,40 +328,59 @@ fn members(rt: HostRuntime) -> Result<(), Fail> {
         "\"+1\"",
     ] {
         assert_eq!(rt;
-            read_alarm(rt.alloc(), text).err(),
-            Some(Refusal::BadBody),
+            read_alarm(rt.alloc(), text),
+            Err(Refusal::BadBody),
             "{text}"
         );
     }
-    Ok(())
+}
+
+fn read_grant(alloc: Global, body: &[u8]) -> Result<GrantReq, Refusal> {
+    match read_step(alloc, Call::Grant, body)? {
+        Step::Grant(request) => Ok(request),
+        _ => Err(Refusal::NotOffered),
+    }
+}
+
+fn read_revoke(alloc: Global, body: &[u8]) -> Result<i64, Refusal> {
+    match read_step(alloc, Call::Revoke, body)? {
+        Step::Revoke(id) => Ok(id),
+        _ => Err(Refusal::NotOffered),
+    }
+}
+
+/// The lease that is asked for, and whether its keys are.
+fn read_time_to_live(alloc: Global, body: &[u8]) -> Result<(i64, bool), Refusal> {
+    match read_step(alloc, Call::TimeToLive, body)? {
+        Step::TimeToLive { id, keys } => Ok((id, keys)),
+        _ => Err(Refusal::NotOffered),
+    }
 }
 
 #[test]
-fn leases(rt: HostRuntime) -> Result<(), Fail> {
-    let grant = read_step(rt.alloc(), Call::Grant, b"{\"TTL\":\"5\",\"ID\":-1}")?;
-    assert!(rt; matches!(grant, Step::Grant(request) if (request.ttl, request.id) == (5, -1)));
-    let asked = read_step(
-        rt.alloc(),
-        Call::TimeToLive,
-        b"{\"ID\":\"5\",\"keys\":true}",
-    )?;
-    assert!(rt; matches!(asked, Step::TimeToLive { id: 5, keys: true }));
-    let lower = read_step(rt.alloc(), Call::Revoke, b"{\"id\":\"5\"}")?;
-    assert!(rt; matches!(lower, Step::Revoke(0)));
-    Ok(())
+fn leases(rt: HostRuntime) {
+    let grant = read_grant(rt.alloc(), b"{\"TTL\":\"5\",\"ID\":-1}");
+    assert_eq!(rt; grant, Ok(GrantReq { ttl: 5, id: -1 }));
+    let asked = read_time_to_live(rt.alloc(), b"{\"ID\":\"5\",\"keys\":true}");
+    assert_eq!(rt; asked, Ok((5, true)));
+    let lower = read_revoke(rt.alloc(), b"{\"id\":\"5\"}");
+    assert_eq!(rt; lower, Ok(0));
 }
 
 #[test]
 fn texts(rt: HostRuntime) {
     let twice = b"{\"key\":5,\"key\":\"YQ==\"}";
-    assert!(rt; read_step(rt.alloc(), Call::Range, twice).is_ok());
+    assert_eq!(rt; refusal(rt.alloc(), Call::Range, twice), None);
     let refused: [&[u8]; 3] = [
         b"{\"key\":\"YQ==\",\"key\":5}",
         b"{\"key\":\"YQ==\",\"x\":\"\\ud800\"}",
         b"{\"key\":\"YQ==\",\"x\":\"\xff\"}",
     ];
     for body in refused {
-        let refusal = read_step(rt.alloc(), Call::Range, body).err();
-        assert_eq!(rt; refusal, Some(Refusal::BadBody), "{body:?}");
+        assert_eq!(rt;
+            refusal(rt.alloc(), Call::Range, body),
+            Some(Refusal::BadBody),
+            "{body:?}"
+        );
     }
 }

@@ -1,7 +1,11 @@
+//! Texts, targets and bodies with known meaning.
+//!
+//! What is read is let go in the function that looks at it: a test that holds a request is long to
+//! prove.
 use crate::{bytes_of_text, call_of, read_call, read_posted, read_step, target_of};
 use etcd_types::limits::MAX_BODY;
-use etcd_types::{Call, RangeReq, Refusal, SortOrder, SortTarget, Step};
-use std::alloc::{AllocError, Global};
+use etcd_types::{Call, Mem, RangeReq, Refusal, SortOrder, SortTarget, Step};
+use std::alloc::Global;
 use std::test::Fail;
 
 /// The letters by their numbers (RFC 4648, table 1).
@@ -12,6 +16,31 @@ const URL_SAFE: &[u8; 64] = b"ABCDEFGHIJKLMNOPQRSTUVWXYZabcdefghijklmnopqrstuvwx
 
 /// 29 bytes: the key is `foo`, the value `bar`.
 const PUT: &[u8; 29] = b"{\"key\":\"Zm9v\",\"value\":\"YmFy\"}";
+
+/// What a body is refused for.
+pub(crate) fn refusal(alloc: Global, call: Call, body: &[u8]) -> Option<Refusal> {
+    read_step(alloc, call, body).err()
+}
+
+/// The same where the call is named by its path.
+fn refusal_at(alloc: Global, path: &[u8], body: &[u8]) -> Option<Refusal> {
+    read_call(alloc, path, body).err()
+}
+
+/// The same with the method.
+fn refusal_by(alloc: Global, method: &[u8], path: &[u8], body: &[u8]) -> Option<Refusal> {
+    read_posted(alloc, method, path, body).err()
+}
+
+/// Whether a body is the put of that key and value.
+fn is_put(alloc: Global, body: &[u8], key: &[u8], value: &[u8]) -> Result<bool, Refusal> {
+    match read_step(alloc, Call::Put, body)? {
+        Step::Put(request) => Ok(
+            request.key.as_slice() == key && request.value.as_slice() == value,
+        ),
+        _ => Ok(false),
+    }
+}
 
 fn read_range(alloc: Global, body: &str) -> Result<RangeReq, Refusal> {
     match read_step(alloc, Call::Range, body.as_bytes())? {
@@ -35,6 +64,11 @@ fn read_key(alloc: Global, text: &str) -> Result<RangeReq, Refusal> {
     }
 }
 
+/// Whether a text is these bytes.
+fn is_spelled(alloc: Global, text: &[u8], bytes: &[u8]) -> Result<bool, Fail> {
+    Ok(bytes_of_text(alloc, str::from_utf8(text)?)?.as_slice() == bytes)
+}
+
 #[test]
 fn letters_are_numbers(rt: HostRuntime) -> Result<(), Fail> {
     for letters in [STANDARD, URL_SAFE] {
@@ -42,9 +76,8 @@ fn letters_are_numbers(rt: HostRuntime) -> Result<(), Fail> {
             for place in 0..4u32 {
                 let mut text = *b"AAAA";
                 text[place as usize] = letters[number as usize];
-                let bytes = bytes_of_text(rt.alloc(), str::from_utf8(&text)?)?;
                 let wanted = number.wrapping_shl(6 * (3 - place)).to_be_bytes();
-                assert_eq!(rt; bytes.as_slice(), &wanted[1..]);
+                assert!(rt; is_spelled(rt.alloc(), &text, &wanted[1..])?);
             }
         }
     }
@@ -52,44 +85,32 @@ fn letters_are_numbers(rt: HostRuntime) -> Result<(), Fail> {
 }
 
 #[test]
-fn cut_bodies(rt: HostRuntime) -> Result<(), Fail> {
-    let Step::Put(request) = read_step(rt.alloc(), Call::Put, PUT)? else {
-        return Err("not a put")?;
-    };
-    assert_eq!(rt; request.key.as_slice(), b"foo".as_slice());
-    assert_eq!(rt; request.value.as_slice(), b"bar".as_slice());
-    assert_eq!(rt;
-        read_step(rt.alloc(), Call::Put, b"").err(),
-        Some(Refusal::NoKey)
-    );
+fn cut_bodies(rt: HostRuntime) {
+    assert_eq!(rt; is_put(rt.alloc(), PUT, b"foo", b"bar"), Ok(true));
+    assert_eq!(rt; refusal(rt.alloc(), Call::Put, b""), Some(Refusal::NoKey));
     for length in 1..PUT.len() {
-        let refusal = read_step(rt.alloc(), Call::Put, &PUT[..length]).err();
-        assert_eq!(rt; refusal, Some(Refusal::BadBody), "{length}");
+        assert_eq!(rt;
+            refusal(rt.alloc(), Call::Put, &PUT[..length]),
+            Some(Refusal::BadBody),
+            "{length}"
+        );
     }
-    Ok(())
+}
+
+/// Whether a text is read as the key of these bytes.
+fn is_key(alloc: Global, text: &str, key: &[u8]) -> Result<bool, Refusal> {
+    Ok(read_key(alloc, text)?.key.as_slice() == key)
 }
 
 #[test]
-fn keys(rt: HostRuntime) -> Result<(), Fail> {
+fn keys(rt: HostRuntime) {
     for text in ["Zg", "Zg=="] {
-        assert_eq!(rt;
-            read_key(rt.alloc(), text)?.key.as_slice(),
-            b"f".as_slice(),
-            "{text}"
-        );
+        assert_eq!(rt; is_key(rt.alloc(), text, b"f"), Ok(true), "{text}");
     }
     for text in ["//4=", "__4", "_/4="] {
-        assert_eq!(rt;
-            read_key(rt.alloc(), text)?.key.as_slice(),
-            [255, 254].as_slice(),
-            "{text}"
-        );
+        assert_eq!(rt; is_key(rt.alloc(), text, &[255, 254]), Ok(true), "{text}");
     }
-    assert_eq!(rt;
-        read_key(rt.alloc(), "Zm8=")?.key.as_slice(),
-        b"fo".as_slice()
-    );
-    Ok(())
+    assert_eq!(rt; is_key(rt.alloc(), "Zm8=", b"fo"), Ok(true));
 }
 
 #[test]
@@ -100,8 +121,12 @@ fn bad_keys(rt: HostRuntime) {
     }
 }
 
+fn read_limit(alloc: Global, text: &str) -> Result<i64, Refusal> {
+    Ok(read_with(alloc, "limit", text)?.limit)
+}
+
 #[test]
-fn limits(rt: HostRuntime) -> Result<(), Fail> {
+fn limits(rt: HostRuntime) {
     let limits = [
         ("\"-0\"", 0),
         ("\"007\"", 7),
@@ -111,13 +136,8 @@ fn limits(rt: HostRuntime) -> Result<(), Fail> {
         ("null", 0),
     ];
     for (text, limit) in limits {
-        assert_eq!(rt;
-            read_with(rt.alloc(), "limit", text)?.limit,
-            limit,
-            "{text}"
-        );
+        assert_eq!(rt; read_limit(rt.alloc(), text), Ok(limit), "{text}");
     }
-    Ok(())
 }
 
 #[test]
@@ -131,38 +151,51 @@ fn bad_limits(rt: HostRuntime) {
         "9223372036854775808",
     ];
     for text in limits {
-        let refusal = read_with(rt.alloc(), "limit", text).err();
-        assert_eq!(rt; refusal, Some(Refusal::BadBody), "{text}");
+        assert_eq!(rt;
+            read_limit(rt.alloc(), text),
+            Err(Refusal::BadBody),
+            "{text}"
+        );
     }
 }
 
+fn read_order(alloc: Global, name: &str, value: &str) -> Result<SortOrder, Refusal> {
+    Ok(read_with(alloc, name, value)?.sort_order)
+}
+
+fn read_target(alloc: Global, name: &str, value: &str) -> Result<SortTarget, Refusal> {
+    Ok(read_with(alloc, name, value)?.sort_target)
+}
+
 #[test]
-fn choices(rt: HostRuntime) -> Result<(), Fail> {
-    let by_name = read_with(rt.alloc(), "sort_order", "\"ASCEND\"")?;
-    assert_eq!(rt; by_name.sort_order, SortOrder::Ascend);
-    let by_number = read_with(rt.alloc(), "sortOrder", "2")?;
-    assert_eq!(rt; by_number.sort_order, SortOrder::Descend);
-    let target = read_with(rt.alloc(), "sort_target", "4")?;
-    assert_eq!(rt; target.sort_target, SortTarget::Value);
+fn choices(rt: HostRuntime) {
+    let by_name = read_order(rt.alloc(), "sort_order", "\"ASCEND\"");
+    assert_eq!(rt; by_name, Ok(SortOrder::Ascend));
+    let by_number = read_order(rt.alloc(), "sortOrder", "2");
+    assert_eq!(rt; by_number, Ok(SortOrder::Descend));
+    let target = read_target(rt.alloc(), "sort_target", "4");
+    assert_eq!(rt; target, Ok(SortTarget::Value));
     for text in ["\"ascend\"", "3", "\"1\""] {
-        let refusal = read_with(rt.alloc(), "sort_order", text).err();
-        assert_eq!(rt; refusal, Some(Refusal::BadBody), "{text}");
+        let order = read_order(rt.alloc(), "sort_order", text);
+        assert_eq!(rt; order, Err(Refusal::BadBody), "{text}");
     }
-    Ok(())
+}
+
+/// Whether a range ends at these bytes.
+fn is_range_end(alloc: Global, body: &str, range_end: &[u8]) -> Result<bool, Refusal> {
+    Ok(read_range(alloc, body)?.range_end.as_slice() == range_end)
 }
 
 #[test]
-fn spellings(rt: HostRuntime) -> Result<(), Fail> {
+fn spellings(rt: HostRuntime) {
     let bodies = [
         "{\"key\":\"AA==\",\"rangeEnd\":\"AA==\"}",
         "{\"key\":\"AA==\",\"range_end\":null,\"rangeEnd\":\"AA==\"}",
         "{\"key\":\"AA==\",\"range_end\":\"AA==\",\"rangeEnd\":\"Yg==\"}",
     ];
     for body in bodies {
-        let request = read_range(rt.alloc(), body)?;
-        assert_eq!(rt; request.range_end.as_slice(), [0].as_slice(), "{body}");
+        assert_eq!(rt; is_range_end(rt.alloc(), body, &[0]), Ok(true), "{body}");
     }
-    Ok(())
 }
 
 #[test]
@@ -183,7 +216,8 @@ fn bodies(rt: HostRuntime) {
     }
 }
 
-fn nested(alloc: Global, arrays: usize) -> Result<String, AllocError> {
+/// So many arrays, each in the one before it.
+fn nested(alloc: Global, arrays: usize) -> Mem<String> {
     let mut value = String::new(alloc);
     for _ in 0..arrays {
         value.push('[')?;
@@ -194,34 +228,43 @@ fn nested(alloc: Global, arrays: usize) -> Result<String, AllocError> {
     Ok(value)
 }
 
-#[test]
-fn nesting(rt: HostRuntime) -> Result<(), Fail> {
-    let ignored = nested(rt.alloc(), 126)?;
-    assert!(rt; read_with(rt.alloc(), "x", ignored.as_str()).is_ok());
-    let refused = nested(rt.alloc(), 127)?;
-    let refusal = read_with(rt.alloc(), "x", refused.as_str()).err();
-    assert_eq!(rt; refusal, Some(Refusal::BadBody));
-    Ok(())
+/// What a range is refused for that has so many nested arrays beside its key.
+fn nesting_refusal(alloc: Global, arrays: usize) -> Option<Refusal> {
+    match nested(alloc, arrays) {
+        Ok(value) => read_with(alloc, "x", value.as_str()).err(),
+        Err(_) => Some(Refusal::Memory),
+    }
 }
 
 #[test]
-fn sizes(rt: HostRuntime) -> Result<(), Fail> {
-    let mut body = Vec::from_slice(rt.alloc(), PUT)?;
-    body.resize(MAX_BODY, b' ')?;
-    assert!(rt; read_step(rt.alloc(), Call::Put, &body).is_ok());
-    body.push(b' ')?;
-    let refusal = read_step(rt.alloc(), Call::Put, &body).err();
-    assert_eq!(rt; refusal, Some(Refusal::TooLarge));
-    let unbuilt = read_call(rt.alloc(), b"kv/txn", &body).err();
-    assert_eq!(rt; unbuilt, Some(Refusal::TooLarge));
-    let nowhere = read_call(rt.alloc(), b"kv/none", &body).err();
+fn nesting(rt: HostRuntime) {
+    assert_eq!(rt; nesting_refusal(rt.alloc(), 126), None);
+    assert_eq!(rt; nesting_refusal(rt.alloc(), 127), Some(Refusal::BadBody));
+}
+
+/// The put with blanks after it.
+fn padded(alloc: Global, length: usize) -> Mem<Vec<u8>> {
+    let mut body = Vec::from_slice(alloc, PUT)?;
+    body.resize(length, b' ')?;
+    Ok(body)
+}
+
+#[test]
+fn sizes(rt: HostRuntime) -> Mem<()> {
+    let body = padded(rt.alloc(), MAX_BODY)?;
+    assert_eq!(rt; refusal(rt.alloc(), Call::Put, &body), None);
+    let body = padded(rt.alloc(), MAX_BODY + 1)?;
+    let large = Some(Refusal::TooLarge);
+    assert_eq!(rt; refusal(rt.alloc(), Call::Put, &body), large);
+    assert_eq!(rt; refusal_at(rt.alloc(), b"kv/txn", &body), large);
+    let nowhere = refusal_at(rt.alloc(), b"kv/none", &body);
     assert_eq!(rt; nowhere, Some(Refusal::NoPath));
     Ok(())
 }
 
 #[test]
 fn gate(rt: HostRuntime) {
-    assert!(rt; read_call(rt.alloc(), b"kv/put", PUT).is_ok());
+    assert_eq!(rt; refusal_at(rt.alloc(), b"kv/put", PUT), None);
     let refused = [
         (
             "kv/range",
@@ -238,17 +281,18 @@ fn gate(rt: HostRuntime) {
         ("kv/none", "{", Refusal::NoPath),
     ];
     for (path, body, refusal) in refused {
-        let read = read_call(rt.alloc(), path.as_bytes(), body.as_bytes());
-        assert_eq!(rt; read.err(), Some(refusal), "{path} {body}");
+        let met = refusal_at(rt.alloc(), path.as_bytes(), body.as_bytes());
+        assert_eq!(rt; met, Some(refusal), "{path} {body}");
     }
 }
 
 #[test]
 fn methods(rt: HostRuntime) {
-    assert!(rt; read_posted(rt.alloc(), b"POST", b"kv/put", PUT).is_ok());
-    let got = read_posted(rt.alloc(), b"GET", b"kv/put", b"{").err();
+    let posted = refusal_by(rt.alloc(), b"POST", b"kv/put", PUT);
+    assert_eq!(rt; posted, None);
+    let got = refusal_by(rt.alloc(), b"GET", b"kv/put", b"{");
     assert_eq!(rt; got, Some(Refusal::NotPost));
-    let nowhere = read_posted(rt.alloc(), b"GET", b"kv/none", b"{}").err();
+    let nowhere = refusal_by(rt.alloc(), b"GET", b"kv/none", b"{}");
     assert_eq!(rt; nowhere, Some(Refusal::NoPath));
 }
 

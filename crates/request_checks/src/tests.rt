@@ -1,10 +1,13 @@
+//! What requests are refused for, and what is offered.
+//!
+//! A request is moved into the function that judges it: a way out of a test that drops requests is long
+//! to prove.
 use crate::{fields, is_in, is_offered, put_fields, txn_fields};
 use etcd_types::{
     AlarmAction, AlarmKind, AlarmReq, Compare, CompareResult, DeleteReq, GrantReq, List, Mem, Op,
     Operand, PutReq, RangeReq, Refusal, SortOrder, SortTarget, Step, TxnReq,
 };
 use std::alloc::Global;
-use std::test::Fail;
 
 fn put(alloc: Global, key: &[u8]) -> Mem<PutReq> {
     Ok(PutReq {
@@ -94,17 +97,72 @@ fn nested(alloc: Global) -> Mem<List<Op>> {
     Ok(ops)
 }
 
+/// A put that keeps value and lease, although it may have its own.
+fn put_that_keeps(alloc: Global, key: &str, value: &str, lease: i64) -> Mem<PutReq> {
+    Ok(PutReq {
+        key: List::from_slice(alloc, key.as_bytes())?,
+        value: List::from_slice(alloc, value.as_bytes())?,
+        lease,
+        prev_kv: false,
+        ignore_value: true,
+        ignore_lease: true,
+    })
+}
+
+/// A transaction with so many compares, and so many puts in each branch.
+fn txn_of(alloc: Global, compared: u8, success: u8, failure: u8) -> Mem<TxnReq> {
+    Ok(TxnReq {
+        compare: compares(alloc, b"a", compared)?,
+        success: puts(alloc, success)?,
+        failure: puts(alloc, failure)?,
+    })
+}
+
+/// A transaction with a compare of a key and a nested transaction.
+fn txn_that_nests(alloc: Global, key: &str) -> Mem<TxnReq> {
+    Ok(TxnReq {
+        compare: compares(alloc, key.as_bytes(), 1)?,
+        success: nested(alloc)?,
+        failure: List::new(alloc),
+    })
+}
+
+/// What a put is refused for.
+fn put_refusal(request: PutReq) -> Option<Refusal> {
+    put_fields(&request)
+}
+
+/// What a transaction is refused for.
+fn txn_refusal(request: TxnReq) -> Option<Refusal> {
+    txn_fields(&request)
+}
+
 /// What a transaction with no compares is refused for.
-fn refusal_of(alloc: Global, success: List<Op>, failure: List<Op>) -> Option<Refusal> {
-    txn_fields(&TxnReq {
+fn branches_refusal(alloc: Global, success: List<Op>, failure: List<Op>) -> Option<Refusal> {
+    txn_refusal(TxnReq {
         compare: List::new(alloc),
         success,
         failure,
     })
 }
 
+/// What a transaction with one branch is refused for.
+fn success_refusal(alloc: Global, success: List<Op>) -> Option<Refusal> {
+    branches_refusal(alloc, success, List::new(alloc))
+}
+
+/// The same of the other branch.
+fn failure_refusal(alloc: Global, failure: List<Op>) -> Option<Refusal> {
+    branches_refusal(alloc, List::new(alloc), failure)
+}
+
+/// What a step is refused for.
+fn refusal(step: Step) -> Option<Refusal> {
+    fields(&step)
+}
+
 #[test]
-fn puts_that_keep_value_and_lease(rt: HostRuntime) -> Result<(), Fail> {
+fn puts_that_keep_value_and_lease(rt: HostRuntime) -> Mem<()> {
     let cases = [
         ("foo", "", 0, None),
         ("foo", "1", 0, Some(Refusal::ValueGiven)),
@@ -113,19 +171,17 @@ fn puts_that_keep_value_and_lease(rt: HostRuntime) -> Result<(), Fail> {
         ("", "1", 77, Some(Refusal::NoKey)),
     ];
     for (key, value, lease, wanted) in cases {
-        let mut request = put(rt.alloc(), key.as_bytes())?;
-        request.value = List::from_slice(rt.alloc(), value.as_bytes())?;
-        request.lease = lease;
-        request.ignore_value = true;
-        request.ignore_lease = true;
-        assert_eq!(rt; put_fields(&request), wanted, "{key} {value} {lease}");
+        assert_eq!(rt;
+            put_refusal(put_that_keeps(rt.alloc(), key, value, lease)?),
+            wanted,
+            "{key} {value} {lease}"
+        );
     }
     Ok(())
 }
 
 #[test]
-fn at_most_128_in_any_list(rt: HostRuntime) -> Result<(), Fail> {
-    let alloc = rt.alloc();
+fn at_most_128_in_any_list(rt: HostRuntime) -> Mem<()> {
     let cases = [
         (128, 128, 128, None),
         (129, 0, 0, Some(Refusal::TooManyOps)),
@@ -133,13 +189,8 @@ fn at_most_128_in_any_list(rt: HostRuntime) -> Result<(), Fail> {
         (0, 0, 129, Some(Refusal::TooManyOps)),
     ];
     for (compared, success, failure, wanted) in cases {
-        let request = TxnReq {
-            compare: compares(alloc, b"a", compared)?,
-            success: puts(alloc, success)?,
-            failure: puts(alloc, failure)?,
-        };
         assert_eq!(rt;
-            txn_fields(&request),
+            txn_refusal(txn_of(rt.alloc(), compared, success, failure)?),
             wanted,
             "{compared} {success} {failure}"
         );
@@ -148,57 +199,55 @@ fn at_most_128_in_any_list(rt: HostRuntime) -> Result<(), Fail> {
 }
 
 #[test]
-fn duplicates_in_one_branch(rt: HostRuntime) -> Result<(), Fail> {
+fn duplicates_in_one_branch(rt: HostRuntime) -> Mem<()> {
     let alloc = rt.alloc();
     let duplicate = Some(Refusal::DuplicateKey);
+    assert_eq!(rt; failure_refusal(alloc, put_twice(alloc)?), duplicate);
     assert_eq!(rt;
-        refusal_of(alloc, List::new(alloc), put_twice(alloc)?),
+        success_refusal(alloc, put_and_delete(alloc, b"a")?),
         duplicate
     );
+    assert_eq!(rt; success_refusal(alloc, put_and_delete(alloc, b"b")?), None);
+    Ok(())
+}
+
+#[test]
+fn no_duplicates_across_branches(rt: HostRuntime) -> Mem<()> {
+    let alloc = rt.alloc();
+    assert_eq!(rt; txn_refusal(txn_of(alloc, 0, 2, 2)?), None);
     assert_eq!(rt;
-        refusal_of(alloc, put_and_delete(alloc, b"a")?, List::new(alloc)),
-        duplicate
-    );
-    assert_eq!(rt;
-        refusal_of(alloc, put_and_delete(alloc, b"b")?, List::new(alloc)),
+        branches_refusal(alloc, puts(alloc, 2)?, delete_all(alloc)?),
         None
     );
     Ok(())
 }
 
 #[test]
-fn no_duplicates_across_branches(rt: HostRuntime) -> Result<(), Fail> {
-    let alloc = rt.alloc();
-    assert_eq!(rt; refusal_of(alloc, puts(alloc, 2)?, puts(alloc, 2)?), None);
-    assert_eq!(rt;
-        refusal_of(alloc, puts(alloc, 2)?, delete_all(alloc)?),
-        None
-    );
-    Ok(())
-}
-
-#[test]
-fn no_key_before_what_is_not_offered(rt: HostRuntime) -> Result<(), Fail> {
-    let alloc = rt.alloc();
+fn no_key_before_what_is_not_offered(rt: HostRuntime) -> Mem<()> {
     for (key, wanted) in [("a", Refusal::NotOffered), ("", Refusal::NoKey)] {
-        let request = TxnReq {
-            compare: compares(alloc, key.as_bytes(), 1)?,
-            success: nested(alloc)?,
-            failure: List::new(alloc),
-        };
-        assert_eq!(rt; txn_fields(&request), Some(wanted), "{key}");
+        assert_eq!(rt;
+            txn_refusal(txn_that_nests(rt.alloc(), key)?),
+            Some(wanted),
+            "{key}"
+        );
     }
     Ok(())
 }
 
 #[test]
-fn reads_and_deletes_without_key(rt: HostRuntime) -> Result<(), Fail> {
+fn reads_and_deletes_without_key(rt: HostRuntime) -> Mem<()> {
     let alloc = rt.alloc();
     for (key, wanted) in [("a", None), ("", Some(Refusal::NoKey))] {
-        let read = Step::Range(range(alloc, key.as_bytes())?);
-        assert_eq!(rt; fields(&read), wanted, "{key}");
-        let cut = Step::Delete(delete(alloc, key.as_bytes(), b"b")?);
-        assert_eq!(rt; fields(&cut), wanted, "{key}");
+        assert_eq!(rt;
+            refusal(Step::Range(range(alloc, key.as_bytes())?)),
+            wanted,
+            "{key}"
+        );
+        assert_eq!(rt;
+            refusal(Step::Delete(delete(alloc, key.as_bytes(), b"b")?)),
+            wanted,
+            "{key}"
+        );
     }
     Ok(())
 }
@@ -210,7 +259,7 @@ fn grants_and_alarms(rt: HostRuntime) {
         (9_000_000_001, Some(Refusal::TtlTooLarge)),
     ] {
         assert_eq!(rt;
-            fields(&Step::Grant(GrantReq { ttl, id: 0 })),
+            refusal(Step::Grant(GrantReq { ttl, id: 0 })),
             wanted,
             "{ttl}"
         );
@@ -230,7 +279,7 @@ fn grants_and_alarms(rt: HostRuntime) {
             member: 2,
             alarm,
         };
-        assert_eq!(rt; fields(&Step::Alarm(request)), wanted, "{request:?}");
+        assert_eq!(rt; refusal(Step::Alarm(request)), wanted, "{request:?}");
     }
 }
 
@@ -255,17 +304,32 @@ fn intervals(rt: HostRuntime) {
     }
 }
 
+/// A put that attaches its key to a lease.
+fn leased(alloc: Global) -> Mem<PutReq> {
+    let mut request = put(alloc, b"a")?;
+    request.lease = 1;
+    Ok(request)
+}
+
+/// A range with a limit.
+fn limited(alloc: Global) -> Mem<RangeReq> {
+    let mut request = range(alloc, b"a")?;
+    request.limit = 1;
+    Ok(request)
+}
+
+/// Whether a step is offered.
+fn offers(step: Step) -> bool {
+    is_offered(&step)
+}
+
 #[test]
-fn offered(rt: HostRuntime) -> Result<(), Fail> {
+fn offered(rt: HostRuntime) -> Mem<()> {
     let alloc = rt.alloc();
-    let mut leased = put(alloc, b"a")?;
-    leased.lease = 1;
-    let mut limited = range(alloc, b"a")?;
-    limited.limit = 1;
-    assert!(rt; is_offered(&Step::Put(put(alloc, b"a")?)));
-    assert!(rt; !is_offered(&Step::Put(leased)));
-    assert!(rt; is_offered(&Step::Range(range(alloc, b"a")?)));
-    assert!(rt; !is_offered(&Step::Range(limited)));
-    assert!(rt; !is_offered(&Step::Delete(delete(alloc, b"a", b"")?)));
+    assert!(rt; offers(Step::Put(put(alloc, b"a")?)));
+    assert!(rt; !offers(Step::Put(leased(alloc)?)));
+    assert!(rt; offers(Step::Range(range(alloc, b"a")?)));
+    assert!(rt; !offers(Step::Range(limited(alloc)?)));
+    assert!(rt; !offers(Step::Delete(delete(alloc, b"a", b"")?)));
     Ok(())
 }
