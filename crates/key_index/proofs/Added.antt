@@ -7,6 +7,7 @@ use Rattle.std.proofs.lemmas.List.Edits.{length-insert, get_or-insert_below, get
 use Rattle.etcd_model.specs.Order.{key_cmp}
 use Rattle.key_index.specs.Entries.{Cells, Entry, IsChained, IsNewest, NoneAfter, IsPlaced, without, linked, with_older}
 use Rattle.key_index.specs.Index.{IsIndexOf, IsGapFor, IsAt}
+use Rattle.key_index.specs.Sought.{key_of}
 use Rattle.key_index.proofs.Links.{one_entry, less_from_greater, not_less, if_same, if_other, without_some, none_from_gap}
 
 module _ (w m : Cells) (cell : ℕ) (e1 : Entry)
@@ -246,7 +247,7 @@ pub record AreAdded (m : Cells) (heads : List ℕ) : Type 0 where
   pub index : IsIndexOf m heads
   pub chained : IsChained m
 
-module _ (m : Cells) (key : List ℕ) (cell : ℕ) (placed : IsPlaced m key cell) where
+module _ (m : Cells) (cell : ℕ) (placed : IsPlaced m cell) where
   e0 : Entry
   e0 = placed.here.0
 
@@ -264,23 +265,26 @@ module _ (m : Cells) (key : List ℕ) (cell : ℕ) (placed : IsPlaced m key cell
     others c differs = if_other c cell (option_map (with_older link) (m c)) (m c) differs ∙ sym (if_other c cell None (m c) differs)
 
     later : (b : ℕ) (g : Entry) → without m cell b ≡ Some g → g.change.key ≡ e1.change.key → g.change.revision < e1.change.revision
-    later b g has same = placed.later placed.here.0 placed.here.1 b g has (same ∙ placed.here.2)
+    later b g has same = placed.later placed.here.0 placed.here.1 b g has same
+
+  same_key : key_of (m cell) ≡ placed.here.0.change.key
+  same_key = ap key_of placed.here.1
 
   -- a head that has the key had it without the new record
-  at_without : (heads : List ℕ) (i : ℕ) → IsIndexOf (without m cell) heads → IsAt m heads key i → IsAt (without m cell) heads (placed.here.0.change.key) i
+  at_without : (heads : List ℕ) (i : ℕ) → IsIndexOf (without m cell) heads → IsAt m heads (key_of (m cell)) i → IsAt (without m cell) heads placed.here.0.change.key i
   at_without heads i index at =
       let n = index.newest i at.in_range in
       let same : n.0 ≡ at.of_key.0 = one_entry (m (get_or heads i 0)) n.0 at.of_key.0 (without_some m cell _ n.0 n.1).1 at.of_key.1 in
-      record { in_range = at.in_range; of_key = (n.0, n.1, ap (λ (x : Entry). x.change.key) same ∙ at.of_key.2 ∙ sym placed.here.2) }
+      record { in_range = at.in_range; of_key = (n.0, n.1, ap (λ (x : Entry). x.change.key) same ∙ at.of_key.2 ∙ same_key) }
 
-  gap_without : (heads : List ℕ) (i : ℕ) → IsGapFor m heads key i → IsGapFor (without m cell) heads (placed.here.0.change.key) i
+  gap_without : (heads : List ℕ) (i : ℕ) → IsGapFor m heads (key_of (m cell)) i → IsGapFor (without m cell) heads placed.here.0.change.key i
   gap_without heads i gap = record {
     in_range = gap.in_range;
-    smaller_before = λ j e lt has. subst (λ (k : List ℕ). key_cmp e.change.key k ≡ Less) (sym placed.here.2) (gap.smaller_before j e lt (without_some m cell _ e has).1);
-    greater_after = λ j e le lt has. subst (λ (k : List ℕ). key_cmp e.change.key k ≡ Greater) (sym placed.here.2) (gap.greater_after j e le lt (without_some m cell _ e has).1);
+    smaller_before = λ j e lt has. subst (λ (k : List ℕ). key_cmp e.change.key k ≡ Less) same_key (gap.smaller_before j e lt (without_some m cell _ e has).1);
+    greater_after = λ j e le lt has. subst (λ (k : List ℕ). key_cmp e.change.key k ≡ Greater) same_key (gap.greater_after j e le lt (without_some m cell _ e has).1);
   }
 
-  pub added_at : (heads : List ℕ) (i h : ℕ) → IsIndexOf (without m cell) heads → IsChained (without m cell) → IsAt m heads key i → h ≡ get_or heads i 0 → AreAdded (linked m cell (Some h)) (set heads i cell)
+  pub added_at : (heads : List ℕ) (i h : ℕ) → IsIndexOf (without m cell) heads → IsChained (without m cell) → IsAt m heads (key_of (m cell)) i → h ≡ get_or heads i 0 → AreAdded (linked m cell (Some h)) (set heads i cell)
   added_at heads i h index chained at is =
       let link : Option ℕ = Some h in
       let old = at_without heads i index at in
@@ -296,7 +300,7 @@ module _ (m : Cells) (key : List ℕ) (cell : ℕ) (placed : IsPlaced m key cell
             (λ eq. let p : link ≡ None = eq in let bad : ⊥ = cc in absurd bad);
       }
 
-  pub added_new : (heads : List ℕ) (i : ℕ) → IsIndexOf (without m cell) heads → IsChained (without m cell) → IsGapFor m heads key i → AreAdded (linked m cell None) (insert heads i cell)
+  pub added_new : (heads : List ℕ) (i : ℕ) → IsIndexOf (without m cell) heads → IsChained (without m cell) → IsGapFor m heads (key_of (m cell)) i → AreAdded (linked m cell None) (insert heads i cell)
   added_new heads i index chained gap =
       let link : Option ℕ = None in
       let old = gap_without heads i gap in

@@ -7,13 +7,10 @@ use Rattle.std.proofs.lemmas.Bool.{cases_lt}
 use Rattle.std.proofs.lemmas.Bool.Decides.{nat_tests}
 use Rattle.std.proofs.lemmas.Slice.Eq.{bytes_eq-Decides}
 use Rattle.etcd_model.specs.Changes.{Recorded, is_up_to, keeps}
+use Rattle.model_laws.proofs.LastLaws.{true_or_false}
 use Rattle.key_index.specs.Entries.{Cells, Entry, change_at}
 use Rattle.key_index.specs.Compaction.{IsKept, HasLater, KeptAsDefined}
 use Rattle.key_index.proofs.Compacted.{entry_some}
-
-true_or_false : (b : Bool) → (b ≡ true) ⊎ (b ≡ false)
-true_or_false true = inl refl
-true_or_false false = inr refl
 
 -- a test that an element passes finds one
 any_at : (p : Recorded → Bool) (xs : List Recorded) (k : ℕ) (x : Recorded) → k < length xs → slice_index_or xs k x ≡ x → p x ≡ true → list_any p xs ≡ true
@@ -29,16 +26,16 @@ found p P (x ∷ xs) all any = elim (true_or_false (p x)) [
   | inr other ↦ found p P xs all.1 (let rest : list_any p xs ≡ true = grind (arith, other, any) in rest)
 ]
 
-le_true : (a b : ℕ) → a ≤ b → nat_le a b ≡ true
+pub le_true : (a b : ℕ) → a ≤ b → nat_le a b ≡ true
 le_true a b le = grind (arith, nat_tests)
 
-true_le : (a b : ℕ) → nat_le a b ≡ true → a ≤ b
+pub true_le : (a b : ℕ) → nat_le a b ≡ true → a ≤ b
 true_le a b is = grind (arith, nat_tests)
 
-both : (a b : Bool) → a ≡ true → b ≡ true → (a && b) ≡ true
+pub both : (a b : Bool) → a ≡ true → b ≡ true → (a && b) ≡ true
 both a b p q = grind (arith, p, q)
 
-each : (a b : Bool) → (a && b) ≡ true → (a ≡ true) × (b ≡ true)
+pub each : (a b : Bool) → (a && b) ≡ true → (a ≡ true) × (b ≡ true)
 each true b h = (refl, h)
 each false b h = let bad : ⊥ = cc in absurd bad
 

@@ -8,3 +8,8 @@ pub mod Compacted
 pub mod Whole
 pub mod Linking
 pub mod Kept
+pub mod Times
+pub mod Order
+pub mod OrderKept
+pub mod OrderAdded
+pub mod Listing

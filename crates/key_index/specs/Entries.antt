@@ -67,7 +67,7 @@ linked cells c link b = if b == c then option_map (with_older link) (cells b) el
 abbrev pub SameChanges : Cells → Cells → Type 0
 SameChanges old new = (c : ℕ) → change_at new c ≡ change_at old c
 
--- Under the cell is a record of the key that no other knows of: it is newer than the others of its key.
-pub record IsPlaced (cells : Cells) (key : List ℕ) (c : ℕ) : Type 0 where
-  pub here : (e : Entry) × (cells c ≡ Some e) × (e.change.key ≡ key)
-  pub later : (e : Entry) → cells c ≡ Some e → (b : ℕ) (g : Entry) → without cells c b ≡ Some g → g.change.key ≡ key → g.change.revision < e.change.revision
+-- Under the cell is a record that no other knows of: it is newer than the others of its key.
+pub record IsPlaced (cells : Cells) (c : ℕ) : Type 0 where
+  pub here : (e : Entry) × (cells c ≡ Some e)
+  pub later : (e : Entry) → cells c ≡ Some e → (b : ℕ) (g : Entry) → without cells c b ≡ Some g → g.change.key ≡ e.change.key → g.change.revision < e.change.revision

@@ -1,4 +1,6 @@
 pub mod Entries
 pub mod Index
+pub mod Sought
 pub mod Compaction
+pub mod Order
 pub mod Listed

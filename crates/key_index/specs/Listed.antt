@@ -1,6 +1,7 @@
 -- Records in a list, under their places.
-use Rattle.std.specs.Prelude.{ℕ, List, Option, Some, None, option_map, sum_by, slice_index_or}
-use Rattle.key_index.specs.Entries.{Cells, Entry}
+use Rattle.std.specs.Prelude.{◌≡◌, ℕ, ◌+◌, ◌<◌, List, length, Option, Some, None, option_map, sum_by, slice_index_or}
+use Rattle.key_index.specs.Entries.{Cells, Entry, IsChained}
+use Rattle.key_index.specs.Index.{IsIndexOf}
 use Rattle.key_index.specs.declared.record_list.Record.{Record}
 
 abbrev pub entry_of : Record → Entry
@@ -17,3 +18,9 @@ empty_cell (Some r) = 0
 
 abbrev pub empty_places : List (Option Record) → ℕ
 empty_places items = sum_by empty_cell items
+
+-- a list with its index, of which no record has a later revision than its places allow: they begin with revision 2
+pub record IsListed (items : List (Option Record)) (heads : List ℕ) : Type 0 where
+  pub index : IsIndexOf (cells_of items) heads
+  pub chained : IsChained (cells_of items)
+  pub numbered : (c : ℕ) (e : Entry) → cells_of items c ≡ Some e → e.change.revision < length items + 2

@@ -6,7 +6,7 @@ ghost use Rattle.key_index.specs.Index.{Heads, IsAt, IsEnd, IsFrom, IsGapFor, Is
 
 use crate::compaction::cut_chains;
 use crate::records::{Records, RecordsMut};
-use crate::search::{search, walk};
+use crate::search::{Sought, last_up_to, search};
 use etcd_types::CellNo;
 use std::alloc::{AllocError, Global};
 use std::marker::Model;
@@ -46,7 +46,7 @@ impl KeyIndex {
         requires { IsSpread (R.cells records.now) self.now.cells }
         ensures { MatchResult result (IsAt (R.cells records.now) self.now.cells key.now) (IsGapFor (R.cells records.now) self.now.cells key.now) }
     {
-        search(&self.heads, records, key)
+        search(&self.heads, records, &Sought::Key(key))
     }
 
     /// The places of the keys of the interval that begins at `key` and ends before `range_end`. With an empty end it is
@@ -102,15 +102,15 @@ impl KeyIndex {
         ensures { MatchOption result (NoneUpTo (R.cells records.now) key.now revision) (IsLast (R.cells records.now) key.now revision) }
     {
         match self.find(records, key) {
-            Ok(place) => walk(self.heads[place], records, revision),
+            Ok(place) => last_up_to(self.heads[place], records, revision),
             Err(_) => None,
         }
     }
 
-    /// Takes up a new record of the key, which is newer than the others of it.
-    pub fn add<R: RecordsMut>(&mut self, records: &mut R, key: &[u8], cell: CellNo)
+    /// Takes up a new record, which is newer than the others of its key.
+    pub fn add<R: RecordsMut>(&mut self, records: &mut R, cell: CellNo)
         requires room { length self.old.cells < self.old.room }
-        requires placed { IsPlaced (R.cells records.old) key.now cell }
+        requires placed { IsPlaced (R.cells records.old) cell }
         requires index { IsIndexOf (without (R.cells records.old) cell) self.old.cells }
         requires chained { IsChained (without (R.cells records.old) cell) }
 
@@ -122,7 +122,7 @@ impl KeyIndex {
         ensures free { R.free records.new ≡ R.free records.old }
         ensures rest { R.same_rest records.old records.new }
     {
-        match search(&self.heads, records, key) {
+        match search(&self.heads, records, &Sought::KeyOf(cell)) {
             Ok(place) => {
                 records.set_older(cell, Some(self.heads[place]));
                 self.heads[place] = cell;

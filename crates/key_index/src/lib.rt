@@ -12,3 +12,4 @@ mod tests;
 pub use compaction::kept_as_defined;
 pub use index::KeyIndex;
 pub use records::{Records, RecordsMut};
+pub use search::last_up_to;

@@ -32,6 +32,13 @@ impl Records for RecordList {
         }
     }
 
+    fn keys_cmp(&self, cell: CellNo, other: CellNo) -> Ordering {
+        match self.items.get(other.number() as usize) {
+            Some(Some(record)) => self.key_cmp(cell, record.key.as_slice()),
+            _ => unreachable!(),
+        }
+    }
+
     fn revision(&self, cell: CellNo) -> u64 {
         match self.items.get(cell.number() as usize) {
             Some(Some(record)) => record.revision,

@@ -18,6 +18,12 @@ pub trait Records {
         requires { IsSome (cells self.now cell) }
         ensures { IfSome (cells self.now cell) (λ e. result ≡ cmp_of_keys e.change.key key.now) };
 
+    /// How the record's key stands to that of another record, in byte order.
+    fn keys_cmp(&self, cell: CellNo, other: CellNo) -> Ordering
+        requires cell { IsSome (cells self.now cell) }
+        requires other { IsSome (cells self.now other) }
+        ensures { IfSome (cells self.now cell) (λ e. IfSome (cells self.now other) (λ f. result ≡ cmp_of_keys e.change.key f.change.key)) };
+
     /// The revision of the change.
     fn revision(&self, cell: CellNo) -> u64
         requires { IsSome (cells self.now cell) }

@@ -1,22 +1,48 @@
 //! Looking up a key among the newest records, and a revision in the chain of a key.
-ghost use Rattle.std.specs.Prelude.{◌≡◌, ℕ, ◌+◌, ◌-◌, ◌*◌, ◌<◌, ◌≤◌, List, length, slice_index, Option, Some, None, MatchResult, MatchOption};
+ghost use Rattle.std.specs.Prelude.{◌≡◌, ℕ, ◌+◌, ◌-◌, ◌*◌, ◌<◌, ◌≤◌, List, length, slice_index, Option, Some, None, IsSome, IfSome, MatchResult, MatchOption};
+ghost use Rattle.etcd_model.specs.Order.{key_cmp as cmp_of_keys};
 ghost use Rattle.key_index.specs.Entries.{Entry, IsChained, IsLast, IsNewest, IsOf, NoneUpTo};
 ghost use Rattle.key_index.specs.Index.{IsAt, IsGapFor, IsSpread};
+ghost use Rattle.key_index.specs.Sought.{IsThere, sought_key};
 
 use crate::records::Records;
 use etcd_types::CellNo;
 use std::cmp::Ordering;
 
+/// The key that is looked up: these bytes, or the key of a record where it stands.
+#[derive(Clone, Copy)]
+pub(crate) enum Sought<'a> {
+    Key(&'a [u8]),
+    KeyOf(CellNo),
+}
+
+/// How the key of a record stands to the one that is looked up.
+fn stands<R: Records>(head: CellNo, records: &R, sought: &Sought<'_>) -> Ordering
+    requires head { IsSome (R.cells records.now head) }
+    requires sought { IsThere (R.cells records.now) sought.now }
+    ensures { IfSome (R.cells records.now head) (λ e. result ≡ cmp_of_keys e.change.key (sought_key (R.cells records.now) sought.now)) }
+{
+    match *sought {
+        Sought::Key(key) => records.key_cmp(head, key),
+        Sought::KeyOf(cell) => records.keys_cmp(head, cell),
+    }
+}
+
 /// The place of the key among the newest records, or the place where it would go.
-pub(crate) fn search<R: Records>(heads: &[CellNo], records: &R, key: &[u8]) -> Result<usize, usize>
-    requires { IsSpread (R.cells records.now) heads.now }
-    ensures { MatchResult result (IsAt (R.cells records.now) heads.now key.now) (IsGapFor (R.cells records.now) heads.now key.now) }
+pub(crate) fn search<R: Records>(
+    heads: &[CellNo],
+    records: &R,
+    sought: &Sought<'_>,
+) -> Result<usize, usize>
+    requires spread { IsSpread (R.cells records.now) heads.now }
+    requires sought { IsThere (R.cells records.now) sought.now }
+    ensures { MatchResult result (IsAt (R.cells records.now) heads.now (sought_key (R.cells records.now) sought.now)) (IsGapFor (R.cells records.now) heads.now (sought_key (R.cells records.now) sought.now)) }
 {
     let mut low = 0;
     let mut high = heads.len();
     while low < high {
         let middle = low + (high - low) / 2;
-        match records.key_cmp(heads[middle], key) {
+        match stands(heads[middle], records, sought) {
             Ordering::Less => low = middle + 1,
             Ordering::Equal => return Ok(middle),
             Ordering::Greater => high = middle,
@@ -25,8 +51,8 @@ pub(crate) fn search<R: Records>(heads: &[CellNo], records: &R, key: &[u8]) -> R
     Err(low)
 }
 
-/// The last change of a chain at a revision at most this one.
-pub(crate) fn walk<R: Records>(head: CellNo, records: &R, revision: u64) -> Option<CellNo>
+/// The last change at a revision at most this one, of the key whose newest record is under a cell.
+pub fn last_up_to<R: Records>(head: CellNo, records: &R, revision: u64) -> Option<CellNo>
     requires chained { IsChained (R.cells records.now) }
     requires newest { IsNewest (R.cells records.now) head }
     ensures { (key : List ℕ) → IsOf (R.cells records.now) key head → MatchOption result (NoneUpTo (R.cells records.now) key revision) (IsLast (R.cells records.now) key revision) }

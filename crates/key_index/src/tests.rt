@@ -1,8 +1,11 @@
-ghost use Rattle.std.specs.Prelude.{◌≡◌, IsSome};
+ghost use Rattle.std.specs.Prelude.{◌≡◌, ◌+◌, ◌<◌, ◌≤◌, length, [], IfOk, IsSome};
 
-use crate::Records;
 use crate::record_list::{Record, RecordList};
-use etcd_types::CellNo;
+use crate::{KeyIndex, Records};
+use etcd_types::{CellNo, KeyValue, List, Mem};
+use std::alloc::Global;
+use std::marker::Model;
+use std::process::Abort;
 use std::test::Fail;
 
 fn is_older<R: Records>(records: &R, cell: CellNo, revision: u64) -> bool
@@ -23,5 +26,112 @@ fn reads_a_record(rt: HostRuntime) -> Result<(), Fail> {
     }))?;
     let records = RecordList { items };
     assert!(rt; is_older(&records, CellNo::at(0, 0), 3));
+    Ok(())
+}
+
+/// Records in a list with their index. Each change has the next revision, from 2 on.
+#[derive(Drop)]
+struct Changes {
+    records: RecordList,
+    index: KeyIndex,
+}
+
+impl Model for Changes {
+    ghost use Rattle.key_index.specs.Index.{Heads};
+    ghost use Rattle.key_index.specs.Listed.{IsListed};
+
+    ghost Value = { Heads };
+
+    ghost view = { λ s. s.index };
+
+    ghost invariant = { λ s. IsListed s.records.items.items s.index.cells };
+}
+
+impl Changes {
+    fn new(alloc: Global, keys: usize) -> Mem<Changes>
+        ensures { IfOk result (λ s. s ≡ record { cells = []; room = keys }) }
+    {
+        Ok(Changes {
+            records: RecordList {
+                items: Vec::new(alloc),
+            },
+            index: KeyIndex::new(alloc, keys)?,
+        })
+    }
+
+    fn append(
+        &mut self,
+        rt: &impl Abort,
+        alloc: Global,
+        key: &[u8],
+        row: Option<KeyValue>,
+    ) -> Mem<()>
+        requires room { length self.old.cells < self.old.room }
+        ensures room { self.new.room ≡ self.old.room }
+        ensures length { length self.new.cells ≤ length self.old.cells + 1 }
+    {
+        let place = self.records.items.len();
+        assert!(rt; place < 64);
+        self.records.items.push(Some(Record {
+            key: key.to_vec(alloc)?,
+            revision: place as u64 + 2,
+            row,
+            older: None,
+        }))?;
+        self.index
+            .add(&mut self.records, CellNo::at(0, place as u32));
+        Ok(())
+    }
+
+    fn last(&self, key: &[u8], revision: u64) -> Option<CellNo> {
+        self.index.at(&self.records, key, revision)
+    }
+
+    fn cut(&mut self, revision: u64) {
+        self.index.cut(&mut self.records, revision);
+    }
+
+    fn has(&self, place: usize) -> bool {
+        matches!(self.records.items.get(place), Some(Some(_)))
+    }
+
+    fn heads(&self) -> &[CellNo] {
+        self.index.heads()
+    }
+}
+
+fn row(alloc: Global) -> Option<KeyValue> {
+    Some(KeyValue {
+        key: List::new(alloc),
+        create_revision: 2,
+        mod_revision: 2,
+        version: 1,
+        value: List::new(alloc),
+        lease: 0,
+    })
+}
+
+/// Two puts and the delete of the first: what is last of each key, and what two compactions leave.
+#[test]
+fn takes_up_and_cuts(rt: HostRuntime) -> Result<(), Fail> {
+    let mut changes = Changes::new(rt.alloc(), 3)?;
+    changes.append(&rt, rt.alloc(), b"a", row(rt.alloc()))?;
+    changes.append(&rt, rt.alloc(), b"b", row(rt.alloc()))?;
+    changes.append(&rt, rt.alloc(), b"a", None)?;
+    let (put, other, delete) = (CellNo::at(0, 0), CellNo::at(0, 1), CellNo::at(0, 2));
+    assert_eq!(rt; changes.heads(), [delete, other].as_slice());
+    assert_eq!(rt; changes.last(b"a", 3), Some(put));
+    assert_eq!(rt; changes.last(b"a", 4), Some(delete));
+    assert_eq!(rt; changes.last(b"b", 2), None);
+
+    changes.cut(4);
+    assert!(rt; !changes.has(0) && changes.has(1) && changes.has(2));
+    assert_eq!(rt; changes.heads(), [delete, other].as_slice());
+    assert_eq!(rt; changes.last(b"a", 3), None);
+
+    changes.cut(5);
+    assert!(rt; changes.has(1) && !changes.has(2));
+    assert_eq!(rt; changes.heads(), [other].as_slice());
+    assert_eq!(rt; changes.last(b"b", 5), Some(other));
     Ok(())
 }

@@ -7,7 +7,7 @@ use Rattle.model_laws.specs.Recording.{IsIn, LastIs, LastOfNone}
 use Rattle.model_laws.proofs.LastLaws.{or_some, or_none, some_or_none, last_passes, cond_none}
 use Rattle.model_laws.proofs.KeptLaws.{same_key, up_to_key}
 
-all_in : {X : Type 0} (P : X → Type 0) (xs : List X) (q : X) → AllByRecursion P xs → IsIn q xs → P q
+pub all_in : {X : Type 0} (P : X → Type 0) (xs : List X) (q : X) → AllByRecursion P xs → IsIn q xs → P q
 all_in P [] q all h = absurd h
 all_in P (x ∷ xs) q all h = elim h [ inl e ↦ subst P (sym e) all.0 | inr t ↦ all_in P xs q all.1 t ]
 

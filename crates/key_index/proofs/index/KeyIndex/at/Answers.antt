@@ -6,8 +6,8 @@ use Rattle.key_index.proofs.index.KeyIndex.at.Goals as goal
 pub find-requires : goal.find-requires
 find-requires g c = spread_from_index _ _ c.requires.index
 
-pub walk-requires-clause-newest : goal.walk-requires-clause-newest
-walk-requires-clause-newest g c =
+pub last_up_to-requires-clause-newest : goal.last_up_to-requires-clause-newest
+last_up_to-requires-clause-newest g c =
     let items = ap (λ (h : Heads). h.cells) c.self.view_is in
     let is = subst (λ (xs : List ℕ). c.index.result.now ≡ get_or xs c.in-Ok.place c.index.result.now) items c.index.ensures in
     (newest_at _ _ _ _ _ c.requires.index c.in-Ok.ensures is).0

@@ -1,5 +1,5 @@
 use Rattle.key_index.proofs.Links.{falls_along, goes_on}
-use Rattle.key_index.proofs.search.walk.Goals as goal
+use Rattle.key_index.proofs.search.last_up_to.Goals as goal
 
 pub loop-cell-smaller : goal.loop-cell-smaller
 loop-cell-smaller g c =

@@ -1,7 +1,7 @@
 use Rattle.std.proofs.Common.{◌≡◌, ℕ, ◌≤◌, Some}
 use Rattle.key_index.specs.Entries.{Entry, IsOf}
 use Rattle.key_index.proofs.Links.{revision_at}
-use Rattle.key_index.proofs.search.walk.Given as goal
+use Rattle.key_index.proofs.search.last_up_to.Given as goal
 
 abbrev pub invariant-loop-cell : goal.invariant-loop-cell
 invariant-loop-cell g l =

@@ -1,0 +1,27 @@
+-- The cells of all records, in the order of their changes.
+use Rattle.std.specs.Prelude.{ℕ, List, filter, filter_map, Some, IsSome, is_some, if◌then◌else◌, ◌==◌}
+use Rattle.std.specs.List.{All}
+use Rattle.etcd_model.specs.Changes.{Recorded, Rises}
+use Rattle.key_index.specs.Entries.{Cells, Entry, change_at}
+use Rattle.key_index.specs.Compaction.{EachOnce}
+
+-- each cell that has a record stands once in the order, and each cell of the order has one
+pub record AreAll (cells : Cells) (order : List ℕ) : Type 0 where
+  pub once : EachOnce cells order
+  pub some : All (λ c. IsSome (cells c)) order
+
+-- the changes under some cells, one after another
+abbrev pub changes_in : Cells → List ℕ → List Recorded
+changes_in cells order = filter_map (change_at cells) order
+
+-- their revisions don't fall
+abbrev pub IsInOrder : Cells → List ℕ → Type 0
+IsInOrder cells order = Rises (changes_in cells order)
+
+-- those of some cells that have a record
+abbrev pub with_records : Cells → List ℕ → List ℕ
+with_records cells order = filter (λ c. is_some (cells c)) order
+
+-- what is there with one more record
+abbrev pub with_record : Cells → ℕ → Entry → Cells
+with_record cells c e b = if b == c then Some e else cells b
