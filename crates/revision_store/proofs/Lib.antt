@@ -1,0 +1,22 @@
+mod Writing
+mod Left
+mod Committed
+pub mod Recorded
+pub mod Placed
+pub mod Counted
+pub mod Logged
+pub mod ReadingCells
+pub mod ReadingRows
+pub mod Costs
+pub mod Walked
+pub mod SortingLaws
+pub mod SortingRows
+pub mod AnsweringLaws
+pub mod RangingCells
+pub mod RangingAnswers
+pub mod RangingReads
+pub mod PendingStores
+pub mod PendingReads
+pub mod PendingPuts
+pub mod PendingDeletes
+pub mod PendingRows

@@ -1,0 +1,203 @@
+-- A log with nothing, with one change more, and with one lease more or fewer.
+use Rattle.std.proofs.Common.{◌≡◌, ℕ, ◌+◌, ◌/◌, ◌%◌, ◌^◌, ◌<◌, ◌≤◌, List, [], ◌∷◌, ◌++◌, length, Option, Some, None, IsSome, sym, ap, ◌∙◌, refl, subst, arith, inl, inr}
+use Rattle.std.specs.Prelude.{option_and_then, option_map}
+use Rattle.std.specs.Ordering.{nat_cmp}
+use Rattle.std.specs.FinMap.{get, get-empty}
+use Rattle.std.specs.FinMap as map
+use Rattle.std.specs.List.{All, AllByRecursion}
+use Rattle.std.proofs.lemmas.Bool.{cases_eq}
+use Rattle.std.proofs.lemmas.List.Elements.{All-head, All-tail}
+use Rattle.std.proofs.lemmas.List.Sums.{sum_by-cons, sum_by_push}
+use Rattle.cell_arena.specs.Chain.{Record}
+use Rattle.cell_arena.specs.Held.{Held}
+use Rattle.etcd_types.specs.declared.key_value.KeyValue.{KeyValue}
+use Rattle.etcd_model.specs.Changes.{Recorded, Rises, change_by, change_of}
+use Rattle.etcd_model.specs.Kept.{cost}
+use Rattle.etcd_model.specs.Store.{record_cells}
+use Rattle.key_index.specs.Entries.{Cells, Entry, IsChained, IsPlaced, SameChanges, change_at, without}
+use Rattle.key_index.specs.Index.{Heads, IsIndexOf}
+use Rattle.key_index.specs.Order.{AreAll, changes_in, with_record}
+use Rattle.key_index.proofs.Links.{if_other}
+use Rattle.key_index.proofs.Order.{changes_some, heads_few, which}
+use Rattle.key_index.proofs.OrderAdded.{changes_added, all_added, in_order_added, each_record, without_record, placed_record}
+use Rattle.revision_store.specs.Recorded.{LeaseRecord, cells_of, entry_of, lease_by, leases_of, with_lease, without_lease, AreCounted, ArePlain}
+use Rattle.revision_store.specs.Logged.{IsLog, AllStay}
+use Rattle.revision_store.specs.Plans.{change_in, cost_in, recorded_in}
+use Rattle.revision_store.specs.declared.plan.Write.{Write}
+use Rattle.revision_store.specs.declared.plan.Write.TheVariants.{Put, Delete}
+use Rattle.revision_store.proofs.Counted.{counted_more, counted_fewer}
+
+-- ---- nothing
+
+none_there : (c : ℕ) (r : Record) → get {R = nat_cmp} map.empty c ≡ Some r → ⊥
+none_there c r at = let none : get {X = Record} {R = nat_cmp} map.empty c ≡ None = get-empty nat_cmp c in cc
+
+no_change : (c : ℕ) → cells_of map.empty c ≡ None
+no_change c = ap (option_and_then entry_of) (get-empty nat_cmp c)
+
+no_entry : (c : ℕ) (e : Entry) → cells_of map.empty c ≡ Some e → ⊥
+no_entry c e at = let none = no_change c in cc
+
+no_lease : (c : ℕ) → leases_of map.empty c ≡ None
+no_lease c = ap (option_and_then (λ (r : Record). lease_by r.kind r)) (get-empty nat_cmp c)
+
+pub empty_log : (cells room places : ℕ) → cells % 64 ≡ 0 → cells ≤ 2 ^ 20 → cells ≤ room → cells ≤ places
+    → IsLog (record { records = map.empty; free = cells; reserved = cells / 64; drawn = 0 }) (record { cells = []; room = room }) [] places 0
+empty_log cells room places whole few has_room has_places = record {
+  index = record {
+    newest = λ i lt. absurd (omega (arith, lt));
+    sorted = λ i j e f below lt. absurd (omega (arith, lt));
+    whole = λ c e at. absurd (no_entry c e at);
+  };
+  chained = record {
+    linked = λ c d e at. absurd (no_entry c e at);
+    oldest = λ c e at. absurd (no_entry c e at);
+    unique = λ b c g e at. absurd (no_entry b g at);
+  };
+  all = record {
+    once = λ c e at. absurd (no_entry c e at);
+    some = λ k d lt. absurd (omega (arith, lt));
+  };
+  rises = tt;
+  plain = λ c r at. absurd (none_there c r at);
+  leases = record {
+    list = [];
+    long = refl;
+    once = λ c some. (let none = no_lease c in absurd (cc));
+    only = λ c none. refl;
+  };
+  space = omega (arith, whole);
+  most = omega (arith, few);
+  index_room = omega (arith, has_room);
+  order_room = omega (arith, has_places);
+}
+
+-- ---- one change more
+
+pub recorded_revision : (cells : Cells) (revision : ℕ) (write : Write) → (recorded_in cells revision write).revision ≡ revision
+recorded_revision cells revision (Put row) = refl
+recorded_revision cells revision (Delete cell) = refl
+
+pub recorded_change : (cells : Cells) (revision : ℕ) (write : Write) → change_of (recorded_in cells revision write) ≡ change_in cells write
+recorded_change cells revision (Put row) = refl
+recorded_change cells revision (Delete cell) = refl
+
+-- a change takes a cell at least
+pub some_cells : (x : Recorded) → 1 ≤ cost (change_of x)
+some_cells x = by_row x.key x.row
+  where
+    by_row : (key : List ℕ) (row : Option KeyValue) → 1 ≤ cost (change_by key row)
+    by_row key None = omega arith
+    by_row key (Some row) = omega arith
+
+pub order_few : (cells : Cells) (order : List ℕ) → All (λ c. IsSome (cells c)) order → length order ≤ record_cells (changes_in cells order)
+order_few cells [] some = omega arith
+order_few cells (c ∷ cs) some =
+    let at = which (cells c) (All-head (λ c. IsSome (cells c)) c cs some) in
+    let rest = order_few cells cs (All-tail (λ c. IsSome (cells c)) c cs some) in
+    let all : record_cells (changes_in cells (c ∷ cs)) ≡ record_cells (at.0.change ∷ changes_in cells cs) = ap record_cells (changes_some cells c at.0 cs at.1) in
+    let split = sum_by-cons (λ (x : Recorded). cost (change_of x)) at.0.change (changes_in cells cs) in
+    omega (arith, all, split, some_cells at.0.change, rest)
+
+module _ {r0 : Held} (r1 : Held) {heads0 : Heads} {order : List ℕ} {places leases : ℕ} (c revision : ℕ) (write : Write) (log : IsLog r0 heads0 order places leases) (fresh : get r0.records c ≡ None) (placed : cells_of r1.records ≡ with_record (cells_of r0.records) c (record { change = recorded_in (cells_of r0.records) revision write; older = None })) (free : r1.free + cost_in (cells_of r0.records) write ≡ r0.free) where
+  abbrev new_change : Recorded
+  new_change = recorded_in (cells_of r0.records) revision write
+
+  abbrev new_entry : Entry
+  new_entry = record { change = new_change; older = None }
+
+  free1 : r1.free + cost (change_of new_change) ≡ r0.free
+  free1 = ap (λ x. r1.free + cost x) (recorded_change (cells_of r0.records) revision write) ∙ free
+
+  fresh_cell : cells_of r0.records c ≡ None
+  fresh_cell = ap (option_and_then entry_of) fresh
+
+  -- each of the places is of a cell in use
+  pub order_fits : length order < places
+  order_fits = omega (arith, order_few (cells_of r0.records) order log.all.some, some_cells new_change, free1, log.space, log.order_room)
+
+  pub heads_fit : length heads0.cells < heads0.room
+  heads_fit = omega (arith, heads_few (cells_of r0.records) heads0.cells order log.index log.all, order_few (cells_of r0.records) order log.all.some, some_cells new_change, free1, log.space, log.index_room)
+
+  was_there : without (cells_of r1.records) c ≡ cells_of r0.records
+  was_there = ap (λ (m : Cells). without m c) placed ∙ without_record (cells_of r0.records) c new_entry fresh_cell
+
+  pub index_before : IsIndexOf (without (cells_of r1.records) c) heads0.cells
+  index_before = subst (λ (m : Cells). IsIndexOf m heads0.cells) (sym was_there) log.index
+
+  pub chained_before : IsChained (without (cells_of r1.records) c)
+  chained_before = subst IsChained (sym was_there) log.chained
+
+  pub placed_newest : AllByRecursion (λ x. x.key ≡ new_change.key → x.revision < revision) (changes_in (cells_of r0.records) order) → IsPlaced (cells_of r1.records) c
+  placed_newest once =
+      let later : AllByRecursion (λ x. x.key ≡ new_change.key → x.revision < new_change.revision) (changes_in (cells_of r0.records) order) =
+      subst (λ (n : ℕ). AllByRecursion (λ x. x.key ≡ new_change.key → x.revision < n) (changes_in (cells_of r0.records) order)) (sym (recorded_revision (cells_of r0.records) revision write)) once in
+      subst (λ (m : Cells). IsPlaced m c) (sym placed) (placed_record (cells_of r0.records) c new_entry fresh_cell
+      (each_record (λ x. x.key ≡ new_change.key → x.revision < new_change.revision) (cells_of r0.records) order log.all later))
+
+  module _ (r2 : Held) (same : SameChanges (cells_of r1.records) (cells_of r2.records)) where
+    same_changes : SameChanges (with_record (cells_of r0.records) c new_entry) (cells_of r2.records)
+    same_changes = subst (λ (m : Cells). SameChanges m (cells_of r2.records)) placed same
+
+    pub changes_more : changes_in (cells_of r2.records) (order ++ c ∷ []) ≡ changes_in (cells_of r0.records) order ++ new_change ∷ []
+    changes_more = changes_added (cells_of r0.records) (cells_of r2.records) c new_entry fresh_cell same_changes order log.all
+
+    pub changes_stay : AllStay (cells_of r0.records) (cells_of r2.records)
+    changes_stay b x at = elim (cases_eq b c) [
+      | inl eq ↦
+          let none : change_at (cells_of r0.records) b ≡ None = ap (λ (k : ℕ). change_at (cells_of r0.records) k) eq ∙ ap (option_map (λ (g : Entry). g.change)) fresh_cell in
+          absurd (cc)
+      | inr differs ↦ same_changes b ∙ ap (option_map (λ (g : Entry). g.change)) (if_other b c (Some new_entry) (cells_of r0.records b) differs) ∙ at
+    ]
+
+    pub log_more : (heads2 : Heads) → AllByRecursion (λ x. x.revision ≤ revision) (changes_in (cells_of r0.records) order)
+        → IsIndexOf (cells_of r2.records) heads2.cells → IsChained (cells_of r2.records) → heads2.room ≡ heads0.room
+        → leases_of r2.records ≡ leases_of r0.records → ArePlain r2.records → r2.free ≡ r1.free → r2.reserved ≡ r0.reserved
+        → IsLog r2 heads2 (order ++ c ∷ []) places leases
+    log_more heads2 up index chained room same_leases plain same_free reserved =
+        let cells : record_cells (changes_in (cells_of r2.records) (order ++ c ∷ [])) ≡ record_cells (changes_in (cells_of r0.records) order ++ new_change ∷ []) = ap record_cells changes_more in
+        let split = sum_by_push (λ (x : Recorded). cost (change_of x)) (changes_in (cells_of r0.records) order) new_change in
+        let later : AllByRecursion (λ x. x.revision ≤ new_change.revision) (changes_in (cells_of r0.records) order) =
+        subst (λ (n : ℕ). AllByRecursion (λ x. x.revision ≤ n) (changes_in (cells_of r0.records) order)) (sym (recorded_revision (cells_of r0.records) revision write)) up in
+        record {
+          index = index;
+          chained = chained;
+          all = all_added (cells_of r0.records) (cells_of r2.records) c new_entry fresh_cell same_changes order log.all;
+          rises = in_order_added (cells_of r0.records) (cells_of r2.records) c new_entry fresh_cell same_changes order log.all log.rises later;
+          plain = plain;
+          leases = subst (λ l. AreCounted l leases) (sym same_leases) log.leases;
+          space = omega (arith, cells, split, free1, same_free, reserved, log.space);
+          most = omega (arith, reserved, log.most);
+          index_room = omega (arith, reserved, room, log.index_room);
+          order_room = omega (arith, reserved, log.order_room);
+        }
+
+-- ---- one lease more or fewer
+
+module _ {r0 : Held} (r1 : Held) {heads : Heads} {order : List ℕ} {places leases : ℕ} (c : ℕ) (log : IsLog r0 heads order places leases) (cells : cells_of r1.records ≡ cells_of r0.records) (plain : ArePlain r1.records) (reserved : r1.reserved ≡ r0.reserved) where
+  with_counted : (now : ℕ) → AreCounted (leases_of r1.records) now → r1.free + now ≡ r0.free + leases → IsLog r1 heads order places now
+  with_counted now counted space =
+      let same : record_cells (changes_in (cells_of r1.records) order) ≡ record_cells (changes_in (cells_of r0.records) order) = ap (λ (m : Cells). record_cells (changes_in m order)) cells in
+      record {
+        index = subst (λ (m : Cells). IsIndexOf m heads.cells) (sym cells) log.index;
+        chained = subst IsChained (sym cells) log.chained;
+        all = subst (λ (m : Cells). AreAll m order) (sym cells) log.all;
+        rises = subst (λ (m : Cells). Rises (changes_in m order)) (sym cells) log.rises;
+        plain = plain;
+        leases = counted;
+        space = omega (arith, same, space, reserved, log.space);
+        most = omega (arith, reserved, log.most);
+        index_room = omega (arith, reserved, log.index_room);
+        order_room = omega (arith, reserved, log.order_room);
+      }
+
+  pub lease_more : (l : LeaseRecord) (now : ℕ) → get r0.records c ≡ None → leases_of r1.records ≡ with_lease (leases_of r0.records) c l → r1.free + 1 ≡ r0.free → now ≡ leases + 1 → IsLog r1 heads order places now
+  lease_more l now fresh is free one =
+      let none : leases_of r0.records c ≡ None = ap (option_and_then (λ (r : Record). lease_by r.kind r)) fresh in
+      let counted = counted_more (leases_of r0.records) c l leases none log.leases in
+      with_counted now (subst (λ (n : ℕ). AreCounted (leases_of r1.records) n) (sym one) (subst (λ m. AreCounted m (leases + 1)) (sym is) counted)) (omega (arith, free, one))
+
+  pub lease_fewer : (now : ℕ) → IsSome (leases_of r0.records c) → leases_of r1.records ≡ without_lease (leases_of r0.records) c → r1.free ≡ r0.free + 1 → now + 1 ≡ leases → IsLog r1 heads order places now
+  lease_fewer now some is free one =
+      let counted = counted_fewer (leases_of r0.records) c leases now some one log.leases in
+      with_counted now (subst (λ m. AreCounted m now) (sym is) counted) (omega (arith, free, one))

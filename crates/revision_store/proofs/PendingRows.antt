@@ -1,0 +1,171 @@
+-- The rows of an interval with changes pending: what the deletes leave of the store's, with the puts' in their places.
+use Rattle.std.proofs.Common.{◌≡◌, ℕ, ◌+◌, ◌<◌, List, [], ◌∷◌, ◌++◌, length, get_or, set, take, drop, drop-cons, add-one, suc, refl, ap, ◌∙◌, sym, map}
+use Rattle.std.proofs.lemmas.List.{drop-set, take-append-drop, take-set}
+use Rattle.std.specs.Prelude.{Bool, true, false, cond, not, fold, filter, find, Option, Some, None, if◌then◌else◌}
+use Rattle.std.specs.List.Sorted.{IsStrictlySortedBy}
+use Rattle.std.specs.Option.{option_or}
+use Rattle.std.specs.Ordering.{is_eq, ordering_reverse}
+use Rattle.std.specs.Cmp.{IsTotalOrder}
+use Rattle.std.specs.Cmp.Lexicographic.{nat_list_cmp_total, bytes_decides}
+use Rattle.std.specs.Str.{bytes_eq}
+use Rattle.std.specs.declared.cmp.Ordering.TheVariants.{Less, Equal, Greater}
+use Rattle.std.proofs.lemmas.Bool.{true≢false}
+use Rattle.std.proofs.lemmas.List.Kept.{IsStrictlySortedBy-filter}
+use Rattle.etcd_types.specs.declared.key_value.KeyValue.{KeyValue}
+use Rattle.etcd_types.specs.declared.kv.DeleteReq.{DeleteReq}
+use Rattle.etcd_model.specs.Order.{beside, key_cmp, put_in}
+use Rattle.etcd_model.specs.Interval.{is_in}
+use Rattle.etcd_model.specs.Changes.{live, or_before, rows}
+use Rattle.etcd_model.specs.Store.{after}
+use Rattle.etcd_model.proofs.OrderLaws.{sorted-put_in, tied_keys, bytes_eq-key_cmp}
+use Rattle.model_laws.specs.Recording.{by_key}
+use Rattle.model_laws.proofs.RowLaws.{has_key, rows_by_their_keys, rows_rise}
+use Rattle.model_laws.proofs.SpaceLaws.{after_is_store}
+use Rattle.revision_store.specs.Stored.{StoreState, cells, changes_of, look, row_at}
+use Rattle.revision_store.specs.Pending.{IsPending, is_erased, left_cells, row_put_to, rows_at}
+use Rattle.revision_store.specs.declared.plan.Write.{Write}
+use Rattle.revision_store.proofs.PendingReads.{find_filtered, found_inside}
+use Rattle.revision_store.proofs.PendingDeletes.{Under, same_somes, under_left}
+
+by_key_total : IsTotalOrder by_key
+by_key_total = record {
+  antisymm = λ a b. nat_list_cmp_total.antisymm a.key b.key;
+  trans = λ a b c. nat_list_cmp_total.trans a.key b.key c.key;
+  congr = λ a b c. nat_list_cmp_total.congr a.key b.key c.key;
+}
+
+-- ---- a row in its place
+
+same_branch : (b : Bool) (x : KeyValue) (o p : Option KeyValue) → (b ≡ false → o ≡ p) → cond b (Some x) o ≡ (if b then Some x else p)
+same_branch true x o p h = refl
+same_branch false x o p h = h refl
+
+passed : (b c : Bool) (x y : KeyValue) (o : Option KeyValue) → (b ≡ true → c ≡ false) → cond c (Some y) (if b then Some x else o) ≡ (if b then Some x else cond c (Some y) o)
+passed true true x y o h = absurd (true≢false (h refl))
+passed true false x y o h = refl
+passed false c x y o h = refl
+
+pub find_put_in : (key : List ℕ) (x : KeyValue) (ys : List KeyValue) → find (has_key key) (put_in by_key ys x) ≡ (if bytes_eq x.key key then Some x else find (has_key key) ys)
+find_put_in key x [] = refl
+find_put_in key x (y ∷ ys) =
+    elim (key_cmp x.key y.key) as (λ o. key_cmp x.key y.key ≡ o → find (has_key key) (beside o x y ys (put_in by_key ys x)) ≡ (if bytes_eq x.key key then Some x else cond (bytes_eq y.key key) (Some y) (find (has_key key) ys))) [
+      | Less ↦ λ e. refl
+      | Equal ↦ λ e. same_branch (bytes_eq x.key key) x (find (has_key key) ys) (cond (bytes_eq y.key key) (Some y) (find (has_key key) ys)) (λ h.
+          ap (λ b. cond b (Some y) (find (has_key key) ys)) (sym (ap (λ k. bytes_eq k key) (sym (tied_keys x.key y.key e)) ∙ h)))
+      | Greater ↦ λ e.
+          ap (cond (bytes_eq y.key key) (Some y)) (find_put_in key x ys)
+          ∙ passed (bytes_eq x.key key) (bytes_eq y.key key) x y (find (has_key key) ys) (λ t. apart e t)
+    ] refl
+  where
+    apart : key_cmp x.key y.key ≡ Greater → bytes_eq x.key key ≡ true → bytes_eq y.key key ≡ false
+    apart e t =
+        let is : x.key ≡ key = (bytes_decides x.key key).0 t in
+        bytes_eq-key_cmp y.key key ∙ ap is_eq (nat_list_cmp_total.antisymm y.key key ∙ ap (λ k. ordering_reverse (key_cmp k y.key)) (sym is) ∙ ap ordering_reverse e)
+
+put_over : (b : Bool) (x : KeyValue) (o p : Option KeyValue) → option_or o (if b then Some x else p) ≡ option_or (or_before o (if b then Some x else None)) p
+put_over true x (Some y) p = refl
+put_over false x (Some y) p = refl
+put_over true x None p = refl
+put_over false x None p = refl
+
+find_put_all : (key : List ℕ) (xs ys : List KeyValue) → find (has_key key) (fold (put_in by_key) ys xs) ≡ option_or (row_put_to key xs) (find (has_key key) ys)
+find_put_all key [] ys = refl
+find_put_all key (x ∷ xs) ys =
+    find_put_all key xs (put_in by_key ys x)
+    ∙ ap (option_or (row_put_to key xs)) (find_put_in key x ys)
+    ∙ put_over (bytes_eq x.key key) x (row_put_to key xs) (find (has_key key) ys)
+
+-- one more put, of which the last one counts
+pub last_step : (key : List ℕ) (row : KeyValue) (rs : List KeyValue) (found : Option KeyValue) → or_before (row_put_to key (row ∷ rs)) found ≡ or_before (row_put_to key rs) (if bytes_eq row.key key then Some row else found)
+last_step key row rs found = by (row_put_to key rs) (bytes_eq row.key key)
+  where
+    by : (o : Option KeyValue) (b : Bool) → or_before (or_before o (if b then Some row else None)) found ≡ or_before o (if b then Some row else found)
+    by (Some q) true = refl
+    by (Some q) false = refl
+    by None true = refl
+    by None false = refl
+
+sorted_all : (xs ys : List KeyValue) → IsStrictlySortedBy by_key ys → IsStrictlySortedBy by_key (fold (put_in by_key) ys xs)
+sorted_all [] ys h = h
+sorted_all (x ∷ xs) ys h = sorted_all xs (put_in by_key ys x) (sorted-put_in by_key by_key_total x ys h)
+
+alone : (o : Option KeyValue) → or_before o None ≡ o
+alone None = refl
+alone (Some y) = refl
+
+last_filtered : (key : List ℕ) (p : List ℕ → Bool) (xs : List KeyValue) → row_put_to key (filter (λ row. p row.key) xs) ≡ (if p key then row_put_to key xs else None)
+last_filtered key p [] = elim (p key) as (λ b. ◌≡◌ {A = Option KeyValue} None (if b then None else None)) [ true ↦ refl | false ↦ refl ]
+last_filtered key p (x ∷ xs) = by (p x.key) (bytes_eq x.key key) (λ t. ap p ((bytes_decides x.key key).0 t)) refl refl (last_filtered key p xs)
+  where
+    rest : List KeyValue
+    rest = filter (λ row. p row.key) xs
+
+    by : (a b : Bool) → (b ≡ true → p x.key ≡ p key) → p x.key ≡ a → bytes_eq x.key key ≡ b → row_put_to key rest ≡ (if p key then row_put_to key xs else None)
+        → row_put_to key (cond a (x ∷ rest) rest) ≡ (if p key then or_before (row_put_to key xs) (if b then Some x else None) else None)
+    by true true same a b h = ap (λ t. or_before (row_put_to key rest) (if t then Some x else None)) b ∙ ap (λ o. or_before o (Some x)) h ∙ in_both (p key) (sym (sym a ∙ same refl))
+      where
+        in_both : (t : Bool) → t ≡ true → or_before (if t then row_put_to key xs else None) (Some x) ≡ (if t then or_before (row_put_to key xs) (Some x) else None)
+        in_both true e = refl
+        in_both false e = absurd (true≢false (sym e))
+    by true false same a b h = ap (λ t. or_before (row_put_to key rest) (if t then Some x else None)) b ∙ alone (row_put_to key rest) ∙ h ∙ ap (λ o. if p key then o else None) (sym (alone (row_put_to key xs)))
+    by false true same a b h = h ∙ neither (p key) (sym (same refl) ∙ a)
+      where
+        neither : (t : Bool) → t ≡ false → (if t then row_put_to key xs else None) ≡ (if t then or_before (row_put_to key xs) (Some x) else None)
+        neither true e = absurd (true≢false e)
+        neither false e = refl
+    by false false same a b h = h ∙ ap (λ o. if p key then o else None) (sym (alone (row_put_to key xs)))
+
+-- a row whose key has a place takes it
+pub put_equal : (xs : List KeyValue) (x : KeyValue) (i : ℕ) (y : KeyValue) → i < length xs → put_in by_key xs x ≡ take i xs ++ put_in by_key (drop i xs) x → y ≡ get_or xs i y → Equal ≡ key_cmp x.key y.key → put_in by_key xs x ≡ set xs i x
+put_equal xs x i y h inv is e =
+    let rest = drop (i + 1) xs in
+    let dropped : drop i xs ≡ y ∷ rest = drop-cons xs i y h ∙ ap (λ (z : KeyValue). z ∷ drop (suc i) xs) (sym is) ∙ ap (λ n. y ∷ drop n xs) (sym (add-one i)) in
+    inv
+    ∙ ap (λ zs. take i xs ++ put_in by_key zs x) dropped
+    ∙ ap (λ o. take i xs ++ beside o x y rest (put_in by_key rest x)) (sym e)
+    ∙ ap (λ zs. take i xs ++ zs) (sym (drop-set xs i x h))
+    ∙ ap (λ zs. zs ++ drop i (set xs i x)) (sym (take-set xs i x))
+    ∙ take-append-drop i (set xs i x)
+
+-- ---- the rows of an interval
+
+module _ (store : StoreState) (ws : List Write) (places : List ℕ) (deletes : List DeleteReq) (is : IsPending store ws places deletes) (key end : List ℕ) where
+  abbrev inside : List ℕ → Bool
+  inside k = is_in key end k
+
+  abbrev puts : List KeyValue
+  puts = filter (λ row. inside row.key) (rows_at ws places)
+
+  abbrev left : List KeyValue
+  left = filter (λ row. not (is_erased deletes row.key)) (rows inside store.kept.current store.kept.changes)
+
+  shows : (a b : Bool) (o p q : Option KeyValue) → option_or o (if b then None else q) ≡ p → (if a then p else None) ≡ option_or (if a then o else None) (if not b then (if a then q else None) else None)
+  shows true true o p q h = sym h
+  shows true false o p q h = sym h
+  shows false true o p q h = refl
+  shows false false o p q h = refl
+
+  pub rows_are : (look store (changes_of store ws)).rows key end ≡ fold (put_in by_key) left puts
+  rows_are =
+      let old = changes_of store ws in
+      let s = store.kept in
+      let t = after s old in
+      let own = is.sound.kept.own in
+      let after_own = (after_is_store s old is.sound.kept).own in
+      rows_by_their_keys ((look store old).rows key end) (fold (put_in by_key) left puts)
+      (rows_rise t.changes after_own t.current inside)
+      (sorted_all puts left (IsStrictlySortedBy-filter by_key (λ row. not (is_erased deletes row.key)) (rows inside s.current s.changes) (rows_rise s.changes own s.current inside)))
+      (λ k.
+      found_inside k inside t.current t.changes after_own
+      ∙ shows (inside k) (is_erased deletes k) (row_put_to k (rows_at ws places)) ((look store old).row k) (live k s.current s.changes) (is.seen k)
+      ∙ ap (λ o. option_or o (if not (is_erased deletes k) then (if inside k then live k s.current s.changes else None) else None)) (sym (last_filtered k inside (rows_at ws places)))
+      ∙ ap (option_or (row_put_to k puts)) (ap (λ o. if not (is_erased deletes k) then o else None) (sym (found_inside k inside s.current s.changes own)) ∙ sym (find_filtered k (λ j. not (is_erased deletes j)) (rows inside s.current s.changes)))
+      ∙ sym (find_put_all k puts left))
+
+  -- what a read makes of the cells that the store has there
+  pub rows_made : (cs kept : List ℕ) (rs found : List KeyValue) → Under (row_at (cells store)) cs (rows inside store.kept.current store.kept.changes) → kept ≡ left_cells (cells store) deletes cs
+      → map Some rs ≡ map (row_at (cells store)) kept → found ≡ fold (put_in by_key) rs puts → found ≡ (look store (changes_of store ws)).rows key end
+  rows_made cs kept rs found under is_left is_rows made =
+      let at = row_at (cells store) in
+      let same : rs ≡ left = same_somes rs left (is_rows ∙ ap (map at) is_left ∙ under_left store deletes cs (rows inside store.kept.current store.kept.changes) under) in
+      made ∙ ap (λ qs. fold (put_in by_key) qs puts) same ∙ sym rows_are

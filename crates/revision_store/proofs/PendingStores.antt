@@ -1,0 +1,112 @@
+-- What a store is, to changes that are pending.
+use Rattle.std.proofs.Common.{◌≡◌, ℕ, ◌≤◌, List, [], ◌∷◌, length, refl, ap, ◌∙◌, sym, subst, arith, map}
+use Rattle.std.specs.Prelude.{Result, Ok, Err, IfOk, Option, Some, None, IfSome, IsSome, option_map, option_and_then, unwrap_or}
+use Rattle.std.specs.List.{AllByRecursion, cons_option}
+use Rattle.std.specs.FinMap.{FinMap, get}
+use Rattle.std.specs.Ordering.{nat_cmp, is_eq, is_ge, is_le, ordering_reverse}
+use Rattle.std.specs.declared.cmp.Ordering.{Ordering}
+use Rattle.std.specs.declared.cmp.Ordering.TheVariants.{Less, Equal, Greater}
+use Rattle.std.specs.Cmp.Lexicographic.{slice_cmp, nat_list_cmp_total}
+use Rattle.std.specs.Str.{bytes_eq}
+use Rattle.etcd_types.specs.declared.key_value.KeyValue.{KeyValue}
+use Rattle.etcd_types.specs.declared.kv.DeleteReq.{DeleteReq}
+use Rattle.cell_arena.specs.declared.cell.Kind.{Kind}
+use Rattle.cell_arena.specs.declared.cell.Kind.TheVariants.{Put, Delete, Lease}
+use Rattle.cell_arena.specs.Chain.{Record}
+use Rattle.etcd_model.specs.Changes.{Recorded, OwnRow, live, version_of}
+use Rattle.model_laws.specs.Numbers.{HasNumbers}
+use Rattle.model_laws.proofs.NumberLaws.{live_is_within}
+use Rattle.etcd_model.specs.Order.{key_cmp, key_le}
+use Rattle.etcd_model.proofs.OrderLaws.{bytes_eq-key_cmp}
+use Rattle.key_index.specs.Entries.{Cells, Entry, change_at}
+use Rattle.key_index.specs.Order.{changes_in}
+use Rattle.revision_store.specs.Plans.{key_at}
+use Rattle.revision_store.specs.Recorded.{cells_of, entry_by, entry_of}
+use Rattle.revision_store.specs.Stored.{StoreState, cells, row_at}
+use Rattle.revision_store.specs.Pending.{left_cells}
+
+-- a row under a cell is of its change's key
+pub own_change : (records : FinMap nat_cmp Record) (c : ℕ) (x : Recorded) → change_at (cells_of records) c ≡ Some x → OwnRow x
+own_change records c x e = from (get records c) e
+  where
+    by : (kind : Kind) (r : Record) → option_map (λ (e : Entry). e.change) (entry_by kind r) ≡ Some x → OwnRow x
+    by Put r h = let is : record { key = r.key; revision = r.fields.revision; row = Some (record { key = r.key; create_revision = r.fields.create_revision; mod_revision = r.fields.revision; version = r.fields.version; value = r.value; lease = r.fields.lease }) } ≡ x = cc in subst OwnRow is refl
+    by Delete r h = let is : record { key = r.key; revision = r.fields.revision; row = None } ≡ x = cc in subst OwnRow is tt
+    by Lease r h = let bad : ⊥ = cc in absurd bad
+
+    from : (o : Option Record) → option_map (λ (e : Entry). e.change) (option_and_then entry_of o) ≡ Some x → OwnRow x
+    from None h = let bad : ⊥ = cc in absurd bad
+    from (Some r) h = by r.kind r h
+
+pub own_changes : (records : FinMap nat_cmp Record) (order : List ℕ) → AllByRecursion OwnRow (changes_in (cells_of records) order)
+own_changes records [] = tt
+own_changes records (c ∷ cs) = elim (change_at (cells_of records) c) as (λ o. change_at (cells_of records) c ≡ o → AllByRecursion OwnRow (cons_option o (changes_in (cells_of records) cs))) [
+  | None ↦ λ e. own_changes records cs
+  | Some x ↦ λ e. (own_change records c x e, own_changes records cs)
+] refl
+
+pub own_cells : (store : StoreState) (c : ℕ) (row : KeyValue) → row_at (cells store) c ≡ Some row → key_at (cells store) c ≡ row.key
+own_cells store c row e = by (change_at (cells store) c) refl e
+  where
+    by : (o : Option Recorded) → change_at (cells store) c ≡ o → option_and_then (λ (x : Recorded). x.row) o ≡ Some row → unwrap_or (option_map (λ (x : Recorded). x.key) (change_at (cells store) c)) [] ≡ row.key
+    by None at h = let bad : ⊥ = cc in absurd bad
+    by (Some x) at h =
+        ap (λ o. unwrap_or (option_map (λ (x : Recorded). x.key) o) []) at
+        ∙ sym (subst (λ o. IfSome o (λ (w : KeyValue). w.key ≡ x.key)) h (own_change store.records c x at))
+
+-- ---- keys under cells
+
+-- a cell with a row has a record
+pub held : (records : FinMap nat_cmp Record) (c : ℕ) → IsSome (row_at (cells_of records) c) → IsSome (get records c)
+held records c h = by (get records c) h
+  where
+    by : (o : Option Record) → IsSome (option_and_then (λ (x : Recorded). x.row) (option_map (λ (e : Entry). e.change) (option_and_then entry_of o))) → IsSome o
+    by None e = let bad : ⊥ = cc in absurd bad
+    by (Some r) e = refl
+
+-- how its key stands to another one
+pub compared : (records : FinMap nat_cmp Record) (c : ℕ) (key : List ℕ) (o : Ordering) → IsSome (row_at (cells_of records) c) → IfSome (get records c) (λ r. o ≡ slice_cmp nat_cmp r.key key) → o ≡ key_cmp (key_at (cells_of records) c) key
+compared records c key o h e = from (get records c) h e
+  where
+    by : (kind : Kind) (r : Record) → IsSome (option_and_then (λ (x : Recorded). x.row) (option_map (λ (e : Entry). e.change) (entry_by kind r))) → o ≡ slice_cmp nat_cmp r.key key
+        → o ≡ key_cmp (unwrap_or (option_map (λ (x : Recorded). x.key) (option_map (λ (e : Entry). e.change) (entry_by kind r))) []) key
+    by Put r some is = is
+    by Delete r some is = is
+    by Lease r some is = let bad : ⊥ = cc in absurd bad
+
+    from : (p : Option Record) → IsSome (option_and_then (λ (x : Recorded). x.row) (option_map (λ (e : Entry). e.change) (option_and_then entry_of p))) → IfSome p (λ r. o ≡ slice_cmp nat_cmp r.key key)
+        → o ≡ key_cmp (unwrap_or (option_map (λ (x : Recorded). x.key) (option_map (λ (e : Entry). e.change) (option_and_then entry_of p))) []) key
+    from None some is = let bad : ⊥ = cc in absurd bad
+    from (Some r) some is = by r.kind r some is
+
+-- the key is another one, or not below it
+pub same_key : (k key : List ℕ) → is_eq (key_cmp k key) ≡ bytes_eq k key
+same_key k key = sym (bytes_eq-key_cmp k key)
+
+pub from_key : (k key : List ℕ) → is_ge (key_cmp k key) ≡ key_le key k
+from_key k key = turned (key_cmp k key) ∙ ap is_le (sym (nat_list_cmp_total.antisymm key k))
+  where
+    turned : (o : Ordering) → is_ge o ≡ is_le (ordering_reverse o)
+    turned Less = refl
+    turned Equal = refl
+    turned Greater = refl
+
+-- where nothing is deleted all cells are left
+pub none_erased : {X : Type 0} (cells : Cells) (as_delete : X → DeleteReq) (deletes : List X) (cs : List ℕ) → length deletes ≡ 0 → left_cells cells (map as_delete deletes) cs ≡ cs
+none_erased cells as_delete [] cs e = all cs
+  where
+    all : (bs : List ℕ) → left_cells cells [] bs ≡ bs
+    all [] = refl
+    all (b ∷ bs) = ap (λ ds. b ∷ ds) (all bs)
+none_erased cells as_delete (d ∷ ds) cs e = absurd (omega (arith, e))
+
+-- ---- numbers
+
+-- a row that a key shows has no more versions than there are revisions
+pub version_within : (xs : List Recorded) (key : List ℕ) (r : ℕ) (o : Option KeyValue) → AllByRecursion HasNumbers xs → o ≡ live key r xs → version_of o ≤ r
+version_within xs key r None all e = omega arith
+version_within xs key r (Some row) all e = (live_is_within key r xs row all (sym e)).version
+
+pub if_ok : {X E : Type 0} (P Q : X → Type 0) (r : Result X E) → ((x : X) → P x → Q x) → IfOk r P → IfOk r Q
+if_ok P Q (Ok x) f h = f x h
+if_ok P Q (Err e) f h = tt

@@ -1,0 +1,107 @@
+-- The rows under some cells.
+use Rattle.std.proofs.Common.{◌≡◌, ℕ, zero, suc, List, [], ◌∷◌, length, take, map, Option, Some, None, IsSome, Bool, true, false, refl, sym, ap, ◌∙◌, cond, subst, arith}
+use Rattle.std.specs.Prelude.{filter, filter_map, option_map}
+use Rattle.std.specs.List.{AllByRecursion, cons_option}
+use Rattle.etcd_types.specs.declared.key_value.KeyValue.{KeyValue}
+use Rattle.etcd_types.specs.declared.kv.RangeReq.{RangeReq}
+use Rattle.std.specs.List.Sorted.{IsStrictlySortedBy}
+use Rattle.etcd_model.specs.Ranges.{is_wanted}
+use Rattle.model_laws.specs.Recording.{by_key}
+use Rattle.revision_store.specs.Answering.{IsLimit, given, is_by_key}
+use Rattle.revision_store.specs.Ranging.{passes}
+use Rattle.revision_store.proofs.AnsweringLaws.{given_taken, sorted-take}
+
+-- ---- where each has one
+
+module _ {X : Type 0} (look : ℕ → Option X) where
+  abbrev pub AllShow : List ℕ → Type 0
+  AllShow cs = AllByRecursion (λ c. IsSome (look c)) cs
+
+  pub filter_map-is : (cs : List ℕ) (xs : List X) → map Some xs ≡ map look cs → xs ≡ filter_map look cs
+  filter_map-is [] [] h = refl
+  filter_map-is [] (x ∷ xs) h = let bad : ⊥ = cc in absurd bad
+  filter_map-is (c ∷ cs) [] h = let bad : ⊥ = cc in absurd bad
+  filter_map-is (c ∷ cs) (x ∷ xs) h =
+      let first : look c ≡ Some x = cc in
+      let rest : map Some xs ≡ map look cs = cc in
+      ap (λ ys. x ∷ ys) (filter_map-is cs xs rest) ∙ sym (ap (λ o. cons_option o (filter_map look cs)) first)
+
+  pub all_show : (cs : List ℕ) (xs : List X) → map Some xs ≡ map look cs → AllShow cs
+  all_show [] xs h = tt
+  all_show (c ∷ cs) [] h = let bad : ⊥ = cc in absurd bad
+  all_show (c ∷ cs) (x ∷ xs) h =
+      let first : Some x ≡ look c = cc in
+      let rest : map Some xs ≡ map look cs = cc in
+      (rw (← first) refl, all_show cs xs rest)
+
+  pub length-filter_map : (cs : List ℕ) → AllShow cs → length (filter_map look cs) ≡ length cs
+  length-filter_map [] all = refl
+  length-filter_map (c ∷ cs) all = by (look c) all.0 ∙ ap suc (length-filter_map cs all.1)
+    where
+      by : (o : Option X) → IsSome o → length (cons_option o (filter_map look cs)) ≡ suc (length (filter_map look cs))
+      by None h = let bad : ⊥ = cc in absurd bad
+      by (Some x) h = refl
+
+  pub filter_map-take : (n : ℕ) (cs : List ℕ) → AllShow cs → filter_map look (take n cs) ≡ take n (filter_map look cs)
+  filter_map-take zero cs all = refl
+  filter_map-take (suc n) [] all = refl
+  filter_map-take (suc n) (c ∷ cs) all = ap (cons_option (look c)) (filter_map-take n cs all.1) ∙ by (look c) all.0
+    where
+      by : (o : Option X) → IsSome o → cons_option o (take n (filter_map look cs)) ≡ take (suc n) (cons_option o (filter_map look cs))
+      by None h = let bad : ⊥ = cc in absurd bad
+      by (Some x) h = refl
+
+  pub all_show-take : (n : ℕ) (cs : List ℕ) → AllShow cs → AllShow (take n cs)
+  all_show-take zero cs all = tt
+  all_show-take (suc n) [] all = tt
+  all_show-take (suc n) (c ∷ cs) all = (all.0, all_show-take n cs all.1)
+
+  pub all_show-filter : (p : ℕ → Bool) (cs : List ℕ) → AllShow cs → AllShow (filter p cs)
+  all_show-filter p [] all = tt
+  all_show-filter p (c ∷ cs) all = elim (p c) as (λ b. AllShow (cond b (c ∷ filter p cs) (filter p cs))) [
+    | true ↦ (all.0, all_show-filter p cs all.1)
+    | false ↦ all_show-filter p cs all.1
+  ]
+
+  -- what is made of each
+  pub filter_map-option_map : (f : X → X) (cs : List ℕ) → filter_map (λ c. option_map f (look c)) cs ≡ map f (filter_map look cs)
+  filter_map-option_map f [] = refl
+  filter_map-option_map f (c ∷ cs) = ap (cons_option (option_map f (look c))) (filter_map-option_map f cs) ∙ by (look c)
+    where
+      by : (o : Option X) → cons_option (option_map f o) (map f (filter_map look cs)) ≡ map f (cons_option o (filter_map look cs))
+      by None = refl
+      by (Some x) = refl
+
+-- ---- those that pass the filters
+
+pub wanted_rows : (look : ℕ → Option KeyValue) (q : RangeReq) (cs : List ℕ) → filter_map look (filter (λ c. passes q (look c)) cs) ≡ filter (is_wanted q) (filter_map look cs)
+wanted_rows look q [] = refl
+wanted_rows look q (c ∷ cs) =
+    kept (passes q (look c)) ∙ ap (λ rows. cond (passes q (look c)) (cons_option (look c) rows) rows) (wanted_rows look q cs) ∙ by (look c)
+  where
+    kept : (b : Bool) → filter_map look (cond b (c ∷ filter (λ d. passes q (look d)) cs) (filter (λ d. passes q (look d)) cs))
+        ≡ cond b (cons_option (look c) (filter_map look (filter (λ d. passes q (look d)) cs))) (filter_map look (filter (λ d. passes q (look d)) cs))
+    kept true = refl
+    kept false = refl
+
+    by : (o : Option KeyValue) → cond (passes q o) (cons_option o (filter (is_wanted q) (filter_map look cs))) (filter (is_wanted q) (filter_map look cs)) ≡ filter (is_wanted q) (cons_option o (filter_map look cs))
+    by None = refl
+    by (Some row) = refl
+
+-- ---- those that are read
+
+-- of some cells these show all that is given of the rows of all
+pub record IsEnough (look : ℕ → Option KeyValue) (q : RangeReq) (cs read : List ℕ) : Type 0 where
+  pub ascend : IsStrictlySortedBy by_key (filter_map look read)
+  pub given : given q (filter_map look read) ≡ given q (filter_map look cs)
+
+pub all_are_enough : (look : ℕ → Option KeyValue) (q : RangeReq) (cs : List ℕ) → IsStrictlySortedBy by_key (filter_map look cs) → IsEnough look q cs cs
+all_are_enough look q cs up = record { ascend = up; given = refl }
+
+pub first_are_enough : (look : ℕ → Option KeyValue) (q : RangeReq) (cs : List ℕ) (n : ℕ) → AllShow look cs → IsStrictlySortedBy by_key (filter_map look cs) → is_by_key q ≡ true → IsLimit q (length cs) n → IsEnough look q cs (take n cs)
+first_are_enough look q cs n all up by limit = record {
+  ascend = subst (IsStrictlySortedBy by_key) (sym (filter_map-take look n cs all)) (sorted-take by_key n (filter_map look cs) up);
+  given =
+      ap (given q) (filter_map-take look n cs all)
+      ∙ given_taken q (filter_map look cs) (length cs) n by up limit (omega (arith, length-filter_map look cs all));
+}

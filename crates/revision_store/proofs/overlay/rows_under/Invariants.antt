@@ -1,0 +1,12 @@
+use Rattle.std.proofs.Common.{◌≡◌, ◌++◌, drop, map}
+use Rattle.std.specs.Prelude.{Some}
+use Rattle.revision_store.specs.Recorded.{cells_of}
+use Rattle.revision_store.specs.Stored.{row_at}
+use Rattle.revision_store.specs.Pending.{AreRows}
+use Rattle.revision_store.proofs.overlay.rows_under.Given as goal
+
+abbrev pub invariant-loop-cell : goal.invariant-loop-cell
+invariant-loop-cell l = record {
+  found : map Some l.found.items ++ map (row_at (cells_of l.log.records)) (drop l.cell-index l.cells) ≡ map (row_at (cells_of l.log.records)) l.cells;
+  rows : AreRows (cells_of l.log.records) (drop l.cell-index l.cells);
+}

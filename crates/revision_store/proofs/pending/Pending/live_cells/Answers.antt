@@ -1,0 +1,29 @@
+use Rattle.std.proofs.Common.{◌≡◌, ◌∙◌, ap, false, map}
+use Rattle.etcd_model.specs.Interval.{is_in}
+use Rattle.etcd_model.specs.Changes.{rows}
+use Rattle.revision_store.specs.Recorded.{cells_of}
+use Rattle.revision_store.specs.Stored.{StoreState, cells, changes_of, row_at}
+use Rattle.revision_store.specs.Pending.{left_cells, puts_inside}
+use Rattle.revision_store.proofs.PendingStores.{if_ok}
+use Rattle.revision_store.proofs.PendingDeletes.{Under, read_under, under_rows}
+use Rattle.revision_store.proofs.pending.Pending.live_cells.Goals as goal
+
+pub left_cells-requires : goal.left_cells-requires
+left_cells-requires c = under_rows (row_at (cells_of c.store.inside.log.records)) c.in_ok-live.live.items _ c.in_ok-live.ensures
+
+pub returns : goal.returns
+returns c =
+    let store = c.self.inside.store.now in
+    let d = c.args.request.now in
+    let live = c.in_ok-live.live.items in
+    let deletes = map (λ d. d.now) c.self.inside.deletes.items in
+    let records : c.store.inside.log.records ≡ store.records = ap (λ (s : StoreState). s.records) c.store.view_is in
+    let changes : c.store.inside.log.changes ≡ store.kept.changes = ap (λ (s : StoreState). s.kept.changes) c.store.view_is in
+    let under : Under (row_at (cells store)) live (rows (is_in d.key d.range_end) store.kept.current store.kept.changes)
+    = rw (records, changes, c.as_slice.ensures, c.as_slice-2.ensures, c.current.ensures.current) at c.in_ok-live.ensures in
+    let free : puts_inside d (changes_of store c.self.inside.writes.items) ≡ false = rw (← c.self.view_is) at c.requires in
+    rw (← c.self.view_is)
+    (if_ok _ _ c.left_cells.result (λ found e.
+    let is : found.items ≡ left_cells (cells store) deletes live = rw (records, c.deref.ensures.value) at e in
+    ap (map (row_at (cells store))) is ∙ read_under store c.self.inside.writes.items c.self.inside.puts.items deletes c.self.invariant d free live under)
+    c.left_cells.ensures)

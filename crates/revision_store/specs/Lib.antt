@@ -1,0 +1,10 @@
+pub mod Codes
+pub mod Recorded
+pub mod Loans
+pub mod Logged
+pub mod Plans
+pub mod Stored
+pub mod Appending
+pub mod Answering
+pub mod Pending
+pub mod Ranging

@@ -1,0 +1,81 @@
+-- The store of a tenant, and what a plan is to it.
+use Rattle.std.specs.Prelude.{◌≡◌, ℕ, ◌+◌, ◌<◌, ◌≤◌, ◌^◌, List, map, Option, Some, option_and_then, refl}
+use Rattle.std.specs.List.{AllByRecursion}
+use Rattle.std.specs.Ordering.{nat_cmp}
+use Rattle.std.specs.FinMap.{FinMap}
+use Rattle.std.specs.FinMap as map
+use Rattle.std.specs.Coded.{Coded, code_by, coded×, coded_ℕ}
+use Rattle.cell_arena.specs.Chain.{Record}
+use Rattle.cell_arena.specs.Held.{record_code}
+use Rattle.etcd_types.specs.declared.key_value.KeyValue.{KeyValue}
+use Rattle.etcd_model.specs.declared.state.Change.{Change}
+use Rattle.etcd_model.specs.Reads.{Reads}
+use Rattle.etcd_model.specs.Changes.{live, next_row}
+use Rattle.etcd_model.specs.Store.{Store, kept_store, reads_of}
+use Rattle.model_laws.specs.Once.{IsOnce}
+use Rattle.model_laws.specs.Numbers.{HasNumbers}
+use Rattle.key_index.specs.Entries.{Cells, change_at}
+use Rattle.revision_store.specs.Codes.{kept_code}
+use Rattle.revision_store.specs.Recorded.{cells_of}
+use Rattle.revision_store.specs.Logged.{LogState}
+use Rattle.revision_store.specs.Plans.{change_in, costs_in}
+use Rattle.revision_store.specs.declared.plan.Write.{Write}
+use Rattle.revision_store.specs.declared.plan.Write.TheVariants.{Put, Delete}
+
+-- What is kept, the records by their first cells, how many cells the leases take, how many cells are
+-- free, and how many segments are reserved and drawn.
+pub record StoreState : Type 0 where
+  pub kept : Store
+  pub records : FinMap nat_cmp Record
+  pub lease_cells : ℕ
+  pub free : ℕ
+  pub reserved : ℕ
+  pub drawn : ℕ
+
+abbrev pub store_code : Coded StoreState
+store_code =
+    code_by (Store × (FinMap nat_cmp Record × ((ℕ × ℕ) × (ℕ × ℕ)))) (coded× kept_code (coded× (map.code coded_ℕ record_code) (coded× (coded× coded_ℕ coded_ℕ) (coded× coded_ℕ coded_ℕ))))
+    (λ s. (s.kept, (s.records, ((s.lease_cells, s.free), (s.reserved, s.drawn)))))
+    (λ p. record { kept = p.0; records = p.1.0; lease_cells = p.1.1.0.0; free = p.1.1.0.1; reserved = p.1.1.1.0; drawn = p.1.1.1.1 })
+    (λ _. refl)
+
+-- the changes under their cells
+abbrev pub cells : StoreState → Cells
+cells store = cells_of store.records
+
+-- what can be read of it
+abbrev pub reads : StoreState → Reads
+reads store = reads_of store.kept
+
+-- what can be read of it once some changes are one more revision
+abbrev pub look : StoreState → List Change → Reads
+look store pending = kept_store.look store.kept pending
+
+-- the row under a cell, if its change is a put
+abbrev pub row_at : Cells → ℕ → Option KeyValue
+row_at cells c = option_and_then (λ x. x.row) (change_at cells c)
+
+-- the changes of some writes
+abbrev pub changes_of : StoreState → List Write → List Change
+changes_of store writes = map (change_in (cells store)) writes
+
+-- a put goes on from what its key is, and a delete is of a key that is live, under the cell of its row
+abbrev pub Follows : StoreState → Write → Type 0
+Follows store (Put row) = next_row (store.kept.current + 1) (live row.key store.kept.current store.kept.changes) (change_in (cells store) (Put row)) ≡ Some row
+Follows store (Delete cell) = (row : KeyValue) × (row_at (cells store) cell ≡ Some row) × (live row.key store.kept.current store.kept.changes ≡ Some row)
+
+-- some writes that can be the store's next revision: each goes on from what is there, and each key changes once
+pub record IsPlanFor (store : StoreState) (writes : List Write) : Type 0 where
+  pub follow : AllByRecursion (Follows store) writes
+  pub once : IsOnce (changes_of store writes)
+
+-- there is space for them
+abbrev pub HasSpace : StoreState → List Write → Type 0
+HasSpace store writes = costs_in (cells store) writes ≤ store.free
+
+-- a log of changes up to a revision, with numbers that are within it
+pub record IsKept (log : LogState) (current last_compaction : ℕ) : Type 0 where
+  pub up : AllByRecursion (λ x. x.revision ≤ current) log.changes
+  pub numbers : AllByRecursion HasNumbers log.changes
+  pub compacted : last_compaction ≤ current
+  pub short : current < 2 ^ 63

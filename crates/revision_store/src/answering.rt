@@ -1,0 +1,88 @@
+//! What turns the rows of an interval into the answer of a range.
+ghost use Rattle.std.specs.Prelude.{◌≡◌, ◌≤◌, map, pos};
+ghost use Rattle.std.specs.List.Sorted.{IsStrictlySortedBy};
+ghost use Rattle.etcd_model.specs.Ranges.{is_within, without_value};
+ghost use Rattle.model_laws.specs.Recording.{by_key};
+ghost use Rattle.revision_store.specs.Answering.{given, is_by_key, IsLimit, SaysMore, SaysWanted};
+
+use crate::sorting::sort_rows;
+use etcd_types::{KeyValue, List, RangeReq, SortOrder, SortTarget};
+use std::alloc::Global;
+
+#[cfg(test)]
+mod tests;
+
+/// A row that was created and last put at these revisions passes the filters of the range.
+pub(crate) fn is_wanted(request: &RangeReq, create_revision: u64, mod_revision: u64) -> bool
+    ensures { SaysWanted request.now create_revision mod_revision result }
+{
+    is_within(
+        request.min_mod_revision,
+        request.max_mod_revision,
+        mod_revision,
+    ) && is_within(
+        request.min_create_revision,
+        request.max_create_revision,
+        create_revision,
+    )
+}
+
+/// A bound of 0 is none.
+fn is_within(low: i64, high: i64, revision: u64) -> bool
+    ensures { result ≡ is_within low high (pos revision) }
+{
+    let revision = i128::from(revision);
+    (low == 0 || i128::from(low) <= revision) && (high == 0 || revision <= i128::from(high))
+}
+
+/// The range is in the order of ascending keys.
+pub(crate) fn is_by_key(request: &RangeReq) -> bool
+    ensures { result ≡ is_by_key request.now }
+{
+    matches!(
+        (request.sort_order, request.sort_target),
+        (SortOrder::Unsorted | SortOrder::Ascend, SortTarget::Key)
+    )
+}
+
+/// How many rows are given, where it wants at most `count`.
+pub(crate) fn limit_of(request: &RangeReq, count: usize) -> usize
+    ensures limit { IsLimit request.now count result }
+    ensures within { result ≤ count }
+{
+    match usize::try_from(request.limit) {
+        Ok(limit) if limit > 0 => limit.min(count),
+        _ => count,
+    }
+}
+
+/// The limit cuts some of the rows that it wants.
+pub(crate) fn is_cut(request: &RangeReq, wanted: usize) -> bool
+    ensures { SaysMore request.now wanted result }
+{
+    !request.count_only && limit_of(request, wanted) < wanted
+}
+
+/// What is given of the rows that it wants, which ascend by key. Takes no memory.
+pub(crate) fn ordered(alloc: Global, request: &RangeReq, mut rows: Vec<KeyValue>) -> List<KeyValue>
+    requires { IsStrictlySortedBy by_key rows.items }
+    ensures { result ≡ given request.now rows.items }
+{
+    if !is_by_key(request) {
+        sort_rows(&mut rows, request.sort_order, request.sort_target);
+    }
+    rows.truncate(limit_of(request, rows.len()));
+    if request.keys_only {
+        empty_values(alloc, &mut rows);
+    }
+    List::from_vec(rows)
+}
+
+/// Leaves the rows with no values.
+fn empty_values(alloc: Global, rows: &mut [KeyValue])
+    ensures { rows.new ≡ map without_value rows.old }
+{
+    for row in rows.iter_mut() {
+        row.value = List::new(alloc);
+    }
+}

@@ -1,0 +1,42 @@
+//! Dropping what a compaction does not keep.
+ghost use Rattle.std.specs.Prelude.{◌≡◌, ◌≤◌, length};
+ghost use Rattle.etcd_model.specs.Changes.{change_of};
+ghost use Rattle.etcd_model.specs.Kept.{cost};
+ghost use Rattle.key_index.specs.Compaction.{GivesBack, IsCompacted};
+ghost use Rattle.key_index.specs.Entries.{IsChained};
+ghost use Rattle.key_index.specs.Index.{IsIndexOf};
+ghost use Rattle.revision_store.specs.Loans.{KeepsRest};
+ghost use Rattle.revision_store.specs.Recorded.{ArePlain, cells_of};
+
+use crate::records::Writer;
+use cell_arena::{Region, Segments};
+use key_index::KeyIndex;
+
+/// Drops the records that a compaction at a revision does not keep, and what the index has of them.
+pub(crate) fn cut<S: Segments>(
+    region: &mut Region,
+    segments: &mut S,
+    index: &mut KeyIndex,
+    revision: u64,
+)
+    requires index { IsIndexOf (cells_of region.old.records) index.old.cells }
+    requires chained { IsChained (cells_of region.old.records) }
+    requires plain { ArePlain region.old.records }
+    requires room { region.old.drawn ≤ S.room segments.old }
+
+    ensures index { IsIndexOf (cells_of region.new.records) index.new.cells }
+    ensures chained { IsChained (cells_of region.new.records) }
+    ensures compacted { IsCompacted (cells_of region.old.records) (cells_of region.new.records) revision }
+    ensures index_room { index.new.room ≡ index.old.room }
+    ensures free { GivesBack (λ x. cost (change_of x)) (cells_of region.old.records) (cells_of region.new.records) region.old.free region.new.free }
+    ensures rest { KeepsRest (record { region = region.old; left = S.left segments.old; room = S.room segments.old; others = S.others segments.old }) (record { region = region.new; left = S.left segments.new; room = S.room segments.new; others = S.others segments.new }) }
+    ensures plain { ArePlain region.new.records }
+    ensures room { region.new.drawn ≤ S.room segments.new }
+{
+    let mut writer = Writer { region, segments };
+    index.cut(&mut writer, revision);
+    let Writer {
+        region: _,
+        segments: _,
+    } = writer;
+}

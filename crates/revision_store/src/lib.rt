@@ -1,0 +1,25 @@
+//! The multi-version store of one tenant: the changes that are kept, as records in cells.
+#![tactic(auto)]
+
+mod answering;
+mod cutting;
+mod log;
+mod overlay;
+mod pending;
+mod placing;
+mod plan;
+mod planning;
+mod ranging;
+mod reading;
+mod records;
+mod sorting;
+mod space;
+mod store;
+mod touching;
+mod walking;
+
+pub use pending::Pending;
+pub use plan::Plan;
+pub use planning::PlannedOp;
+pub use records::Reader;
+pub use store::Store;

@@ -1,0 +1,244 @@
+//! Changes that are pending.
+ghost use Rattle.std.specs.Prelude.{◌≡◌, ◌+◌, ◌<◌, ◌^◌, [], false, is_some, map, pos, Some, None, IfOk, OnOk, OnErr, if◌then◌else◌};
+ghost use Rattle.etcd_types.specs.declared.reply.OpReply.TheVariants.{Put as PutReply, Delete as DeleteReply};
+ghost use Rattle.etcd_types.specs.declared.txn.Op.TheVariants.{Put as PutOp, Delete as DeleteOp};
+ghost use Rattle.etcd_model.specs.Changes.{version_of};
+ghost use Rattle.etcd_model.specs.Operations.{and_changes, op_reply};
+ghost use Rattle.revision_store.specs.Stored.{IsPlanFor, cells, changes_of, look, reads, row_at};
+ghost use Rattle.revision_store.specs.Pending.{changes_key, pending_reads, present, puts_inside, row_put, value_put};
+ghost use Rattle.std.specs.Option.{option_copied};
+
+use crate::overlay::{left_cells, push_deletes, rows_asked, rows_under};
+use crate::plan::{Plan, Write};
+use crate::store::Store;
+use crate::touching::{lies_erased, put_rows, row_put_to};
+use etcd_types::{CellNo, CopyOf, DeleteReq, KeyValue, List, Mem, OpReply, PutReq};
+use std::alloc::Global;
+use std::marker::Model;
+
+/// A store, with changes that are to be its next revision.
+#[derive(Drop)]
+pub struct Pending<'a> {
+    store: &'a Store,
+    /// In the order of their operations.
+    writes: Vec<Write>,
+    /// Where the puts stand among them.
+    puts: Vec<usize>,
+    deletes: Vec<&'a DeleteReq>,
+}
+
+impl<'a> Model for Pending<'a> {
+    ghost use Rattle.std.specs.Prelude.{map};
+    ghost use Rattle.revision_store.specs.Stored.{changes_of};
+    ghost use Rattle.revision_store.specs.Pending.{PendingState, IsPending, pending_code};
+
+    ghost Value = { PendingState };
+
+    ghost coded = { pending_code };
+
+    ghost view = { λ p. record { store = p.store.now; changes = changes_of p.store.now p.writes.items } };
+
+    ghost invariant = { λ p. IsPending p.store.now p.writes.items p.puts.items (map (λ d. d.now) p.deletes.items) };
+}
+
+impl<'a> Pending<'a> {
+    /// With nothing pending. It takes no memory.
+    pub fn new(alloc: Global, store: &'a Store) -> Pending<'a>
+        ensures { result ≡ record { store = store.now; changes = [] } }
+    {
+        store.keep_sound();
+        Pending {
+            store,
+            writes: Vec::new(alloc),
+            puts: Vec::new(alloc),
+            deletes: Vec::new(alloc),
+        }
+    }
+
+    /// The current revision: with changes pending, the one that they are to be.
+    pub fn current(&self) -> u64
+        ensures { result ≡ (pending_reads self.now).current }
+    {
+        if self.writes.is_empty() {
+            self.store.current()
+        } else {
+            self.store.current() + 1
+        }
+    }
+
+    /// Whether a key is live.
+    pub fn has(&self, key: &[u8]) -> bool
+        ensures { result ≡ is_some ((pending_reads self.now).row key.now) }
+    {
+        let store = self.store;
+        row_put_to(&self.writes, &self.puts, key).is_some()
+            || (!lies_erased(&self.deletes, key) && store.has_key(key))
+    }
+
+    /// The row of a key, if it is live.
+    pub fn row(&self, alloc: Global, key: &[u8]) -> Mem<Option<KeyValue>>
+        ensures { IfOk result (λ row. row ≡ (pending_reads self.now).row key.now) }
+    {
+        if let Some(row) = row_put_to(&self.writes, &self.puts, key) {
+            return Ok(Some(row.copy_of(alloc)?));
+        }
+        if lies_erased(&self.deletes, key) {
+            return Ok(None);
+        }
+        self.store.newest(alloc, key)
+    }
+
+    /// The rows of the keys of an interval that are live, by ascending key.
+    pub fn rows(&self, alloc: Global, key: &[u8], range_end: &[u8]) -> Mem<Vec<KeyValue>>
+        ensures { IfOk result (λ found. found.items ≡ (pending_reads self.now).rows key.now range_end.now) }
+    {
+        let store = self.store;
+        let live = store
+            .log
+            .live_cells(alloc, key, range_end, store.current())?;
+        let left = left_cells(alloc, &store.log, live, &self.deletes)?;
+        let mut rows = rows_under(alloc, &store.log, &left)?;
+        put_rows(alloc, &mut rows, &self.writes, &self.puts, key, range_end)?;
+        Ok(rows)
+    }
+
+    /// Puts a key that nothing pending changes, and answers as if it was done. Without memory nothing changes.
+    pub fn add_put(&mut self, alloc: Global, request: &PutReq) -> Mem<OpReply>
+        requires once { changes_key request.now.key self.old.changes ≡ false }
+        requires revisions { self.old.store.kept.current + 1 < 2 ^ 63 }
+        ensures changes { OnOk result (self.new ≡ record { store = self.old.store; changes = and_changes (look self.old.store) self.old.changes (PutOp request.now) }) }
+        ensures reply { IfOk result (λ reply. reply ≡ op_reply (pending_reads self.old) (self.old.store.kept.current + 1) (PutOp request.now)) }
+        ensures memory { OnErr result (self.new ≡ self.old) }
+    {
+        let now = present(alloc, self.store, request)?;
+        let revision = self.store.current() + 1;
+        let row = row_put(alloc, revision, request, now.as_ref())?;
+        let place = self.writes.len();
+        self.puts.reserve(1)?;
+        self.writes.push(Write::Put(row))?;
+        self.puts.push_reserved(place);
+        Ok(put_reply(revision, row_asked(now, request.prev_kv)))
+    }
+
+    /// Deletes the live keys of an interval that nothing pending puts, and answers as if it was done. Without memory
+    /// nothing changes.
+    pub fn add_delete(&mut self, alloc: Global, request: &'a DeleteReq) -> Mem<OpReply>
+        requires once { puts_inside request.now self.old.changes ≡ false }
+        requires revisions { self.old.store.kept.current + 1 < 2 ^ 63 }
+        ensures changes { OnOk result (self.new ≡ record { store = self.old.store; changes = and_changes (look self.old.store) self.old.changes (DeleteOp request.now) }) }
+        ensures reply { IfOk result (λ reply. reply ≡ op_reply (pending_reads self.old) (pending_reads self.new).current (DeleteOp request.now)) }
+        ensures memory { OnErr result (self.new ≡ self.old) }
+    {
+        let cells = self.live_cells(alloc, request)?;
+        let store = self.store;
+        let prev_kvs = rows_asked(alloc, &store.log, &cells, request.prev_kv)?;
+        self.deletes.reserve(1)?;
+        push_deletes(&mut self.writes, &cells)?;
+        self.deletes.push_reserved(request);
+        Ok(delete_reply(self.current(), cells.len() as u64, prev_kvs))
+    }
+
+    /// The cells of the rows of an interval that nothing pending puts.
+    fn live_cells(&self, alloc: Global, request: &DeleteReq) -> Mem<Vec<CellNo>>
+        requires { puts_inside request.now self.now.changes ≡ false }
+        ensures { IfOk result (λ found. map (row_at (cells self.now.store)) found.items ≡ map Some ((pending_reads self.now).rows request.now.key request.now.range_end)) }
+    {
+        let store = self.store;
+        let live = store.log.live_cells(
+            alloc,
+            request.key.as_slice(),
+            request.range_end.as_slice(),
+            store.current(),
+        )?;
+        left_cells(alloc, &store.log, live, &self.deletes)
+    }
+
+    /// What is pending, to be committed.
+    pub fn finish(self) -> Plan
+        ensures plan { IsPlanFor self.entry.store result }
+        ensures changes { changes_of self.entry.store result ≡ self.entry.changes }
+    {
+        let Pending {
+            store: _,
+            writes,
+            puts: _,
+            deletes: _,
+        } = self;
+        Plan::new(writes)
+    }
+}
+
+/// The answer to a put.
+fn put_reply(revision: u64, prev_kv: Option<KeyValue>) -> OpReply
+    requires { revision < 2 ^ 63 }
+    ensures { result ≡ PutReply (pos revision) prev_kv }
+{
+    OpReply::Put {
+        revision: revision as i64,
+        prev_kv,
+    }
+}
+
+/// The answer to a delete.
+fn delete_reply(revision: u64, deleted: u64, prev_kvs: List<KeyValue>) -> OpReply
+    requires { revision < 2 ^ 63 }
+    ensures { result ≡ DeleteReply (pos revision) deleted prev_kvs }
+{
+    OpReply::Delete {
+        revision: revision as i64,
+        deleted,
+        prev_kvs,
+    }
+}
+
+/// A row, where it is asked for.
+fn row_asked(row: Option<KeyValue>, asked: bool) -> Option<KeyValue>
+    ensures { result ≡ (if asked then row else None) }
+{
+    if asked { row } else { None }
+}
+
+/// The present row of a put's key, with its value where the put asks for that.
+fn present(alloc: Global, store: &Store, request: &PutReq) -> Mem<Option<KeyValue>>
+    ensures { IfOk result (λ now. now ≡ present request.now ((reads store.now).row request.now.key)) }
+{
+    if request.prev_kv || request.ignore_value {
+        store.newest(alloc, request.key.as_slice())
+    } else {
+        store.newest_without_value(alloc, request.key.as_slice())
+    }
+}
+
+/// The value of a put: its own, or the present one where that is to stay.
+fn value_put(alloc: Global, request: &PutReq, now: Option<&KeyValue>) -> Mem<List<u8>>
+    ensures { IfOk result (λ value. value ≡ value_put request.now (option_copied now.entry)) }
+{
+    match now {
+        Some(row) if request.ignore_value => row.value.copy_of(alloc),
+        None if request.ignore_value => Ok(List::new(alloc)),
+        _ => request.value.copy_of(alloc),
+    }
+}
+
+/// The row that a put leaves at a revision, over the present row of its key.
+fn row_put(alloc: Global, revision: u64, request: &PutReq, now: Option<&KeyValue>) -> Mem<KeyValue>
+    requires { version_of (option_copied now) + 1 < 2 ^ 64 }
+    ensures { IfOk result (λ row. row ≡ row_put revision request.now (option_copied now.entry)) }
+{
+    let (create_revision, version, lease) = match now {
+        Some(row) => (row.create_revision, row.version, row.lease),
+        None => (revision, 0, 0),
+    };
+    Ok(KeyValue {
+        key: request.key.copy_of(alloc)?,
+        create_revision,
+        mod_revision: revision,
+        version: version + 1,
+        value: value_put(alloc, request, now)?,
+        lease: if request.ignore_lease {
+            lease
+        } else {
+            request.lease
+        },
+    })
+}

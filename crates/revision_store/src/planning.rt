@@ -1,0 +1,91 @@
+//! Plans of one operation.
+ghost use Rattle.std.specs.Prelude.{◌≡◌, ◌+◌, ◌<◌, ◌^◌, None, Some, IfOk, MatchResult, is_some, option_map};
+ghost use Rattle.etcd_types.specs.declared.txn.Op.TheVariants.{Put as PutOp, Delete as DeleteOp};
+ghost use Rattle.etcd_model.specs.Operations.{changes, op_reply};
+ghost use Rattle.etcd_model.specs.Ranges.{without_value};
+ghost use Rattle.revision_store.specs.Stored.{look, reads};
+ghost use Rattle.revision_store.specs.Pending.{IsPlanOf, IsSound, put_refusal};
+
+use crate::pending::Pending;
+use crate::plan::Plan;
+use crate::store::Store;
+use etcd_types::{DeleteReq, KeyValue, Mem, OpReply, PutReq, Refusal};
+use std::alloc::Global;
+
+/// An operation that is decided, with all memory that its commit needs.
+#[derive(Drop)]
+pub struct PlannedOp {
+    /// What it changes.
+    pub plan: Plan,
+    /// What it is answered, once that is committed.
+    pub reply: OpReply,
+}
+
+impl Store {
+    /// Decides a put. It is refused where the key is absent and its value or its lease is to stay. Which leases there
+    /// are is not asked.
+    pub fn plan_put(&self, alloc: Global, request: &PutReq) -> Mem<Result<PlannedOp, Refusal>>
+        requires { self.now.kept.current + 1 < 2 ^ 63 }
+        ensures refusal { IfOk result (λ answer. MatchResult answer (λ planned. put_refusal (reads self.now) request.now ≡ None) (λ refusal. put_refusal (reads self.now) request.now ≡ Some refusal)) }
+        ensures plan { IfOk result (λ answer. IfOk answer (λ planned. IsPlanOf self.now (PutOp request.now) planned.plan)) }
+        ensures reply { IfOk result (λ answer. IfOk answer (λ planned. planned.reply ≡ op_reply (reads self.now) (self.now.kept.current + 1) (PutOp request.now))) }
+    {
+        if (request.ignore_value || request.ignore_lease) && !self.has_key(request.key.as_slice()) {
+            return Ok(Err(Refusal::KeyNotFound));
+        }
+        let mut pending = Pending::new(alloc, self);
+        let reply = pending.add_put(alloc, request)?;
+        Ok(Ok(PlannedOp {
+            plan: pending.finish(),
+            reply,
+        }))
+    }
+
+    /// Decides a delete of the live keys of an interval.
+    pub fn plan_delete(&self, alloc: Global, request: &DeleteReq) -> Mem<PlannedOp>
+        requires { self.now.kept.current + 1 < 2 ^ 63 }
+        ensures plan { IfOk result (λ planned. IsPlanOf self.now (DeleteOp request.now) planned.plan) }
+        ensures reply { IfOk result (λ planned. planned.reply ≡ op_reply (reads self.now) (look self.now (changes (reads self.now) (DeleteOp request.now))).current (DeleteOp request.now)) }
+    {
+        let mut pending = Pending::new(alloc, self);
+        let reply = pending.add_delete(alloc, request)?;
+        Ok(PlannedOp {
+            plan: pending.finish(),
+            reply,
+        })
+    }
+
+    /// Whether the key is live.
+    pub(crate) fn has_key(&self, key: &[u8]) -> bool
+        ensures { result ≡ is_some ((reads self.now).row key.now) }
+    {
+        self.log.live(key, self.current()).is_some()
+    }
+
+    /// The row of a key, if it is live.
+    pub(crate) fn newest(&self, alloc: Global, key: &[u8]) -> Mem<Option<KeyValue>>
+        ensures { IfOk result (λ row. row ≡ (reads self.now).row key.now) }
+    {
+        match self.log.live(key, self.current()) {
+            Some(cell) => Ok(Some(self.log.row(alloc, cell)?)),
+            None => Ok(None),
+        }
+    }
+
+    /// The same without its value, which is not read.
+    pub(crate) fn newest_without_value(&self, alloc: Global, key: &[u8]) -> Mem<Option<KeyValue>>
+        ensures { IfOk result (λ row. row ≡ option_map without_value ((reads self.now).row key.now)) }
+    {
+        match self.log.live(key, self.current()) {
+            Some(cell) => Ok(Some(self.log.row_without_value(alloc, cell)?)),
+            None => Ok(None),
+        }
+    }
+
+    /// It is one that appends and compactions make.
+    pub(crate) fn keep_sound(&self)
+        ensures { IsSound self.now }
+    {
+        self.log.keep_in_order();
+    }
+}

@@ -1,0 +1,174 @@
+//! The answer of a range.
+ghost use Rattle.std.specs.Prelude.{◌≡◌, ◌<◌, ◌^◌, map, None, Some, IsSome, IfOk, MatchResult, option_map};
+ghost use Rattle.std.specs.List.Sorted.{IsStrictlySortedBy};
+ghost use Rattle.etcd_types.specs.declared.txn.Op.TheVariants.{Range as RangeOp};
+ghost use Rattle.etcd_model.specs.Operations.{op_reply};
+ghost use Rattle.etcd_model.specs.Ranges.{without_value};
+ghost use Rattle.etcd_model.specs.Reads.{revision_read, unreadable};
+ghost use Rattle.model_laws.specs.Recording.{by_key};
+ghost use Rattle.revision_store.specs.Answering.{given};
+ghost use Rattle.revision_store.specs.Pending.{AreRows};
+ghost use Rattle.revision_store.specs.Ranging.{needs_values, passes, range_answer, read, rows_of, wanted_cells};
+ghost use Rattle.revision_store.specs.Recorded.{cells_of};
+ghost use Rattle.revision_store.specs.Stored.{reads, row_at};
+
+use crate::answering::{is_by_key, is_cut, is_wanted, limit_of, ordered};
+use crate::log::Log;
+use crate::overlay::rows_under;
+use crate::store::Store;
+use etcd_types::{CellNo, KeyValue, List, Mem, OpReply, RangeReq, Refusal, SortTarget};
+use std::alloc::Global;
+
+impl Store {
+    /// Reads an interval at a revision, the newest for one of 0 or below. It is refused where that one is compacted or
+    /// still to come.
+    pub fn plan_range(&self, alloc: Global, request: &RangeReq) -> Mem<Result<OpReply, Refusal>>
+        ensures refusal { IfOk result (λ answer. MatchResult answer (λ reply. unreadable (reads self.now) (revision_read (reads self.now) request.now.revision) ≡ None) (λ refusal. unreadable (reads self.now) (revision_read (reads self.now) request.now.revision) ≡ Some refusal)) }
+        ensures reply { IfOk result (λ answer. IfOk answer (λ reply. reply ≡ op_reply (reads self.now) self.now.kept.current (RangeOp request.now))) }
+    {
+        if let Some(refusal) = self.unreadable(request.revision) {
+            return Ok(Err(refusal));
+        }
+        self.keep_sound();
+        let cells = self.log.live_cells(
+            alloc,
+            request.key.as_slice(),
+            request.range_end.as_slice(),
+            self.revision_read(request.revision),
+        )?;
+        let reply = range_reply(alloc, &self.log, request, &cells, self.current())?;
+        Ok(Ok(reply))
+    }
+
+    /// Why there is no read at a revision.
+    pub fn unreadable(&self, revision: i64) -> Option<Refusal>
+        ensures { result ≡ unreadable (reads self.now) (revision_read (reads self.now) revision) }
+    {
+        let revision = self.revision_read(revision);
+        if revision < self.compacted() {
+            Some(Refusal::Compacted)
+        } else if self.current() < revision {
+            Some(Refusal::Future)
+        } else {
+            None
+        }
+    }
+
+    /// The revision that is read: for one of 0 or below, the newest.
+    fn revision_read(&self, revision: i64) -> u64
+        ensures { result ≡ revision_read (reads self.now) revision }
+    {
+        match u64::try_from(revision) {
+            Ok(revision) if revision > 0 => revision,
+            _ => self.current(),
+        }
+    }
+}
+
+/// What a range is answered at a revision, where the rows under some cells, which ascend by key, are those of its
+/// interval.
+pub(crate) fn range_reply(
+    alloc: Global,
+    log: &Log,
+    request: &RangeReq,
+    cells: &[CellNo],
+    revision: u64,
+) -> Mem<OpReply>
+    requires rows { AreRows (cells_of log.now.records) cells.now }
+    requires ascend { IsStrictlySortedBy by_key (rows_of (cells_of log.now.records) cells.now) }
+    requires revision { revision < 2 ^ 63 }
+    ensures { IfOk result (λ reply. reply ≡ range_answer request.now revision (rows_of (cells_of log.now.records) cells.now)) }
+{
+    let revision = revision as i64;
+    let count = cells.len() as u64;
+    if request.count_only {
+        return Ok(OpReply::Range {
+            revision,
+            count,
+            kvs: List::new(alloc),
+            more: false,
+        });
+    }
+    let wanted = wanted(alloc, log, request, cells)?;
+    let more = is_cut(request, wanted.len());
+    let kvs = rows_given(alloc, log, request, wanted)?;
+    Ok(OpReply::Range {
+        revision,
+        count,
+        kvs,
+        more,
+    })
+}
+
+/// Those of some cells whose rows pass the filters.
+fn wanted(alloc: Global, log: &Log, request: &RangeReq, cells: &[CellNo]) -> Mem<Vec<CellNo>>
+    requires { AreRows (cells_of log.now.records) cells.now }
+    ensures { IfOk result (λ found. found.items ≡ wanted_cells (cells_of log.now.records) request.now cells.now) }
+{
+    let mut found = Vec::new(alloc);
+    for cell in cells {
+        if passes(log, request, *cell) {
+            found.push(*cell)?;
+        }
+    }
+    Ok(found)
+}
+
+/// The row under a cell passes the filters. None of its bytes is read.
+fn passes(log: &Log, request: &RangeReq, cell: CellNo) -> bool
+    requires { IsSome (row_at (cells_of log.now.records) cell) }
+    ensures { result ≡ passes request.now (row_at (cells_of log.now.records) cell) }
+{
+    let (create_revision, mod_revision) = log.revisions(cell);
+    is_wanted(request, create_revision, mod_revision)
+}
+
+/// What is given of the rows under some cells, which ascend by key and pass the filters. In the order of their keys
+/// the first ones alone are read.
+fn rows_given(
+    alloc: Global,
+    log: &Log,
+    request: &RangeReq,
+    mut wanted: Vec<CellNo>,
+) -> Mem<List<KeyValue>>
+    requires rows { AreRows (cells_of log.now.records) wanted.items }
+    requires ascend { IsStrictlySortedBy by_key (rows_of (cells_of log.now.records) wanted.items) }
+    ensures { IfOk result (λ kvs. kvs ≡ given request.now (rows_of (cells_of log.now.records) wanted.items)) }
+{
+    if is_by_key(request) {
+        wanted.truncate(limit_of(request, wanted.len()));
+    }
+    let rows = rows_read(alloc, log, request, &wanted)?;
+    Ok(ordered(alloc, request, rows))
+}
+
+/// The rows under some cells, with their values where the range needs those.
+fn rows_read(alloc: Global, log: &Log, request: &RangeReq, cells: &[CellNo]) -> Mem<Vec<KeyValue>>
+    requires { AreRows (cells_of log.now.records) cells.now }
+    ensures { IfOk result (λ found. found.items ≡ map (read request.now) (rows_of (cells_of log.now.records) cells.now)) }
+{
+    if needs_values(request) {
+        rows_under(alloc, log, cells)
+    } else {
+        keys_under(alloc, log, cells)
+    }
+}
+
+/// The range gives values, or sorts by them.
+fn needs_values(request: &RangeReq) -> bool
+    ensures { result ≡ needs_values request.now.keys_only request.now.sort_target }
+{
+    !request.keys_only || matches!(request.sort_target, SortTarget::Value)
+}
+
+/// The rows under some cells without their values, which are not read.
+fn keys_under(alloc: Global, log: &Log, cells: &[CellNo]) -> Mem<Vec<KeyValue>>
+    requires { AreRows (cells_of log.now.records) cells.now }
+    ensures { IfOk result (λ found. map Some found.items ≡ map (λ c. option_map without_value (row_at (cells_of log.now.records) c)) cells.now) }
+{
+    let mut found = Vec::with_capacity(alloc, cells.len())?;
+    for cell in cells {
+        found.push(log.row_without_value(alloc, *cell)?)?;
+    }
+    Ok(found)
+}

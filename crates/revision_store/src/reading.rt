@@ -1,0 +1,115 @@
+//! Reading the kept changes at a revision.
+ghost use Rattle.std.specs.Prelude.{◌≡◌, map, Some, IsSome, IfSome, IfOk, option_map, option_and_then};
+ghost use Rattle.etcd_model.specs.Changes.{Recorded, last, live, rows};
+ghost use Rattle.etcd_model.specs.Interval.{is_in};
+ghost use Rattle.etcd_model.specs.Ranges.{without_value};
+ghost use Rattle.key_index.specs.Entries.{IsNewest, change_at};
+ghost use Rattle.revision_store.specs.Recorded.{cells_of};
+ghost use Rattle.revision_store.specs.Plans.{key_at};
+ghost use Rattle.revision_store.specs.Stored.{row_at};
+
+use crate::log::Log;
+use crate::records::Reader;
+use etcd_types::{CellNo, KeyValue, List, Mem};
+use key_index::{Records, last_up_to};
+use std::alloc::Global;
+
+impl Log {
+    /// The cell of the last change of the key at a revision at most this one.
+    fn last(&self, key: &[u8], revision: u64) -> Option<CellNo>
+        ensures change { option_and_then (change_at (cells_of self.now.records)) result ≡ last key.now revision self.now.changes }
+        ensures there { IfSome result (λ c. IsSome (cells_of self.now.records c)) }
+    {
+        self.index.at(&Reader::new(&self.region), key, revision)
+    }
+
+    /// The cell of the row that the key shows at the revision, if it is live there.
+    pub(crate) fn live(&self, key: &[u8], revision: u64) -> Option<CellNo>
+        ensures row { option_and_then (row_at (cells_of self.now.records)) result ≡ live key.now revision self.now.changes }
+        ensures there { IfSome result (λ c. IsSome (row_at (cells_of self.now.records) c)) }
+    {
+        self.put_of(self.last(key, revision))
+    }
+
+    /// The same for the key whose newest change is under a cell.
+    fn live_of(&self, head: CellNo, revision: u64) -> Option<CellNo>
+        requires { IsNewest (cells_of self.now.records) head }
+        ensures row { option_and_then (row_at (cells_of self.now.records)) result ≡ live (key_at (cells_of self.now.records) head) revision self.now.changes }
+        ensures there { IfSome result (λ c. IsSome (row_at (cells_of self.now.records) c)) }
+    {
+        self.put_of(last_up_to(head, &Reader::new(&self.region), revision))
+    }
+
+    /// The cell of a last change, if it is a put.
+    fn put_of(&self, last: Option<CellNo>) -> Option<CellNo>
+        requires { IfSome last (λ c. IsSome (cells_of self.now.records c)) }
+        ensures row { option_and_then (row_at (cells_of self.now.records)) result ≡ option_and_then (λ (x : Recorded). x.row) (option_and_then (change_at (cells_of self.now.records)) last) }
+        ensures there { IfSome result (λ c. IsSome (row_at (cells_of self.now.records) c)) }
+    {
+        match last {
+            Some(cell) if Reader::new(&self.region).is_put(cell) => Some(cell),
+            _ => None,
+        }
+    }
+
+    /// The cells of the rows of an interval that are live at a revision, by ascending key.
+    pub(crate) fn live_cells(
+        &self,
+        alloc: Global,
+        key: &[u8],
+        range_end: &[u8],
+        revision: u64,
+    ) -> Mem<Vec<CellNo>>
+        ensures { IfOk result (λ found. map (row_at (cells_of self.now.records)) found.items ≡ map Some (rows (is_in key.now range_end.now) revision self.now.changes)) }
+    {
+        let span = self.index.span(&Reader::new(&self.region), key, range_end);
+        let heads = &self.index.heads()[span.start..span.end];
+        let mut found = Vec::with_capacity(alloc, heads.len())?;
+        for head in heads {
+            if let Some(cell) = self.live_of(*head, revision) {
+                found.push_reserved(cell);
+            }
+        }
+        Ok(found)
+    }
+
+    /// The row under a cell.
+    pub(crate) fn row(&self, alloc: Global, cell: CellNo) -> Mem<KeyValue>
+        requires { IsSome (row_at (cells_of self.now.records) cell) }
+        ensures { IfOk result (λ row. row_at (cells_of self.now.records) cell ≡ Some row) }
+    {
+        let mut row = self.row_without_value(alloc, cell)?;
+        let mut value = Vec::with_capacity(alloc, self.region.value_len(cell) as usize)?;
+        self.region.read_value(cell, &mut value)?;
+        row.value = List::from_vec(value);
+        Ok(row)
+    }
+
+    /// The row under a cell without its value, which is not read.
+    pub(crate) fn row_without_value(&self, alloc: Global, cell: CellNo) -> Mem<KeyValue>
+        requires { IsSome (row_at (cells_of self.now.records) cell) }
+        ensures { IfOk result (λ row. option_map without_value (row_at (cells_of self.now.records) cell) ≡ Some row) }
+    {
+        let fields = self.region.fields(cell);
+        let mut key = Vec::with_capacity(alloc, self.region.key_len(cell) as usize)?;
+        self.region.read_key(cell, &mut key)?;
+        Ok(KeyValue {
+            key: List::from_vec(key),
+            create_revision: fields.create_revision,
+            mod_revision: fields.revision,
+            version: fields.version,
+            value: List::new(alloc),
+            lease: fields.lease,
+        })
+    }
+
+    /// The revisions of the first and of the last put of the row under a cell, read from its head alone.
+    pub(crate) fn revisions(&self, cell: CellNo) -> (u64, u64)
+        requires { IsSome (row_at (cells_of self.now.records) cell) }
+        ensures created { IfSome (row_at (cells_of self.now.records) cell) (λ row. result.0 ≡ row.create_revision) }
+        ensures modified { IfSome (row_at (cells_of self.now.records) cell) (λ row. result.1 ≡ row.mod_revision) }
+    {
+        let fields = self.region.fields(cell);
+        (fields.create_revision, fields.revision)
+    }
+}

@@ -1,0 +1,189 @@
+//! The store of one tenant.
+ghost use Rattle.std.specs.Prelude.{length, ◌≡◌, ◌+◌, ◌%◌, ◌/◌, ◌<◌, ◌≤◌, ◌^◌, ℕ, ℤ, pos, IfOk, IsSome, None, is_none};
+ghost use Rattle.std.specs.FinMap as map;
+ghost use Rattle.etcd_model.specs.Held.{empty_store};
+ghost use Rattle.etcd_model.specs.Store.{after, compact, record_cells};
+ghost use Rattle.etcd_model.specs.Stepping.{compact_refusal};
+ghost use Rattle.revision_store.specs.Recorded.{leases_of, with_lease, without_lease};
+ghost use Rattle.revision_store.specs.Stored.{cells, HasSpace, IsPlanFor, changes_of, reads};
+ghost use Rattle.revision_store.specs.Plans.{costs_in, deletes};
+
+use crate::log::Log;
+use crate::plan::{Plan, Write};
+use cell_arena::Segments;
+use etcd_types::{CellNo, Mem};
+use std::alloc::Global;
+use std::marker::Model;
+
+/// The keys of one tenant with their versions, as far back as the last compaction, in cells.
+#[derive(Drop)]
+pub struct Store {
+    pub(crate) log: Log,
+    current: u64,
+    compacted: u64,
+}
+
+impl Model for Store {
+    ghost use Rattle.revision_store.specs.Stored.{StoreState, IsKept, store_code};
+
+    ghost Value = { StoreState };
+
+    ghost coded = { store_code };
+
+    ghost view = { λ s. record {
+      kept = record { current = s.current; compacted = s.compacted; changes = s.log.changes };
+      records = s.log.records;
+      lease_cells = s.log.lease_cells;
+      free = s.log.free;
+      reserved = s.log.reserved;
+      drawn = s.log.drawn;
+    } };
+
+    ghost invariant = { λ s. IsKept s.log s.current s.compacted };
+}
+
+impl Store {
+    /// An empty store at its first revision, over so many cells. Takes all memory that writes need.
+    pub fn new(alloc: Global, cells: u32, first: u64) -> Mem<Store>
+        requires whole { cells % 64 ≡ 0 }
+        requires few { cells ≤ 2 ^ 20 }
+        requires first { first < 2 ^ 63 }
+        ensures { IfOk result (λ store. store ≡ record { kept = empty_store first; records = map.empty; lease_cells = 0; free = cells; reserved = cells / 64; drawn = 0 }) }
+    {
+        Ok(Store {
+            log: Log::new(alloc, cells)?,
+            current: first,
+            compacted: 0,
+        })
+    }
+
+    /// The current revision.
+    pub fn current(&self) -> u64
+        ensures current { result ≡ self.now.kept.current }
+        ensures short { result < 2 ^ 63 }
+    {
+        self.current
+    }
+
+    /// The revision of the last compaction, 0 before the first.
+    pub fn compacted(&self) -> u64
+        ensures compacted { result ≡ self.now.kept.compacted }
+        ensures within { result ≤ self.now.kept.current }
+    {
+        self.compacted
+    }
+
+    /// Makes the planned changes one more revision, and answers the current one. It takes no memory and cannot fail.
+    pub fn commit<S: Segments>(&mut self, segments: &mut S, plan: Plan) -> i64
+        requires plan { IsPlanFor self.old plan }
+        requires space { HasSpace self.old plan }
+        requires revisions { self.old.kept.current + 1 < 2 ^ 63 }
+        requires left { S.left segments.old + self.old.drawn ≡ self.old.reserved }
+        requires room { self.old.drawn ≤ S.room segments.old }
+        ensures kept { self.new.kept ≡ after self.old.kept (changes_of self.old plan) }
+        ensures revision { result ≡ pos self.new.kept.current }
+        ensures free { self.new.free + costs_in (cells self.old) plan ≡ self.old.free }
+        ensures leases { leases_of self.new.records ≡ leases_of self.old.records }
+        ensures lease_cells { self.new.lease_cells ≡ self.old.lease_cells }
+        ensures reserved { self.new.reserved ≡ self.old.reserved }
+        ensures left { S.left segments.new + self.new.drawn ≡ self.new.reserved }
+        ensures room { S.room segments.new + self.old.drawn ≡ S.room segments.old + self.new.drawn }
+        ensures others { S.others segments.new ≡ S.others segments.old }
+    {
+        let writes = plan.writes();
+        if writes.is_empty() {
+            return self.current as i64;
+        }
+        let revision = self.current + 1;
+        self.log.append_all(segments, writes, revision);
+        self.current = revision;
+        revision as i64
+    }
+
+    /// Deletes some live keys in one revision, in this order, by the cells of their rows, and answers the revision.
+    /// It takes no memory and cannot fail.
+    pub fn delete_heads<S: Segments>(&mut self, segments: &mut S, heads: &[CellNo]) -> i64
+        requires some { 0 < length heads.now }
+        requires live { IsPlanFor self.old (deletes heads.now) }
+        requires space { HasSpace self.old (deletes heads.now) }
+        requires revisions { self.old.kept.current + 1 < 2 ^ 63 }
+        requires left { S.left segments.old + self.old.drawn ≡ self.old.reserved }
+        requires room { self.old.drawn ≤ S.room segments.old }
+        ensures kept { self.new.kept ≡ after self.old.kept (changes_of self.old (deletes heads.now)) }
+        ensures revision { result ≡ pos self.new.kept.current }
+        ensures free { self.new.free + costs_in (cells self.old) (deletes heads.now) ≡ self.old.free }
+        ensures leases { leases_of self.new.records ≡ leases_of self.old.records }
+        ensures lease_cells { self.new.lease_cells ≡ self.old.lease_cells }
+        ensures reserved { self.new.reserved ≡ self.old.reserved }
+        ensures left { S.left segments.new + self.new.drawn ≡ self.new.reserved }
+        ensures room { S.room segments.new + self.old.drawn ≡ S.room segments.old + self.new.drawn }
+        ensures others { S.others segments.new ≡ S.others segments.old }
+    {
+        let revision = self.current + 1;
+        self.log.append_deletes(segments, heads, revision);
+        self.current = revision;
+        revision as i64
+    }
+
+    /// Whether a compaction at the revision is one: above the last one, and not above the current revision.
+    pub fn may_compact(&self, revision: i64) -> bool
+        ensures { result ≡ is_none (compact_refusal (reads self.now) revision) }
+    {
+        revision > self.compacted as i64 && revision <= self.current as i64
+    }
+
+    /// Forgets what reads below the revision need. It gives segments back, takes no memory and cannot fail.
+    pub fn compact<S: Segments>(&mut self, segments: &mut S, revision: u64)
+        requires above { self.old.kept.compacted < revision }
+        requires within { revision ≤ self.old.kept.current }
+        requires room { self.old.drawn ≤ S.room segments.old }
+        ensures kept { self.new.kept ≡ compact self.old.kept revision }
+        ensures free { self.new.free + record_cells self.new.kept.changes ≡ self.old.free + record_cells self.old.kept.changes }
+        ensures leases { leases_of self.new.records ≡ leases_of self.old.records }
+        ensures lease_cells { self.new.lease_cells ≡ self.old.lease_cells }
+        ensures reserved { self.new.reserved ≡ self.old.reserved }
+        ensures fewer { self.new.drawn ≤ self.old.drawn }
+        ensures left { S.left segments.new + self.new.drawn ≡ S.left segments.old + self.old.drawn }
+        ensures room { S.room segments.new + self.old.drawn ≡ S.room segments.old + self.new.drawn }
+        ensures others { S.others segments.new ≡ S.others segments.old }
+    {
+        self.log.cut(segments, revision);
+        self.compacted = revision;
+    }
+
+    /// Records a lease, with its granted time to live in seconds. It takes one cell, and no memory.
+    pub fn place_lease<S: Segments>(&mut self, segments: &mut S, id: i64, ttl: u64) -> CellNo
+        requires space { 1 ≤ self.old.free }
+        requires left { S.left segments.old + self.old.drawn ≡ self.old.reserved }
+        ensures fresh { map.get self.old.records result ≡ None }
+        ensures kept { self.new.kept ≡ self.old.kept }
+        ensures cells { cells self.new ≡ cells self.old }
+        ensures leases { leases_of self.new.records ≡ with_lease (leases_of self.old.records) result (record { id = id; ttl = ttl }) }
+        ensures lease_cells { self.new.lease_cells ≡ self.old.lease_cells + 1 }
+        ensures free { self.new.free + 1 ≡ self.old.free }
+        ensures reserved { self.new.reserved ≡ self.old.reserved }
+        ensures left { S.left segments.new + self.new.drawn ≡ self.new.reserved }
+        ensures room { S.room segments.new + self.old.drawn ≡ S.room segments.old + self.new.drawn }
+        ensures others { S.others segments.new ≡ S.others segments.old }
+    {
+        self.log.place_lease(segments, id, ttl)
+    }
+
+    /// Takes away the lease that a cell has. It may give a segment back, takes no memory and cannot fail.
+    pub fn release_lease<S: Segments>(&mut self, segments: &mut S, cell: CellNo)
+        requires lease { IsSome (leases_of self.old.records cell) }
+        requires room { self.old.drawn ≤ S.room segments.old }
+        ensures kept { self.new.kept ≡ self.old.kept }
+        ensures cells { cells self.new ≡ cells self.old }
+        ensures leases { leases_of self.new.records ≡ without_lease (leases_of self.old.records) cell }
+        ensures lease_cells { self.new.lease_cells + 1 ≡ self.old.lease_cells }
+        ensures free { self.new.free ≡ self.old.free + 1 }
+        ensures reserved { self.new.reserved ≡ self.old.reserved }
+        ensures fewer { self.new.drawn ≤ self.old.drawn }
+        ensures left { S.left segments.new + self.new.drawn ≡ S.left segments.old + self.old.drawn }
+        ensures room { S.room segments.new + self.old.drawn ≡ S.room segments.old + self.new.drawn }
+        ensures others { S.others segments.new ≡ S.others segments.old }
+    {
+        self.log.release_lease(segments, cell);
+    }
+}

@@ -1,0 +1,115 @@
+//! What pending puts and deletes make of a key, and of the rows of an interval.
+ghost use Rattle.std.specs.Prelude.{◌≡◌, ◌<◌, ◌≤◌, length, map, filter, fold, set, OnOk, MatchResult};
+ghost use Rattle.std.specs.List.{insert};
+ghost use Rattle.std.specs.Option.{option_copied};
+ghost use Rattle.etcd_model.specs.Interval.{is_in};
+ghost use Rattle.etcd_model.specs.Order.{put_in};
+ghost use Rattle.model_laws.specs.Recording.{by_key};
+ghost use Rattle.revision_store.specs.Pending.{is_erased, put_at, row_put_to, rows_at};
+
+use crate::plan::Write;
+use etcd_types::{CopyOf, DeleteReq, KeyValue, Mem};
+use std::alloc::Global;
+use std::cmp::Ordering;
+
+/// The row of a put that stands at a place.
+fn put_at(writes: &[Write], place: usize) -> Option<&KeyValue>
+    ensures { option_copied result ≡ put_at writes.now place }
+{
+    match writes.get(place)? {
+        Write::Put(row) => Some(row),
+        Write::Delete(_) => None,
+    }
+}
+
+/// The row that the last put of a key leaves to it.
+#[tactic(auto, using(crate::proofs::PendingRows::last_step))]
+pub(crate) fn row_put_to<'a>(
+    writes: &'a [Write],
+    places: &[usize],
+    key: &[u8],
+) -> Option<&'a KeyValue>
+    ensures { option_copied result ≡ row_put_to key.now (rows_at writes.now places.now) }
+{
+    let mut found = None;
+    for place in places {
+        match put_at(writes, *place) {
+            Some(row) if row.key.as_slice() == key => found = Some(row),
+            _ => {}
+        }
+    }
+    found
+}
+
+/// Whether a key lies in an interval.
+fn is_in(key: &[u8], range_end: &[u8], candidate: &[u8]) -> bool
+    ensures { result ≡ is_in key.now range_end.now candidate.now }
+{
+    match range_end {
+        [] => candidate == key,
+        _ => {
+            key.cmp(candidate).is_le()
+                && (range_end == [0].as_slice() || candidate.cmp(range_end).is_lt())
+        }
+    }
+}
+
+/// Whether it lies in one that is deleted.
+pub(crate) fn lies_erased(deletes: &[&DeleteReq], key: &[u8]) -> bool
+    ensures { result ≡ is_erased (map (λ d. d.now) deletes.now) key.now }
+{
+    for delete in deletes {
+        if is_in(delete.key.as_slice(), delete.range_end.as_slice(), key) {
+            return true;
+        }
+    }
+    false
+}
+
+/// Where a row stands among rows that ascend, or where it is to stand.
+fn place_of(rows: &[KeyValue], row: &KeyValue) -> Result<usize, usize>
+    ensures within { MatchResult result (λ i. i < length rows.now) (λ i. i ≤ length rows.now) }
+    ensures place { MatchResult result (λ i. put_in by_key rows.now row.now ≡ set rows.now i row.now) (λ i. put_in by_key rows.now row.now ≡ insert rows.now i row.now) }
+{
+    for (index, other) in rows.iter().enumerate() {
+        match row.key.as_slice().cmp(other.key.as_slice()) {
+            Ordering::Less => return Err(index),
+            Ordering::Equal => return Ok(index),
+            Ordering::Greater => {}
+        }
+    }
+    Err(rows.len())
+}
+
+/// Puts a row in its place among rows that ascend; one of its key gives way.
+fn put_in(rows: &mut Vec<KeyValue>, row: KeyValue) -> Mem<()>
+    ensures { OnOk result (rows.new.items ≡ put_in by_key rows.old.items row) }
+{
+    match place_of(rows, &row) {
+        Ok(place) => rows[place] = row,
+        Err(place) => rows.insert(place, row)?,
+    }
+    Ok(())
+}
+
+/// Puts the rows of the puts of an interval in their places among rows that ascend.
+pub(crate) fn put_rows(
+    alloc: Global,
+    rows: &mut Vec<KeyValue>,
+    writes: &[Write],
+    places: &[usize],
+    key: &[u8],
+    range_end: &[u8],
+) -> Mem<()>
+    ensures { OnOk result (rows.new.items ≡ fold (put_in by_key) rows.old.items (filter (λ row. is_in key.now range_end.now row.key) (rows_at writes.now places.now))) }
+{
+    for place in places {
+        match put_at(writes, *place) {
+            Some(row) if is_in(key, range_end, row.key.as_slice()) => {
+                put_in(rows, row.copy_of(alloc)?)?;
+            }
+            _ => {}
+        }
+    }
+    Ok(())
+}
