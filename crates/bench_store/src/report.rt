@@ -1,0 +1,101 @@
+//! What is measured, and what is said of it.
+ghost use Rattle.std.specs.Prelude.{◌<◌};
+
+use crate::compacting::time_of_drop;
+use crate::filled::Filled;
+use crate::getting::Getting;
+use crate::keys::Keys;
+use crate::putting::Putting;
+use crate::ranging::Ranging;
+use anyhow::Result;
+use bench_measure::{print_heading, print_times};
+use std::alloc::Global;
+use std::time::CpuClock;
+
+const GET: &str = "get a key";
+
+const RANGE: &str = "get a range of 100 keys";
+
+const OVERWRITE: &str = "overwrite a key";
+
+const NEW: &str = "put a new key";
+
+const COMPACT: &str = "compact, for each record that is dropped";
+
+/// Keys and lengths of their values. More keys with the longer values do not fit into a store.
+const SIZES: [(u32, usize); 5] = [
+    (1_000, 32),
+    (30_000, 32),
+    (300_000, 32),
+    (1_000, 100),
+    (30_000, 100),
+];
+
+/// Says what can be measured.
+pub(crate) fn say_what(rt: &impl Print) -> Result<()> {
+    println!(rt; "usage: bench_store measure")?;
+    println!(rt; "It times these, by a store and by a map of vectors:")?;
+    for name in [GET, RANGE, OVERWRITE, NEW] {
+        println!(rt; "  {name}")?;
+    }
+    println!(rt; "and by a store alone:")?;
+    println!(rt; "  {COMPACT}")?;
+    println!(rt; "each with so many keys of 16 bytes and their values:")?;
+    for (count, value_len) in SIZES {
+        println!(rt; "  {count} with values of {value_len} bytes")?;
+    }
+    Ok(())
+}
+
+/// Measures all, and prints a line for each.
+pub(crate) fn measure_all(rt: &(impl Print + CpuClock + Alloc<A = Global>)) -> Result<()> {
+    for (count, value_len) in SIZES {
+        println!(rt; "{count} keys of 16 bytes with values of {value_len} bytes")?;
+        print_heading(rt, "store", "map")?;
+        if 0 < count {
+            measure_size(rt, Keys { count, value_len })?;
+        }
+    }
+    Ok(())
+}
+
+/// Measures all at one size.
+fn measure_size(rt: &(impl Print + CpuClock + Alloc<A = Global>), keys: Keys) -> Result<()> {
+    let alloc = rt.alloc();
+    let mut filled = Filled::new(alloc, keys)?;
+    measure_reading(rt, keys, &filled)?;
+    let turns = (keys.count / 50).clamp(1, 1_000);
+    let puts = keys.puts(alloc, 10 * turns)?;
+    print_times(rt, OVERWRITE, &mut Putting::new(&mut filled, &puts), turns)?;
+    let puts = keys.new_puts(alloc, 10 * turns)?;
+    print_times(rt, NEW, &mut Putting::new(&mut filled, &puts), turns)?;
+    measure_compacting(rt, keys, &mut filled)
+}
+
+fn measure_reading(
+    rt: &(impl Print + CpuClock + Alloc<A = Global>),
+    keys: Keys,
+    filled: &Filled,
+) -> Result<()> {
+    let alloc = rt.alloc();
+    let gets = keys.gets(alloc, keys.count.min(10_000))?;
+    print_times(rt, GET, &mut Getting::new(filled, &gets), 10_000)?;
+    let ranges = keys.ranges(alloc, 500)?;
+    print_times(rt, RANGE, &mut Ranging::new(filled, &ranges), 500)
+}
+
+/// Measures a compaction that drops half as many records as there are keys.
+fn measure_compacting(
+    rt: &(impl Print + CpuClock + Alloc<A = Global>),
+    keys: Keys,
+    filled: &mut Filled,
+) -> Result<()> {
+    let alloc = rt.alloc();
+    let puts = keys.puts(alloc, keys.count / 2)?;
+    if puts.is_empty() {
+        return Ok(());
+    }
+    let time = time_of_drop(rt, alloc, &mut filled.tenant, &puts)?;
+    println!(rt; "{COMPACT:<40}{time:>12}")?;
+    Ok(())
+}
