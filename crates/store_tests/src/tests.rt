@@ -22,7 +22,7 @@ use told::text_of;
 /// Segments of a store over cells, and steps by chance that are taken.
 const SEGMENTS: u32 = 16;
 
-const STEPS: u32 = 400;
+const STEPS: u32 = 4000;
 
 /// What a store answers to a step, as text.
 fn told_by<S: Answers>(alloc: Global, store: &mut S, step: &Step) -> Mem<String> {
@@ -79,6 +79,22 @@ fn assert_same<S: Answers>(
     Ok(())
 }
 
+/// Both stores keep as many changes from a revision on.
+fn assert_same_kept<S: Answers>(
+    rt: &impl Abort,
+    alloc: Global,
+    plain: &PlainStore,
+    store: &S,
+    revision: u64,
+) -> Mem<()> {
+    assert_eq!(rt;
+        store.kept_since(alloc, revision)?,
+        plain.kept_since(alloc, revision)?,
+        "{revision}"
+    );
+    Ok(())
+}
+
 /// A new store answers steps by chance as the plain one does.
 fn assert_agrees<S: Answers + Drop>(rt: &impl Abort, alloc: Global, mut store: S) -> Mem<()> {
     let mut plain = PlainStore::new(alloc, 1);
@@ -93,6 +109,7 @@ fn assert_agrees<S: Answers + Drop>(rt: &impl Abort, alloc: Global, mut store: S
             &mut store,
             random.step(alloc, current)?,
         )?;
+        assert_same_kept(rt, alloc, &plain, &store, current.saturating_sub(9))?;
     }
     Ok(())
 }

@@ -9,6 +9,9 @@ use std::alloc::Global;
 pub(super) trait Answers {
     /// Takes a step, and says what it is answered.
     fn answer(&mut self, alloc: Global, step: &Step) -> Mem<Told>;
+
+    /// How many changes it keeps at revisions from this one on.
+    fn kept_since(&self, alloc: Global, revision: u64) -> Mem<usize>;
 }
 
 impl Answers for PlainStore {
@@ -27,5 +30,9 @@ impl Answers for PlainStore {
             }
             _ => Ok(Told::NotDone),
         }
+    }
+
+    fn kept_since(&self, alloc: Global, revision: u64) -> Mem<usize> {
+        Ok(self.since(alloc, revision)?.as_slice().len())
     }
 }

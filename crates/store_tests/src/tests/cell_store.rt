@@ -74,4 +74,8 @@ impl<S: Segments + Drop> Answers for CellStore<S> {
             _ => Ok(Told::NotDone),
         }
     }
+
+    fn kept_since(&self, _alloc: Global, revision: u64) -> Mem<usize> {
+        Ok(self.store.since(revision).len())
+    }
 }
