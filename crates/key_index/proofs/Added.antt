@@ -248,9 +248,6 @@ pub record AreAdded (m : Cells) (heads : List ℕ) : Type 0 where
   pub chained : IsChained m
 
 module _ (m : Cells) (cell : ℕ) (placed : IsPlaced m cell) where
-  e0 : Entry
-  e0 = placed.here.0
-
   module _ (link : Option ℕ) where
     abbrev e1 : Entry
     e1 = with_older link placed.here.0

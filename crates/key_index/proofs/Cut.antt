@@ -23,9 +23,6 @@ walk_start m revision head n = record {
 }
 
 module _ (m : Cells) (key : List ℕ) (revision head : ℕ) (chained : IsChained m) where
-  pub walk_done : (end : Option ℕ) → IsWalking m key revision head end None → CutsAt m key revision head end None
-  walk_done end w = record { first_gone = λ b g has same. inl (omega (arith, w.above b g has same)); last_kept = w.linked }
-
   module _ (end : Option ℕ) (c : ℕ) (w : IsWalking m key revision head end (Some c)) where
     e : Entry
     e = w.above.0

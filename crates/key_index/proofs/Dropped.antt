@@ -20,21 +20,6 @@ abbrev pub left : Cells → Option ℕ → ℕ
 left cells None = 0
 left cells (Some c) = suc (revision_at cells c)
 
-pub nothing_yet : (m : Cells) (c : ℕ) (e : Entry) → m c ≡ Some e → Dropping m m e.change.key e.change.revision (Some c)
-nothing_yet m c e at = (
-  e,
-  record {
-    at = at;
-    of_key = refl;
-    below = omega arith;
-    between = record {
-      gone = λ b g has key low top. absurd (omega arith);
-      kept = λ b g has. (has, λ key. elim (cases_lt e.change.revision g.change.revision) [ inl h ↦ inr h | inr h ↦ inl h ]);
-      stays = λ b g has _. has;
-    };
-  },
-)
-
 module _ (m n : Cells) (key : List ℕ) (top c : ℕ) (e : Entry) (chained : IsChained m) (next : IsNext m n key top c e) where
   -- it is still there
   pub still : n c ≡ Some e

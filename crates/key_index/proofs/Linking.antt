@@ -3,7 +3,7 @@ use Rattle.std.proofs.Common.{◌≡◌, ℕ, zero, suc, [], ◌∷◌, ◌+◌,
 use mathlib.Core.Path.{fun_ext}
 use Rattle.std.proofs.lemmas.Bool.{cases_eq}
 use Rattle.std.proofs.lemmas.List.Sums.{sum_by-cons}
-use Rattle.key_index.specs.Entries.{linked, without, with_older}
+use Rattle.key_index.specs.Entries.{linked, with_older}
 use Rattle.key_index.proofs.Links.{if_same, if_other}
 use Rattle.key_index.specs.declared.record_list.Record.{Record}
 use Rattle.key_index.specs.Listed.{entry_of, cells_of, empty_cell, empty_places}
@@ -16,13 +16,6 @@ set_linked items c r o lt at = fun_ext (λ b. elim (cases_eq b c) [
       ∙ sym (if_same c (option_map (with_older o) (cells_of items c)) (cells_of items c) ∙ ap (λ (e : Option Record). option_map (with_older o) (option_map entry_of e)) at))
   | inr differs ↦ ap (option_map entry_of) (get_or-set_other items c b (Some (record r { older = o })) None differs)
       ∙ sym (if_other b c (option_map (with_older o) (cells_of items b)) (cells_of items b) differs)
-])
-
-pub set_without : (items : List (Option Record)) (c : ℕ) → c < length items → cells_of (set items c None) ≡ without (cells_of items) c
-set_without items c lt = fun_ext (λ b. elim (cases_eq b c) [
-  | inl same ↦ subst (λ (x : ℕ). cells_of (set items c None) x ≡ without (cells_of items) c x) (sym same)
-      (ap (option_map entry_of) (get_or-set_same items c None None lt) ∙ sym (if_same c None (cells_of items c)))
-  | inr differs ↦ ap (option_map entry_of) (get_or-set_other items c b None None differs) ∙ sym (if_other b c None (cells_of items b) differs)
 ])
 
 -- a place with a record is in the list

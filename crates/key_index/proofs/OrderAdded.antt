@@ -1,21 +1,19 @@
 -- One record more, after all others.
 use Rattle.std.proofs.Common.{◌≡◌, ◌≢◌, ℕ, ◌+◌, ◌<◌, ◌≤◌, List, [], ◌∷◌, ◌++◌, get_or, Option, Some, None, is_some, option_map, true, false, sym, ap, ◌∙◌, refl, subst, arith, inl, inr}
 use mathlib.Core.Path.{fun_ext}
-use Rattle.std.specs.Prelude.{sum_by}
 use Rattle.std.specs.List.{All, AllByRecursion, cons_option}
 use Rattle.std.proofs.lemmas.Bool.{cases_eq}
 use Rattle.std.proofs.lemmas.List.Elements.{All-head, All-tail, All-push, filter_map-append}
-use Rattle.std.proofs.lemmas.List.Sums.{sum_by_push}
 use Rattle.etcd_model.specs.Changes.{Recorded, Rises}
 use Rattle.model_laws.proofs.HeldLaws.{rises_push}
 use Rattle.model_laws.proofs.LastIsLaws.{all_in}
 use Rattle.key_index.specs.Entries.{Cells, Entry, change_at, without, IsPlaced, SameChanges}
-use Rattle.key_index.specs.Compaction.{held, times}
+use Rattle.key_index.specs.Compaction.{times}
 use Rattle.key_index.specs.Order.{AreAll, IsInOrder, changes_in, with_record}
 use Rattle.key_index.proofs.Links.{if_same, if_other, one_entry}
 use Rattle.key_index.proofs.Compacted.{change_some, entry_some}
 use Rattle.key_index.proofs.Times.{times_push_here, times_push_other, times_none}
-use Rattle.key_index.proofs.Order.{all_from_each, which, change_in, cell_in, held_is}
+use Rattle.key_index.proofs.Order.{all_from_each, which, change_in, cell_in}
 
 -- ---- what holds of each record, and of each change in order
 
@@ -101,10 +99,3 @@ module _ (old new : Cells) (c : ℕ) (e : Entry) (fresh : old c ≡ None) (same 
     -- in order, where no other is of a later revision
     pub in_order_added : IsInOrder old order → AllByRecursion (λ x. x.revision ≤ e.change.revision) (changes_in old order) → IsInOrder new (order ++ c ∷ [])
     in_order_added rises up = subst Rises (sym changes_added) (rises_push (changes_in old order) e.change rises up)
-
-    -- and costs what it costs
-    pub held_added : (cost : Recorded → ℕ) → held cost new (order ++ c ∷ []) ≡ held cost old order + cost e.change
-    held_added cost =
-        let now = held_is cost new (order ++ c ∷ []) in
-        let sum = ap (sum_by cost) changes_added in
-        omega (arith, now, sum, sum_by_push cost (changes_in old order) e.change, held_is cost old order)

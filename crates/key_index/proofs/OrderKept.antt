@@ -1,10 +1,9 @@
 -- What a compaction leaves of the cells of all records.
-use Rattle.std.proofs.Common.{◌≡◌, ℕ, ◌+◌, ◌<◌, ◌≤◌, List, [], ◌∷◌, length, Option, Some, is_some, true, sym, ap, ◌∙◌, refl, subst, arith, inl, inr, ◌⊎◌}
+use Rattle.std.proofs.Common.{◌≡◌, ℕ, ◌+◌, ◌<◌, ◌≤◌, List, [], ◌∷◌, Option, Some, is_some, true, sym, ap, ◌∙◌, refl, subst, arith, inl, inr, ◌⊎◌}
 use Rattle.std.specs.Prelude.{sum_by}
 use Rattle.std.specs.List.{All, AllByRecursion}
 use Rattle.std.proofs.lemmas.Bool.{cases_lt}
 use Rattle.std.proofs.lemmas.List.Elements.{All-head, All-tail, filter_passes}
-use Rattle.std.proofs.lemmas.List.Sums.{length-filter, count_by-le-length}
 use Rattle.etcd_model.specs.Changes.{Recorded, Rises, keeps, kept}
 use Rattle.model_laws.proofs.LastLaws.{true_or_false, some_or_none}
 use Rattle.model_laws.proofs.LastIsLaws.{all_in}
@@ -31,13 +30,6 @@ changes_left cells (c ∷ cs) =
           ap (changes_in cells) (filter_yes (λ x. is_some (cells x)) c cs (ap is_some e.1))
           ∙ changes_some cells c e.0 (with_records cells cs) e.1 ∙ ap (λ (xs : List Recorded). e.0.change ∷ xs) rest ∙ sym (changes_some cells c e.0 cs e.1)
     ]
-
--- and costs nothing
-pub held_left : (cost : Recorded → ℕ) (cells : Cells) (cs : List ℕ) → held cost cells (with_records cells cs) ≡ held cost cells cs
-held_left cost cells cs = held_is cost cells (with_records cells cs) ∙ ap (sum_by cost) (changes_left cells cs) ∙ sym (held_is cost cells cs)
-
-pub length_left : (cells : Cells) (cs : List ℕ) → length (with_records cells cs) ≤ length cs
-length_left cells cs = omega (arith, length-filter (λ c. is_some (cells c)) cs, count_by-le-length (λ c. is_some (cells c)) cs)
 
 -- ---- the end of an order
 

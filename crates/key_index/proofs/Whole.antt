@@ -1,5 +1,5 @@
 -- All chains, one after another.
-use Rattle.std.proofs.Common.{◌≡◌, ◌≢◌, ℕ, zero, suc, ◌+◌, ◌-◌, ◌<◌, ◌≤◌, List, [], ◌∷◌, ◌++◌, length, get_or, set, take, drop, Option, Some, Bool, true, false, sym, ap, ◌∙◌, refl, subst, arith, inl, inr, ◌⊎◌, append_assoc, append-nil, get_or-set_other}
+use Rattle.std.proofs.Common.{◌≡◌, ◌≢◌, ℕ, suc, ◌+◌, ◌-◌, ◌<◌, ◌≤◌, List, [], ◌∷◌, ◌++◌, length, get_or, set, take, drop, Option, Some, Bool, true, false, sym, ap, ◌∙◌, refl, subst, arith, inl, inr, ◌⊎◌, append_assoc, get_or-set_other}
 use Rattle.std.specs.declared.cmp.Ordering.TheVariants.{Less}
 use Rattle.std.specs.List.{insert}
 use Rattle.std.specs.Str.{bytes_eq}
@@ -324,21 +324,7 @@ going_start m heads revision index = record {
   so_far = so_far_start m heads revision;
 }
 
-drop_none : (i : ℕ) (xs : List ℕ) → length xs ≤ i → drop i xs ≡ []
-drop_none zero [] le = refl
-drop_none (suc i) [] le = refl
-drop_none zero (x ∷ xs) le = absurd (omega (arith, le))
-drop_none (suc i) (x ∷ xs) le = drop_none i xs (omega (arith, le))
-
 module _ (m now : Cells) (heads xs : List ℕ) (revision k i : ℕ) (index : IsIndexOf m heads) (same_length : length xs ≡ length heads) (going : IsGoing m now heads xs revision k i) where
-  pub going_within : i ≤ length heads → k ≤ length heads
-  going_within le = omega (arith, le, going.front)
-
-  pub going_index : length heads ≤ i → IsIndexOf now (take k xs)
-  going_index all =
-      let none : drop i xs ≡ [] = drop_none i xs (omega (arith, all, same_length)) in
-      subst (IsIndexOf now) (ap (λ (ys : List ℕ). take k xs ++ ys) none ∙ append-nil (take k xs)) going.part
-
   pub going_compacted : length heads ≤ i → IsCompacted m now revision
   going_compacted all = so_far_done m now heads revision index i all going.so_far
 

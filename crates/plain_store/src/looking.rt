@@ -7,6 +7,7 @@ ghost use Rattle.etcd_model.specs.Interval.{is_in};
 use crate::order::{ByBytes, in_order};
 use crate::recorded::Recorded;
 use etcd_types::{CopyOf, KeyValue, List, Mem};
+use request_checks::is_in;
 use std::alloc::Global;
 
 /// The last change of a key up to a revision.
@@ -42,17 +43,6 @@ fn keys(alloc: Global, changes: &[Recorded]) -> Mem<Vec<List<u8>>>
     ensures { IfOk result (λ found. found.items ≡ keys changes.now) }
 {
     in_order(alloc, &ByBytes, &changed_keys(alloc, changes)?)
-}
-
-/// Whether a key is in the interval from `key` up to `range_end`.
-fn is_in(key: &[u8], range_end: &[u8], candidate: &[u8]) -> bool
-    ensures { result ≡ is_in key.now range_end.now candidate.now }
-{
-    match range_end {
-        [] => candidate == key,
-        _ => key.cmp(candidate).is_le()
-            && (range_end == [0].as_slice() || candidate.cmp(range_end).is_lt()),
-    }
 }
 
 /// The rows of the keys of an interval that are live at a revision, in byte order.

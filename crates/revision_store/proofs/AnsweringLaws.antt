@@ -11,7 +11,7 @@ use Rattle.std.proofs.lemmas.List.Kept.{IsStrictlySortedBy-filter}
 use Rattle.etcd_types.specs.declared.key_value.KeyValue.{KeyValue}
 use Rattle.etcd_types.specs.declared.kv.RangeReq.{RangeReq}
 use Rattle.etcd_model.specs.Order.{in_order}
-use Rattle.etcd_model.specs.Ranges.{Found, is_wanted, row_cmp, limited, without_value, found}
+use Rattle.etcd_model.specs.Ranges.{is_wanted, row_cmp, limited, without_value, found}
 use Rattle.model_laws.specs.Recording.{by_key}
 use Rattle.revision_store.specs.Answering.{IsLimit, SaysMore, given, is_by_key, shown}
 use Rattle.revision_store.proofs.SortingRows.{length_rows, rows_in_order}
@@ -82,6 +82,3 @@ pub says_more : (q : RangeReq) (wanted n : ℕ) → q.count_only ≡ false → I
 says_more q wanted n h limit all up e =
     let few : length (filter (is_wanted q) all) ≤ wanted = omega (arith, e) in
     sym (found_more q all wanted n h up limit few ∙ ap (nat_lt n) e)
-
-pub says_counted : (q : RangeReq) (wanted : ℕ) → q.count_only ≡ true → SaysMore q wanted false
-says_counted q wanted h all up e = sym (ap (λ (f : Found). f.more) (found_counted q all h))

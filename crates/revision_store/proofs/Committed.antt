@@ -106,6 +106,10 @@ pub some_deletes : (heads : List ℕ) → 0 < length heads → (length (deletes 
 some_deletes [] some = absurd (omega (arith, some))
 some_deletes (c ∷ cs) some = ne_eqb (length (deletes (c ∷ cs))) 0 (λ none. absurd (omega (arith, none)))
 
+-- a plan for a store, as its parts see both
+pub plan_inside : (inside store : StoreState) (writes plan : List Write) → inside ≡ store → writes ≡ plan → IsPlanFor store plan → IsPlanFor inside writes
+plan_inside inside store writes plan same is h = subst (IsPlanFor inside) (sym is) (subst (λ s. IsPlanFor s plan) (sym same) h)
+
 -- what a log is after the plan's revision
 pub kept_after : (store : StoreState) (new : LogState) (compacted : ℕ) (writes : List Write) → IsPlanFor store writes → AllByRecursion (λ x. x.revision ≤ store.kept.current) store.kept.changes → AllByRecursion HasNumbers store.kept.changes
     → compacted ≤ store.kept.current → store.kept.current + 1 < 2 ^ 63 → new.changes ≡ store.kept.changes ++ map (recorded_in (cells store) (store.kept.current + 1)) writes → IsKept new (store.kept.current + 1) compacted

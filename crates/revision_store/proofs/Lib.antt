@@ -7,6 +7,7 @@ pub mod Counted
 pub mod Logged
 pub mod ReadingCells
 pub mod ReadingRows
+pub mod ComparingReads
 pub mod Costs
 pub mod Walked
 pub mod SortingLaws
@@ -20,3 +21,4 @@ pub mod PendingReads
 pub mod PendingPuts
 pub mod PendingDeletes
 pub mod PendingRows
+pub mod Grown

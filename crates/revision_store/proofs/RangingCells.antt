@@ -1,13 +1,15 @@
 -- The rows under some cells.
 use Rattle.std.proofs.Common.{◌≡◌, ℕ, zero, suc, List, [], ◌∷◌, length, take, map, Option, Some, None, IsSome, Bool, true, false, refl, sym, ap, ◌∙◌, cond, subst, arith}
-use Rattle.std.specs.Prelude.{filter, filter_map, option_map}
+use Rattle.std.specs.Prelude.{◌&&◌, ◌||◌, pos, int_le, filter, filter_map, option_map}
 use Rattle.std.specs.List.{AllByRecursion, cons_option}
+use Rattle.std.specs.Ordering.{int_eq}
+use Rattle.std.proofs.lemmas.Bool.{true≢false}
 use Rattle.etcd_types.specs.declared.key_value.KeyValue.{KeyValue}
 use Rattle.etcd_types.specs.declared.kv.RangeReq.{RangeReq}
 use Rattle.std.specs.List.Sorted.{IsStrictlySortedBy}
 use Rattle.etcd_model.specs.Ranges.{is_wanted}
 use Rattle.model_laws.specs.Recording.{by_key}
-use Rattle.revision_store.specs.Answering.{IsLimit, given, is_by_key}
+use Rattle.revision_store.specs.Answering.{IsLimit, given, is_by_key, wants_all}
 use Rattle.revision_store.specs.Ranging.{passes}
 use Rattle.revision_store.proofs.AnsweringLaws.{given_taken, sorted-take}
 
@@ -51,11 +53,6 @@ module _ {X : Type 0} (look : ℕ → Option X) where
       by None h = let bad : ⊥ = cc in absurd bad
       by (Some x) h = refl
 
-  pub all_show-take : (n : ℕ) (cs : List ℕ) → AllShow cs → AllShow (take n cs)
-  all_show-take zero cs all = tt
-  all_show-take (suc n) [] all = tt
-  all_show-take (suc n) (c ∷ cs) all = (all.0, all_show-take n cs all.1)
-
   pub all_show-filter : (p : ℕ → Bool) (cs : List ℕ) → AllShow cs → AllShow (filter p cs)
   all_show-filter p [] all = tt
   all_show-filter p (c ∷ cs) all = elim (p c) as (λ b. AllShow (cond b (c ∷ filter p cs) (filter p cs))) [
@@ -87,6 +84,24 @@ wanted_rows look q (c ∷ cs) =
     by : (o : Option KeyValue) → cond (passes q o) (cons_option o (filter (is_wanted q) (filter_map look cs))) (filter (is_wanted q) (filter_map look cs)) ≡ filter (is_wanted q) (cons_option o (filter_map look cs))
     by None = refl
     by (Some row) = refl
+
+-- with no filter all do
+pub all_pass : (look : ℕ → Option KeyValue) (q : RangeReq) (cs : List ℕ) → AllShow look cs → wants_all q ≡ true → filter (λ c. passes q (look c)) cs ≡ cs
+all_pass look q [] all h = refl
+all_pass look q (c ∷ cs) all h = ap (λ b. cond b (c ∷ filter (λ d. passes q (look d)) cs) (filter (λ d. passes q (look d)) cs)) (by (look c) all.0) ∙ ap (λ ds. c ∷ ds) (all_pass look q cs all.1 h)
+  where
+    no_bound : (a b c d w x y z : Bool) → (a && b && c && d) ≡ true → (((a || w) && (b || x)) && ((c || y) && (d || z))) ≡ true
+    no_bound true true true true w x y z e = refl
+    no_bound true true true false w x y z e = absurd (true≢false (sym e))
+    no_bound true true false d w x y z e = absurd (true≢false (sym e))
+    no_bound true false c d w x y z e = absurd (true≢false (sym e))
+    no_bound false b c d w x y z e = absurd (true≢false (sym e))
+
+    by : (o : Option KeyValue) → IsSome o → passes q o ≡ true
+    by None e = let bad : ⊥ = cc in absurd bad
+    by (Some row) e =
+        no_bound (int_eq q.min_mod_revision (pos 0)) (int_eq q.max_mod_revision (pos 0)) (int_eq q.min_create_revision (pos 0)) (int_eq q.max_create_revision (pos 0))
+        (int_le q.min_mod_revision (pos row.mod_revision)) (int_le (pos row.mod_revision) q.max_mod_revision) (int_le q.min_create_revision (pos row.create_revision)) (int_le (pos row.create_revision) q.max_create_revision) h
 
 -- ---- those that are read
 

@@ -178,7 +178,7 @@ module _ (cells : Cells) (heads order : List ℕ) (index : IsIndexOf cells heads
       (λ key. row_found (changes_in cells order) owned r key ∙ sym (find-rows look own_look key head_keys keys_rise (absent key)))
 
   -- what the heads of a span show are the rows of its interval
-  rows_of_span : (key end : List ℕ) (from to : ℕ) → IsSpan cells heads key end from to → shown look cells (take (to - from) (drop from heads)) ≡ rows (is_in key end) r (changes_in cells order)
+  pub rows_of_span : (key end : List ℕ) (from to : ℕ) → IsSpan cells heads key end from to → shown look cells (take (to - from) (drop from heads)) ≡ rows (is_in key end) r (changes_in cells order)
   rows_of_span key end from to span =
       ap (filter_map look) (sym (filter_span (is_in key end) (key_at cells) heads from (to - from) (omega (arith, span.ordered, span.in_range)) (λ i lt. (
       let n = index.newest i lt in

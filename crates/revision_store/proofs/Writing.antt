@@ -19,24 +19,11 @@ change_there cells c some = by_case (cells c) some
     by_case None some = absurd (cc)
     by_case (Some e) some = (e.change, refl)
 
-some_from_change : (cells : Cells) (c : ℕ) (x : Recorded) → change_at cells c ≡ Some x → IsSome (cells c)
-some_from_change cells c x is = by_case (cells c) is
-  where
-    by_case : (o : Option Entry) → option_map (λ e. e.change) o ≡ Some x → IsSome o
-    by_case None is = absurd (cc)
-    by_case (Some e) is = refl
-
 -- a write says the same while all changes stay
 pub key_stays : (old new : Cells) (c : ℕ) → AllStay old new → IsSome (old c) → key_at new c ≡ key_at old c
 key_stays old new c stay some =
     let there = change_there old c some in
     ap (λ o. unwrap_or (option_map (λ (x : Recorded). x.key) o) []) (stay c there.0 there.1 ∙ sym there.1)
-
-pub of_stays : (old new : Cells) (revision : ℕ) (write : Write) → AllStay old new → IsOf old revision write → IsOf new revision write
-of_stays old new revision (Put row) stay of = of
-of_stays old new revision (Delete c) stay of =
-    let there = change_there old c of in
-    some_from_change new c there.0 (stay c there.0 there.1)
 
 pub recorded_stays : (old new : Cells) (revision : ℕ) (write : Write) → AllStay old new → IsOf old revision write → recorded_in new revision write ≡ recorded_in old revision write
 recorded_stays old new revision (Put row) stay of = refl

@@ -1,6 +1,7 @@
 -- What a range gives of the rows of its interval, in steps.
-use Rattle.std.specs.Prelude.{◌≡◌, ℕ, ◌≤◌, Bool, true, false, List, length, map, filter, take, if◌then◌else◌}
+use Rattle.std.specs.Prelude.{◌≡◌, ℕ, ◌≤◌, ◌&&◌, pos, Bool, true, false, List, length, map, filter, take, if◌then◌else◌}
 use Rattle.std.specs.List.Sorted.{IsStrictlySortedBy}
+use Rattle.std.specs.Ordering.{int_eq}
 use Rattle.etcd_types.specs.declared.key_value.KeyValue.{KeyValue}
 use Rattle.etcd_types.specs.declared.kv.RangeReq.{RangeReq}
 use Rattle.etcd_types.specs.declared.kv.SortOrder.{SortOrder}
@@ -14,6 +15,10 @@ use Rattle.model_laws.specs.Recording.{by_key}
 -- b says whether a row of these revisions passes the filters
 abbrev pub SaysWanted : RangeReq → ℕ → ℕ → Bool → Type 0
 SaysWanted q create_revision mod_revision b = (row : KeyValue) → row.create_revision ≡ create_revision → row.mod_revision ≡ mod_revision → b ≡ is_wanted q row
+
+-- it has no filter
+abbrev pub wants_all : RangeReq → Bool
+wants_all q = int_eq q.min_mod_revision (pos 0) && int_eq q.max_mod_revision (pos 0) && int_eq q.min_create_revision (pos 0) && int_eq q.max_create_revision (pos 0)
 
 -- the order is that of ascending keys
 abbrev pub ascends_by_key : SortOrder → SortTarget → Bool

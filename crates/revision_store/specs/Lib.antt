@@ -8,3 +8,4 @@ pub mod Appending
 pub mod Answering
 pub mod Pending
 pub mod Ranging
+pub mod Comparing

@@ -1,5 +1,5 @@
 -- Changes that are pending over a store, as reads find them: the last that touches a key says what it is.
-use Rattle.std.specs.Prelude.{◌≡◌, ℕ, ◌+◌, ◌<◌, ◌^◌, ◌&&◌, ◌||◌, ◌⊎◌, ℤ, pos, Bool, not, List, [], length, filter, filter_map, option_and_then, option_map, Option, Some, None, IsSome, slice_get, if◌then◌else◌, refl}
+use Rattle.std.specs.Prelude.{◌≡◌, ℕ, ◌+◌, ◌*◌, ◌<◌, ◌^◌, ◌&&◌, ◌||◌, ◌⊎◌, ℤ, pos, Bool, not, List, [], length, filter, filter_map, option_and_then, option_map, Option, Some, None, IsSome, slice_get, if◌then◌else◌, refl}
 use mathlib.Core.Logic.{inl, inr}
 use Rattle.std.specs.List.{AllByRecursion, list_any}
 use Rattle.std.specs.Option.{option_or}
@@ -19,7 +19,7 @@ use Rattle.etcd_model.specs.Changes.{created_at, version_of, last_by, live}
 use Rattle.etcd_model.specs.Operations.{changes, op_refusal, kept_value, kept_lease}
 use Rattle.etcd_model.specs.Ranges.{without_value}
 use Rattle.etcd_model.specs.Reads.{Reads}
-use Rattle.etcd_model.specs.Store.{IsStore}
+use Rattle.etcd_model.specs.Store.{IsStore, record_cells}
 use Rattle.model_laws.specs.Numbers.{HasNumbers}
 use Rattle.revision_store.specs.Codes.{bytes_code}
 use Rattle.revision_store.specs.Stored.{StoreState, store_code, IsPlanFor, changes_of, look, reads, row_at}
@@ -107,11 +107,13 @@ left_cells cells deletes cs = filter (λ c. not (is_erased deletes (key_at cells
 
 -- ---- invariants
 
--- a store as appends and compactions make it, with numbers that are within its revisions
+-- a store as appends and compactions make it, with numbers that are within its revisions, each cell of which is free
+-- or of a change or a lease
 pub record IsSound (store : StoreState) : Type 0 where
   pub kept : IsStore store.kept
   pub numbers : AllByRecursion HasNumbers store.kept.changes
   pub short : store.kept.current < 2 ^ 63
+  pub space : store.free + record_cells store.kept.changes + store.lease_cells ≡ 64 * store.reserved
 
 -- writes that can be the next revision of a store, and all that touches a key among them
 pub record IsPending (store : StoreState) (writes : List Write) (places : List ℕ) (deletes : List DeleteReq) : Type 0 where

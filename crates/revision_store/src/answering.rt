@@ -3,7 +3,7 @@ ghost use Rattle.std.specs.Prelude.{◌≡◌, ◌≤◌, map, pos};
 ghost use Rattle.std.specs.List.Sorted.{IsStrictlySortedBy};
 ghost use Rattle.etcd_model.specs.Ranges.{is_within, without_value};
 ghost use Rattle.model_laws.specs.Recording.{by_key};
-ghost use Rattle.revision_store.specs.Answering.{given, is_by_key, IsLimit, SaysMore, SaysWanted};
+ghost use Rattle.revision_store.specs.Answering.{given, is_by_key, IsLimit, SaysMore, SaysWanted, wants_all};
 
 use crate::sorting::sort_rows;
 use etcd_types::{KeyValue, List, RangeReq, SortOrder, SortTarget};
@@ -25,6 +25,16 @@ pub(crate) fn is_wanted(request: &RangeReq, create_revision: u64, mod_revision: 
         request.max_create_revision,
         create_revision,
     )
+}
+
+/// The range has no filter.
+pub(crate) fn wants_all(request: &RangeReq) -> bool
+    ensures { result ≡ wants_all request.now }
+{
+    request.min_mod_revision == 0
+        && request.max_mod_revision == 0
+        && request.min_create_revision == 0
+        && request.max_create_revision == 0
 }
 
 /// A bound of 0 is none.

@@ -2,6 +2,7 @@
 #![tactic(auto)]
 
 mod answering;
+mod comparing;
 mod cutting;
 mod log;
 mod overlay;

@@ -222,10 +222,11 @@ impl Log {
         self.leases -= 1;
     }
 
-    /// Its changes are in order, and each row is of its key.
+    /// Its changes are in order, each row is of its key, and each cell is free or of a change or a lease.
     pub(crate) fn keep_in_order(&self)
         ensures rises { Rises self.now.changes }
         ensures own { AllByRecursion OwnRow self.now.changes }
+        ensures space { self.now.free + record_cells self.now.changes + self.now.lease_cells ≡ 64 * self.now.reserved }
     {
         let _ = &self.order;
     }

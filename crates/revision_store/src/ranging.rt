@@ -12,7 +12,7 @@ ghost use Rattle.revision_store.specs.Ranging.{needs_values, passes, range_answe
 ghost use Rattle.revision_store.specs.Recorded.{cells_of};
 ghost use Rattle.revision_store.specs.Stored.{reads, row_at};
 
-use crate::answering::{is_by_key, is_cut, is_wanted, limit_of, ordered};
+use crate::answering::{is_by_key, is_cut, is_wanted, limit_of, ordered, wants_all};
 use crate::log::Log;
 use crate::overlay::rows_under;
 use crate::store::Store;
@@ -36,7 +36,7 @@ impl Store {
             request.range_end.as_slice(),
             self.revision_read(request.revision),
         )?;
-        let reply = range_reply(alloc, &self.log, request, &cells, self.current())?;
+        let reply = range_reply(alloc, &self.log, request, cells, self.current())?;
         Ok(Ok(reply))
     }
 
@@ -71,13 +71,13 @@ pub(crate) fn range_reply(
     alloc: Global,
     log: &Log,
     request: &RangeReq,
-    cells: &[CellNo],
+    cells: Vec<CellNo>,
     revision: u64,
 ) -> Mem<OpReply>
-    requires rows { AreRows (cells_of log.now.records) cells.now }
-    requires ascend { IsStrictlySortedBy by_key (rows_of (cells_of log.now.records) cells.now) }
+    requires rows { AreRows (cells_of log.now.records) cells.items }
+    requires ascend { IsStrictlySortedBy by_key (rows_of (cells_of log.now.records) cells.items) }
     requires revision { revision < 2 ^ 63 }
-    ensures { IfOk result (λ reply. reply ≡ range_answer request.now revision (rows_of (cells_of log.now.records) cells.now)) }
+    ensures { IfOk result (λ reply. reply ≡ range_answer request.now revision (rows_of (cells_of log.now.records) cells.items)) }
 {
     let revision = revision as i64;
     let count = cells.len() as u64;
@@ -100,8 +100,19 @@ pub(crate) fn range_reply(
     })
 }
 
-/// Those of some cells whose rows pass the filters.
-fn wanted(alloc: Global, log: &Log, request: &RangeReq, cells: &[CellNo]) -> Mem<Vec<CellNo>>
+/// Those of some cells whose rows pass the filters. With no filter they are all, and none is looked at.
+fn wanted(alloc: Global, log: &Log, request: &RangeReq, cells: Vec<CellNo>) -> Mem<Vec<CellNo>>
+    requires { AreRows (cells_of log.now.records) cells.items }
+    ensures { IfOk result (λ found. found.items ≡ wanted_cells (cells_of log.now.records) request.now cells.items) }
+{
+    if wants_all(request) {
+        return Ok(cells);
+    }
+    passing(alloc, log, request, &cells)
+}
+
+/// The same, tried one by one.
+fn passing(alloc: Global, log: &Log, request: &RangeReq, cells: &[CellNo]) -> Mem<Vec<CellNo>>
     requires { AreRows (cells_of log.now.records) cells.now }
     ensures { IfOk result (λ found. found.items ≡ wanted_cells (cells_of log.now.records) request.now cells.now) }
 {

@@ -32,7 +32,7 @@ impl Log {
     }
 
     /// The same for the key whose newest change is under a cell.
-    fn live_of(&self, head: CellNo, revision: u64) -> Option<CellNo>
+    pub(crate) fn live_of(&self, head: CellNo, revision: u64) -> Option<CellNo>
         requires { IsNewest (cells_of self.now.records) head }
         ensures row { option_and_then (row_at (cells_of self.now.records)) result ≡ live (key_at (cells_of self.now.records) head) revision self.now.changes }
         ensures there { IfSome result (λ c. IsSome (row_at (cells_of self.now.records) c)) }

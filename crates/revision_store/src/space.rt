@@ -1,13 +1,15 @@
-//! Whether there are cells for what is to be written.
-ghost use Rattle.std.specs.Prelude.{◌≡◌, ◌+◌, ◌↔◌, IsTrue};
-ghost use Rattle.etcd_model.specs.Store.{record_cells};
-ghost use Rattle.revision_store.specs.Stored.{cells, Follows, HasSpace, IsPlanFor};
-ghost use Rattle.revision_store.specs.Plans.{cost_in};
+//! How many cells are in use, and how many a plan takes.
+ghost use Rattle.std.specs.Prelude.{◌≡◌, ◌+◌, ◌-◌, ◌≤◌, ◌^◌, ◌↔◌, min, IsTrue};
+ghost use Rattle.etcd_model.specs.Store.{after, cells as counted, record_cells};
+ghost use Rattle.revision_store.specs.Stored.{cells, changes_of, Follows, HasSpace, IsPlanFor};
+ghost use Rattle.revision_store.specs.Plans.{cost_in, growth_of};
+ghost use Rattle.revision_store.specs.Pending.{IsSound};
 
 use crate::log::Log;
 use crate::plan::{Plan, Write};
 use crate::store::Store;
-use cell_arena::CELL_BYTES;
+use etcd_types::limits::CELL_BYTES;
+use quota_alarm::{cost_delete, cost_put};
 
 impl Store {
     /// How many cells are free.
@@ -29,7 +31,7 @@ impl Store {
         requires { IsPlanFor self.now plan.now }
         ensures { IsTrue result ↔ HasSpace self.now plan.now }
     {
-        let mut left = self.free_cells() as usize;
+        let mut left = u64::from(self.free_cells());
         for write in plan.writes() {
             let cost = self.cost(write);
             if left < cost {
@@ -40,16 +42,49 @@ impl Store {
         true
     }
 
+    /// By how many cells the plan raises those that count against a quota, at most 2^64 - 1: a put takes its record,
+    /// and room for a delete of its key where that was not live; a delete takes the room that was held for it.
+    pub fn growth(&self, plan: &Plan) -> u64
+        requires { IsPlanFor self.now plan.now }
+        ensures exact { result ≡ min (counted (after self.now.kept (changes_of self.now plan.now)) - counted self.now.kept) (2 ^ 64 - 1) }
+        ensures grows { counted self.now.kept ≤ counted (after self.now.kept (changes_of self.now plan.now)) }
+        ensures sound { IsSound self.now }
+    {
+        self.keep_sound();
+        let mut growth: u64 = 0;
+        for write in plan.writes() {
+            growth = growth.saturating_add(growth_of(write));
+        }
+        growth
+    }
+
     /// How many cells a write takes.
-    fn cost(&self, write: &Write) -> usize
+    fn cost(&self, write: &Write) -> u64
         requires { Follows self.now write.now }
         ensures { result ≡ cost_in (cells self.now) write.now }
     {
-        let bytes = match write {
-            Write::Put(row) => row.key.as_slice().len() + row.value.as_slice().len(),
-            Write::Delete(cell) => self.log.region.key_len(*cell) as usize,
-        };
-        1 + bytes.div_ceil(CELL_BYTES)
+        match write {
+            Write::Put(row) => cost_put(row.key.as_slice(), row.value.as_slice()),
+            Write::Delete(cell) => {
+                1 + u64::from(self.log.region.key_len(*cell)).div_ceil(CELL_BYTES)
+            }
+        }
+    }
+}
+
+/// By how many cells a write raises those that count. A row of its first revision is of a key that was not live.
+fn growth_of(write: &Write) -> u64
+    ensures { result ≡ growth_of write.now }
+{
+    let Write::Put(row) = write else {
+        return 0;
+    };
+    let key = row.key.as_slice();
+    let record = cost_put(key, row.value.as_slice());
+    if row.create_revision == row.mod_revision {
+        record + cost_delete(key)
+    } else {
+        record
     }
 }
 

@@ -7,11 +7,12 @@ ghost use Rattle.etcd_model.specs.Stepping.{compact_refusal};
 ghost use Rattle.revision_store.specs.Recorded.{leases_of, with_lease, without_lease};
 ghost use Rattle.revision_store.specs.Stored.{cells, HasSpace, IsPlanFor, changes_of, reads};
 ghost use Rattle.revision_store.specs.Plans.{costs_in, deletes};
+ghost use Rattle.revision_store.specs.Pending.{IsSound};
 
 use crate::log::Log;
 use crate::plan::{Plan, Write};
 use cell_arena::Segments;
-use etcd_types::{CellNo, Mem};
+use etcd_types::{CellNo, Mem, Refusal};
 use std::alloc::Global;
 use std::marker::Model;
 
@@ -61,7 +62,9 @@ impl Store {
     pub fn current(&self) -> u64
         ensures current { result ≡ self.now.kept.current }
         ensures short { result < 2 ^ 63 }
+        ensures sound { IsSound self.now }
     {
+        self.keep_sound();
         self.current
     }
 
@@ -125,11 +128,24 @@ impl Store {
         revision as i64
     }
 
-    /// Whether a compaction at the revision is one: above the last one, and not above the current revision.
+    /// Whether a compaction at a revision is one that is not refused.
     pub fn may_compact(&self, revision: i64) -> bool
         ensures { result ≡ is_none (compact_refusal (reads self.now) revision) }
     {
-        revision > self.compacted as i64 && revision <= self.current as i64
+        self.compact_refusal(revision).is_none()
+    }
+
+    /// Why there is no compaction at a revision: it is not above the last one, or above the current revision.
+    pub fn compact_refusal(&self, revision: i64) -> Option<Refusal>
+        ensures { result ≡ compact_refusal (reads self.now) revision }
+    {
+        if revision <= self.compacted as i64 {
+            Some(Refusal::Compacted)
+        } else if revision > self.current as i64 {
+            Some(Refusal::Future)
+        } else {
+            None
+        }
     }
 
     /// Forgets what reads below the revision need. It gives segments back, takes no memory and cannot fail.

@@ -9,6 +9,7 @@ ghost use Rattle.revision_store.specs.Pending.{is_erased, put_at, row_put_to, ro
 
 use crate::plan::Write;
 use etcd_types::{CopyOf, DeleteReq, KeyValue, Mem};
+use request_checks::is_in;
 use std::alloc::Global;
 use std::cmp::Ordering;
 
@@ -41,20 +42,7 @@ pub(crate) fn row_put_to<'a>(
     found
 }
 
-/// Whether a key lies in an interval.
-fn is_in(key: &[u8], range_end: &[u8], candidate: &[u8]) -> bool
-    ensures { result ≡ is_in key.now range_end.now candidate.now }
-{
-    match range_end {
-        [] => candidate == key,
-        _ => {
-            key.cmp(candidate).is_le()
-                && (range_end == [0].as_slice() || candidate.cmp(range_end).is_lt())
-        }
-    }
-}
-
-/// Whether it lies in one that is deleted.
+/// Whether a key lies in an interval that is deleted.
 pub(crate) fn lies_erased(deletes: &[&DeleteReq], key: &[u8]) -> bool
     ensures { result ≡ is_erased (map (λ d. d.now) deletes.now) key.now }
 {

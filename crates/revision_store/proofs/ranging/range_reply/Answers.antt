@@ -16,31 +16,31 @@ use Rattle.revision_store.proofs.ranging.range_reply.Goals as goal
 
 pub returns-then-request : goal.returns-then-request
 returns-then-request c =
-    let rows = rows_of (cells_of c.args.log.now.records) c.args.cells.now in
-    let counted = length-filter_map (row_at (cells_of c.args.log.now.records)) c.args.cells.now c.requires.rows in
-    rw (to_z_pos w64 c.args.revision c.requires.revision, c.new.ensures) (answer_counted c.args.request.now c.args.revision rows (length c.args.cells.now) c.if-request.true (sym counted))
+    let rows = rows_of (cells_of c.args.log.now.records) c.args.cells.items in
+    let counted = length-filter_map (row_at (cells_of c.args.log.now.records)) c.args.cells.items c.requires.rows in
+    rw (to_z_pos w64 c.args.revision c.requires.revision, c.new.ensures) (answer_counted c.args.request.now c.args.revision rows c.len-count.result c.if-request.true (c.len-count.ensures ∙ c.args.cells.ok.0 ∙ sym counted))
 
 pub rows_given-requires-clause-rows : goal.rows_given-requires-clause-rows
 rows_given-requires-clause-rows c =
     let cells = cells_of c.args.log.now.records in
-    subst (AreRows cells) (sym c.in_ok-wanted.ensures) (all_show-filter (row_at cells) (λ k. passes c.args.request.now (row_at cells k)) c.args.cells.now c.requires.rows)
+    subst (AreRows cells) (sym c.in_ok-wanted.ensures) (all_show-filter (row_at cells) (λ k. passes c.args.request.now (row_at cells k)) c.args.cells.items c.requires.rows)
 
 pub rows_given-requires-clause-ascend : goal.rows_given-requires-clause-ascend
 rows_given-requires-clause-ascend c =
     let q = c.args.request.now in
     let cells = cells_of c.args.log.now.records in
-    let is = ap (rows_of cells) c.in_ok-wanted.ensures ∙ wanted_rows (row_at cells) q c.args.cells.now in
-    subst (IsStrictlySortedBy by_key) (sym is) (IsStrictlySortedBy-filter by_key (is_wanted q) (rows_of cells c.args.cells.now) c.requires.ascend)
+    let is = ap (rows_of cells) c.in_ok-wanted.ensures ∙ wanted_rows (row_at cells) q c.args.cells.items in
+    subst (IsStrictlySortedBy by_key) (sym is) (IsStrictlySortedBy-filter by_key (is_wanted q) (rows_of cells c.args.cells.items) c.requires.ascend)
 
 pub returns : goal.returns
 returns c =
     let q = c.args.request.now in
     let cells = cells_of c.args.log.now.records in
     let wanted = c.in_ok-wanted.wanted.items in
-    let is = ap (rows_of cells) c.in_ok-wanted.ensures ∙ wanted_rows (row_at cells) q c.args.cells.now in
-    let all = all_show-filter (row_at cells) (λ k. passes q (row_at cells k)) c.args.cells.now c.requires.rows in
-    let counted = length-filter_map (row_at cells) c.args.cells.now c.requires.rows in
-    let some : length (filter (is_wanted q) (rows_of cells c.args.cells.now)) ≡ length wanted = ap length (sym (wanted_rows (row_at cells) q c.args.cells.now)) ∙ length-filter_map (row_at cells) (wanted_cells cells q c.args.cells.now) all ∙ ap length (sym c.in_ok-wanted.ensures) in
-    let size : length (filter (is_wanted q) (rows_of cells c.args.cells.now)) ≡ c.len.result = omega (arith, some, c.len.ensures) in
+    let is = ap (rows_of cells) c.in_ok-wanted.ensures ∙ wanted_rows (row_at cells) q c.args.cells.items in
+    let all = all_show-filter (row_at cells) (λ k. passes q (row_at cells k)) c.args.cells.items c.requires.rows in
+    let counted = length-filter_map (row_at cells) c.args.cells.items c.requires.rows in
+    let some : length (filter (is_wanted q) (rows_of cells c.args.cells.items)) ≡ length wanted = ap length (sym (wanted_rows (row_at cells) q c.args.cells.items)) ∙ length-filter_map (row_at cells) (wanted_cells cells q c.args.cells.items) all ∙ ap length (sym c.in_ok-wanted.ensures) in
+    let size : length (filter (is_wanted q) (rows_of cells c.args.cells.items)) ≡ c.len.result = omega (arith, some, c.len.ensures) in
     rw (to_z_pos w64 c.args.revision c.requires.revision)
-    (answer_given q c.args.revision (rows_of cells c.args.cells.now) c.in_ok-kvs.kvs (length c.args.cells.now) c.len.result c.is_cut-more.result c.if-request.false c.requires.ascend (sym counted) size c.is_cut-more.ensures (c.in_ok-kvs.ensures ∙ ap (given q) is))
+    (answer_given q c.args.revision (rows_of cells c.args.cells.items) c.in_ok-kvs.kvs c.len-count.result c.len.result c.is_cut-more.result c.if-request.false c.requires.ascend (c.len-count.ensures ∙ c.args.cells.ok.0 ∙ sym counted) size c.is_cut-more.ensures (c.in_ok-kvs.ensures ∙ ap (given q) is))

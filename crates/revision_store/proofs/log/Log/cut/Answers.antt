@@ -3,28 +3,33 @@ use Rattle.std.specs.FinMap.{get}
 use Rattle.std.proofs.lemmas.Fn.{filter_same}
 use Rattle.etcd_model.specs.Changes.{change_of}
 use Rattle.etcd_model.specs.Kept.{cost}
-use Rattle.key_index.specs.Order.{changes_in}
+use Rattle.key_index.specs.Order.{changes_in, with_records}
 use Rattle.key_index.proofs.OrderKept.{kept_in_order, in_order_left, all_left, free_left}
 use Rattle.revision_store.specs.Recorded.{cells_of}
 use Rattle.revision_store.proofs.Left.{counted_alike, left_is}
+use Rattle.revision_store.proofs.log.Log.cut.Given as given
 use Rattle.revision_store.proofs.log.Log.cut.Goals as goal
+use Rattle.revision_store.proofs.log.Log.cut.Goals.{After-retain}
+
+-- the order keeps the cells whose changes are left
+is_left : (g : given.Over) (c : goal.After-retain g) → c.retain.new.self.items ≡ with_records (cells_of c.cut.new.region.records) c.self.inside.order.items
+is_left g c =
+    let retained : c.retain.new.self.items ≡ filter (λ n. is_some (get c.cut.new.region.records n)) c.self.inside.order.items = filter_same _ _ _ (λ x b f' k. search rules) _ _ c.retain.ensures.filtered in
+    retained ∙ left_is c.self.inside.region.records c.cut.new.region.records c.self.inside.order.items c.self.invariant.all c.cut.ensures.rest.leases
 
 pub returns-clause-changes : goal.returns-clause-changes
 returns-clause-changes g c =
-    let retained : c.retain.new.self.items ≡ filter (λ n. is_some (get c.cut.new.region.records n)) c.self.inside.order.items = filter_same _ _ _ (λ x b f' k. search rules) _ _ c.retain.ensures.filtered in
-    let left = retained ∙ left_is c.self.inside.region.records c.cut.new.region.records c.self.inside.order.items c.self.invariant.all c.cut.ensures.rest.leases in
+    let left = is_left g (goal.at.returns-clause-changes g c).After-retain in
     rw (← c.self.view_is) (ap (changes_in (cells_of c.cut.new.region.records)) left ∙ kept_in_order (cells_of c.self.inside.region.records) (cells_of c.cut.new.region.records) c.args.revision c.self.invariant.chained c.cut.ensures.compacted c.self.inside.order.items c.self.invariant.all c.self.invariant.rises)
 
 pub returns-clause-free : goal.returns-clause-free
 returns-clause-free g c =
-    let retained : c.retain.new.self.items ≡ filter (λ n. is_some (get c.cut.new.region.records n)) c.self.inside.order.items = filter_same _ _ _ (λ x b f' k. search rules) _ _ c.retain.ensures.filtered in
-    let left = retained ∙ left_is c.self.inside.region.records c.cut.new.region.records c.self.inside.order.items c.self.invariant.all c.cut.ensures.rest.leases in
+    let left = is_left g (goal.at.returns-clause-free g c).After-retain in
     rw (← c.self.view_is, left) (free_left (λ x. cost (change_of x)) (cells_of c.self.inside.region.records) (cells_of c.cut.new.region.records) _ _ c.self.inside.order.items c.cut.ensures.free c.self.invariant.all)
 
 pub invariant_of-self : goal.invariant_of-self
 invariant_of-self g c =
-    let retained : c.retain.new.self.items ≡ filter (λ n. is_some (get c.cut.new.region.records n)) c.self.inside.order.items = filter_same _ _ _ (λ x b f' k. search rules) _ _ c.retain.ensures.filtered in
-    let left = retained ∙ left_is c.self.inside.region.records c.cut.new.region.records c.self.inside.order.items c.self.invariant.all c.cut.ensures.rest.leases in
+    let left = is_left g (goal.at.invariant_of-self g c).After-retain in
     let old = cells_of c.self.inside.region.records in
     let new = cells_of c.cut.new.region.records in
     let free = free_left (λ x. cost (change_of x)) old new c.self.inside.region.free c.cut.new.region.free c.self.inside.order.items c.cut.ensures.free c.self.invariant.all in

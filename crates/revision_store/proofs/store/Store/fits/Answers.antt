@@ -4,7 +4,7 @@ use Rattle.revision_store.proofs.Costs.{costs_from, costs_at_end}
 use Rattle.revision_store.proofs.store.Store.fits.Goals as goal
 
 pub loop-write-init : goal.loop-write-init
-loop-write-init c = record { left = omega (arith, c.free_cells-left.ensures) }
+loop-write-init c = record { left = omega (arith, c.free_cells.ensures, c.from-left.ensures) }
 
 pub returns-then-left-cost : goal.returns-then-left-cost
 returns-then-left-cost c =

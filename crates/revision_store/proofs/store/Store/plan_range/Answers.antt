@@ -7,7 +7,6 @@ use Rattle.model_laws.specs.Recording.{by_key}
 use Rattle.model_laws.proofs.RowLaws.{rows_rise}
 use Rattle.revision_store.specs.Recorded.{cells_of}
 use Rattle.revision_store.specs.Stored.{StoreState, reads, row_at}
-use Rattle.revision_store.specs.Pending.{AreRows}
 use Rattle.revision_store.specs.Ranging.{range_answer, rows_of}
 use Rattle.revision_store.proofs.RangingCells.{all_show, filter_map-is}
 use Rattle.revision_store.proofs.RangingReads.{rows_live}
@@ -16,13 +15,13 @@ use Rattle.revision_store.proofs.store.Store.plan_range.Goals as goal
 pub range_reply-requires-clause-rows : goal.range_reply-requires-clause-rows
 range_reply-requires-clause-rows c =
     let cells = cells_of c.self.inside.log.records in
-    subst (AreRows cells) (sym c.deref.ensures.value) (all_show (row_at cells) c.in_ok-cells.cells.items _ (sym c.in_ok-cells.ensures))
+    all_show (row_at cells) c.in_ok-cells.cells.items _ (sym c.in_ok-cells.ensures)
 
 pub range_reply-requires-clause-ascend : goal.range_reply-requires-clause-ascend
 range_reply-requires-clause-ascend c =
     let cells = cells_of c.self.inside.log.records in
     let changes = ap (λ (s : StoreState). s.kept.changes) c.self.view_is in
-    let found = filter_map-is (row_at cells) c.in_ok-cells.cells.items _ (sym c.in_ok-cells.ensures) ∙ ap (rows_of cells) (sym c.deref.ensures.value) in
+    let found = filter_map-is (row_at cells) c.in_ok-cells.cells.items _ (sym c.in_ok-cells.ensures) in
     subst (IsStrictlySortedBy by_key) (ap (rows (is_in c.as_slice.result.now c.as_slice-2.result.now) c.revision_read.result) (sym changes) ∙ found)
     (rows_rise c.args.self.now.kept.changes c.keep_sound.ensures.kept.own c.revision_read.result (is_in c.as_slice.result.now c.as_slice-2.result.now))
 
@@ -33,11 +32,11 @@ returns-clause-reply c =
     let bits : to_z w64 (of_z w64 q.revision) ≡ q.revision = search rules in
     let cells = cells_of c.self.inside.log.records in
     let changes = ap (λ (s : StoreState). s.kept.changes) c.self.view_is in
-    let found = filter_map-is (row_at cells) c.in_ok-cells.cells.items _ (sym c.in_ok-cells.ensures) ∙ ap (rows_of cells) (sym c.deref.ensures.value) in
+    let found = filter_map-is (row_at cells) c.in_ok-cells.cells.items _ (sym c.in_ok-cells.ensures) in
     let readable : unreadable (reads store) (revision_read (reads store) q.revision) ≡ None = ap (λ z. unreadable (reads store) (revision_read (reads store) z)) (sym bits) ∙ sym c.unreadable.ensures ∙ c.in_default.is in
-    let read : rows_of cells c.deref.result.now ≡ rows_read (reads store) q.key q.range_end q.revision =
+    let read : rows_of cells c.in_ok-cells.cells.items ≡ rows_read (reads store) q.key q.range_end q.revision =
     sym found ∙ ap (rows (is_in c.as_slice.result.now c.as_slice-2.result.now) c.revision_read.result) changes
     ∙ rows_live store.kept q.key q.range_end c.as_slice.result.now c.as_slice-2.result.now q.revision c.revision_read.result c.as_slice.ensures c.as_slice-2.ensures (c.revision_read.ensures ∙ ap (revision_read (reads store)) bits) readable in
     c.in_ok-reply.ensures
-    ∙ ap (λ n. range_answer q n (rows_of cells c.deref.result.now)) c.current.ensures.current
+    ∙ ap (λ n. range_answer q n (rows_of cells c.in_ok-cells.cells.items)) c.current.ensures.current
     ∙ ap (range_answer q store.kept.current) read

@@ -2,7 +2,7 @@ use Rattle.std.proofs.Common.{◌≡◌, ◌++◌, drop}
 use Rattle.revision_store.specs.Recorded.{cells_of}
 use Rattle.revision_store.specs.Pending.{AreRows}
 use Rattle.revision_store.specs.Ranging.{wanted_cells}
-use Rattle.revision_store.proofs.ranging.wanted.Given as goal
+use Rattle.revision_store.proofs.ranging.passing.Given as goal
 
 abbrev pub invariant-loop-cell : goal.invariant-loop-cell
 invariant-loop-cell l = record {
