@@ -22,7 +22,6 @@ use Rattle.etcd_types.specs.declared.step.Step.{Step}
 use Rattle.etcd_types.specs.declared.step.Step.TheVariants.{Put, Delete, Txn, Compact, Revoke, Tick}
 use Rattle.etcd_types.specs.declared.refusal.Refusal.{Refusal}
 use Rattle.etcd_types.specs.declared.refusal.Refusal.TheVariants.{NoKey, ValueGiven, LeaseGiven, TooManyOps, DuplicateKey, NotOffered}
-use Rattle.etcd_types.specs.declared.reply.Reply.TheVariants.{Refused}
 use Rattle.etcd_types.specs.declared.txn.Compare.{Compare}
 use Rattle.etcd_types.specs.Limits.{max_ops, last_moment}
 use Rattle.etcd_model.specs.declared.state.Lease.{Lease}
@@ -36,12 +35,11 @@ use Rattle.etcd_model.specs.Operations.{put_change, pending_after, branch, first
 use Rattle.etcd_model.specs.Tenant.{reads}
 use Rattle.etcd_model.specs.Leases.{attached, finish, run_out}
 use Rattle.etcd_model.specs.Stepping.{outcome, pending}
-use Rattle.etcd_model.specs.Machine.{State, history, machine, before_space, opening, state_after, reads_of}
-use Rattle.etcd_model.specs.Offered.{built_machine, is_offered}
+use Rattle.etcd_model.specs.Machine.{State, history, machine, opening, state_after, reads_of}
 use Rattle.etcd_model.proofs.RowLaws.{by_key, filter-none, later_key, all_rows}
 use Rattle.etcd_model.proofs.HistoryLaws.{changes_of, next_row, current-after, kv-after, kv-key}
 use Rattle.etcd_model.proofs.PutLaws.{rows_ascend, rows-interval, ChangesOnce, one_change}
-use Rattle.etcd_model.proofs.GrowthLaws.{chosen, after_before_space, after_step, first_none, store_stays}
+use Rattle.etcd_model.proofs.GrowthLaws.{after_step, first_none, store_stays}
 
 -- ---- deletes of ascending rows
 
@@ -269,9 +267,3 @@ ChangesOnce-opening cluster quota first key = All-nil (λ cs. length (changes_of
 pub ChangesOnce-run : (S : State History) (steps : List Step) → ChangesOnce S.store → ChangesOnce (state_after S steps).store
 ChangesOnce-run S [] once = once
 ChangesOnce-run S (step ∷ steps) once = ChangesOnce-run (machine S step).state steps (ChangesOnce-machine S step once)
-
--- the same of the machine as far as it is built
-pub ChangesOnce-built : (S : State History) (step : Step) → ChangesOnce S.store → ChangesOnce (built_machine S step).state.store
-ChangesOnce-built S step once =
-    chosen (λ T. ChangesOnce T.store) (is_offered step) (before_space S step) (record { state = S; reply = Refused NotOffered })
-    (λ e. after_before_space (λ T. ChangesOnce T.store) S step once (outcome_once S step once)) once

@@ -17,7 +17,7 @@ use Rattle.etcd_types.specs.declared.step.Step.TheVariants as step
 use Rattle.etcd_model.specs.Fields.{fields, is_empty}
 use Rattle.etcd_model.specs.Members.{IsAnswer, and_then, or_bad, named}
 use Rattle.etcd_model.specs.Requests.{read_alarm_request, read_compaction, read_delete, read_grant, read_id, read_put, read_range, read_time_to_live, read_txn, read_watch}
-use Rattle.etcd_model.specs.Offered.{is_built, is_offered}
+use Rattle.etcd_model.specs.Offered.{is_built}
 
 -- ---- paths
 
@@ -117,13 +117,9 @@ within_size body r = if nat_lt max_body (length body) then Err TooLarge else r
 unfoldable pub read_step : Call → List ℕ → Result Step Refusal
 read_step c body = within_size body (and_then (and_then (read_body body) (read_members c)) check_fields)
 
--- a step that is not offered is refused so
-abbrev pub offered_only : Step → Result Step Refusal
-offered_only s = if is_offered s then Ok s else Err NotOffered
-
 -- a call that is not built is refused after its size, and before its body is read
 unfoldable pub read_built : Call → List ℕ → Result Step Refusal
-read_built c body = if is_built c then and_then (read_step c body) offered_only else within_size body (Err NotOffered)
+read_built c body = if is_built c then read_step c body else within_size body (Err NotOffered)
 
 abbrev pub for_call : Option Call → (Call → Result Step Refusal) → Result Step Refusal
 for_call None f = Err NoPath

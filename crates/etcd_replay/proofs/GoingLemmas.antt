@@ -11,10 +11,9 @@ use Rattle.std.specs.Prelude.{Result, Ok, Err, IfErr, ◌==◌}
 use borrow.Author.Tests.{eqb-true}
 use Rattle.etcd_replay.specs.declared.lines.Taken.{Taken}
 use Rattle.etcd_replay.specs.declared.lines.Taken.TheVariants.{Line, TooLong}
-use Rattle.etcd_replay.specs.declared.replay.Tenant.{Tenant}
 use Rattle.etcd_replay.specs.Script.{Asked, lines_of, read_line}
 use Rattle.etcd_replay.specs.Answers.{line_of}
-use Rattle.etcd_replay.specs.Replaying.{LineTurn, Tells}
+use Rattle.etcd_replay.specs.Replaying.{TenantState, LineTurn, Tells}
 use Rattle.etcd_replay.specs.Written.{Wrote, StopsAt, StopsAmong}
 use Rattle.etcd_replay.specs.Going.{Going}
 use Rattle.etcd_replay.proofs.FirstLine.{first_line, at_end}
@@ -31,7 +30,7 @@ going_first None old = tt
 going_first (Some script) old = record { done = []; rest = script; remains = refl; lines = refl; number = refl; turns = []; read = refl; replayed = tt; spoken = tt; text = Appends-nil old }
 
 -- what is taken is the first line of what is left
-module _ (script : List ℕ) (now old new : Option (List ℕ)) (tenant : Option Tenant) (n : ℕ) (going : Going script now old new tenant n) where
+module _ (script : List ℕ) (now old new : Option (List ℕ)) (tenant : Option TenantState) (n : ℕ) (going : Going script now old new tenant n) where
   taken_is : (line : List ℕ) → IfSome now (λ xs. line ≡ take_through 10 xs) → line ≡ take_through 10 going.rest
   taken_is line taken = subst (λ o. IfSome o (λ xs. line ≡ take_through 10 xs)) going.remains taken
 
@@ -43,7 +42,7 @@ module _ (script : List ℕ) (now old new : Option (List ℕ)) (tenant : Option 
   so_far : Wrote old new going.done
   so_far = record { turns = going.turns; last = tenant; read = going.read; replayed = going.replayed; spoken = going.spoken; text = going.text }
 
-pub going_more : (o now next old mid new : Option (List ℕ)) (before after : Option Tenant) (n : ℕ) (line : List ℕ) (q : Asked) (a : LineAnswer)
+pub going_more : (o now next old mid new : Option (List ℕ)) (before after : Option TenantState) (n : ℕ) (line : List ℕ) (q : Asked) (a : LineAnswer)
     → IfSome o (λ script. Going script now old mid before n) → IfSome now (λ xs. line ≡ take_through 10 xs) → DropsThrough now next 10 → line ≢ []
     → read_line (strip_last 10 line) ≡ Some q → Tells before q a after → Appends mid new (line_of a)
     → IfSome o (λ script. Going script next old new after (n + 1))
@@ -66,7 +65,7 @@ going_more (Some script) now next old mid new before after n line q a going take
           (Appends-trans old mid new (flat_map written g.turns) (flat_map written (x ∷ [])) g.text (subst (Appends mid new) (sym (append-nil (line_of a))) wrote));
     }
 
-pub going_ends : (o now old new : Option (List ℕ)) (tenant : Option Tenant) (n : ℕ) (line : List ℕ) → IfSome o (λ script. Going script now old new tenant n)
+pub going_ends : (o now old new : Option (List ℕ)) (tenant : Option TenantState) (n : ℕ) (line : List ℕ) → IfSome o (λ script. Going script now old new tenant n)
     → IfSome now (λ xs. line ≡ take_through 10 xs) → line ≡ [] → IfSome o (λ script. Wrote old new (lines_of script))
 going_ends None now old new tenant n line going taken none = tt
 going_ends (Some script) now old new tenant n line going taken none =
@@ -75,7 +74,7 @@ going_ends (Some script) now old new tenant n line going taken none =
     let all : lines_of script ≡ g.done = g.lines ∙ ap (λ xs. g.done ++ lines_of xs) over ∙ append-nil g.done in
     subst (Wrote old new) (sym all) (so_far script now old new tenant n g)
 
-pub going_stops : (o now old new : Option (List ℕ)) (tenant : Option Tenant) (n m : ℕ) (line : List ℕ) → IfSome o (λ script. Going script now old new tenant n)
+pub going_stops : (o now old new : Option (List ℕ)) (tenant : Option TenantState) (n m : ℕ) (line : List ℕ) → IfSome o (λ script. Going script now old new tenant n)
     → IfSome now (λ xs. line ≡ take_through 10 xs) → line ≢ [] → read_line (strip_last 10 line) ≡ None → n + 1 ≡ m → IfSome o (λ script. StopsAt m script old new)
 going_stops None now old new tenant n m line going taken some unread number = tt
 going_stops (Some script) now old new tenant n m line going taken some unread number =
@@ -90,7 +89,7 @@ going_stops (Some script) now old new tenant n m line going taken some unread nu
       wrote = so_far script now old new tenant n g;
     }
 
-pub going_among : (o now old new : Option (List ℕ)) (tenant : Option Tenant) (n : ℕ) → IfSome o (λ script. Going script now old new tenant n) → IfSome o (λ script. StopsAmong script old new)
+pub going_among : (o now old new : Option (List ℕ)) (tenant : Option TenantState) (n : ℕ) → IfSome o (λ script. Going script now old new tenant n) → IfSome o (λ script. StopsAmong script old new)
 going_among None now old new tenant n going = tt
 going_among (Some script) now old new tenant n going =
     let g : Going script now old new tenant n = going in
@@ -102,7 +101,7 @@ too_long_unread : (text : List ℕ) → max_script_line < length text → read_l
 unfolding read_line
 too_long_unread text long = rw (lt-ltb max_script_line (length text) long) refl
 
-pub going_long : (o now old new : Option (List ℕ)) (tenant : Option Tenant) (n m : ℕ) → IfSome o (λ script. Going script now old new tenant n)
+pub going_long : (o now old new : Option (List ℕ)) (tenant : Option TenantState) (n m : ℕ) → IfSome o (λ script. Going script now old new tenant n)
     → IfSome now (λ xs. max_script_line < length (strip_last 10 (take_through 10 xs))) → n + 1 ≡ m → IfSome o (λ script. StopsAt m script old new)
 going_long None now old new tenant n m going long number = tt
 going_long (Some script) now old new tenant n m going long number =

@@ -4,3 +4,4 @@ pub mod FirstLine
 pub mod Replayed
 pub mod GoingLemmas
 pub mod ToldLemmas
+pub mod ServedLemmas

@@ -8,14 +8,14 @@ use Rattle.etcd_model.specs.declared.state.State.{State}
 use Rattle.etcd_model.specs.Machine.{opening}
 use Rattle.etcd_model.specs.ReplyText.{Answer}
 use Rattle.etcd_model.specs.Alone.{Event, Called, Turn, is_of, is_own, is_unanswered, own, asked, told, alone, alone_after, read_event, answer_to, after_read}
-use Rattle.tenant_machine.specs.Newest.{Holds}
+use Rattle.etcd_model.specs.Held.{Holds}
+use Rattle.tenant_machine.specs.Held.{tenant}
 use Rattle.etcd_replay.specs.declared.answer.AddFault.{AddFault}
 use Rattle.etcd_replay.specs.declared.answer.AddFault.TheVariants.{Name, Limits}
 use Rattle.etcd_replay.specs.declared.answer.LineAnswer.{LineAnswer}
 use Rattle.etcd_replay.specs.declared.answer.LineAnswer.TheVariants.{Done, No, Told}
-use Rattle.etcd_replay.specs.declared.replay.Tenant.{Tenant}
 use Rattle.etcd_replay.specs.Script.{Asked, Add, Call}
-use Rattle.etcd_replay.specs.Replaying.{LineTurn, IsAdded, IsCalled, Tells, IsUnserved, IsAlone, IsSpoken, IsTenant, IsReplayed, Opens, add_fault, is_name, within_limits, is_own_call, turn_of, turns}
+use Rattle.etcd_replay.specs.Replaying.{TenantState, LineTurn, IsAdded, IsCalled, Tells, IsUnserved, IsAlone, IsSpoken, IsTenant, IsReplayed, Opens, add_fault, is_name, within_limits, is_own_call, turn_of, turns}
 
 true_is_not : true ≡ false → ⊥
 true_is_not h = cc
@@ -54,7 +54,7 @@ alone_after-push S (f ∷ es) e = alone_after-push (after_read S (read_event f))
 
 -- ---- a line that is none of the tenant's answered events
 
-module _ (name : List ℕ) (S : State History) (xs : List LineTurn) (t u : Tenant) (x : LineTurn) (is : IsAlone name S xs t) (same : u ≡ t)
+module _ (name : List ℕ) (S : State History) (xs : List LineTurn) (t u : TenantState) (x : LineTurn) (is : IsAlone name S xs t) (same : u ≡ t)
     (beside : is_own_call name x.asked ≡ false → IsUnserved true x.asked x.answer) where
   passed_own : own name (filter_map turn_of (x ∷ [])) ≡ [] → own name (turns (xs ++ x ∷ [])) ≡ own name (turns xs)
   passed_own none =
@@ -65,18 +65,18 @@ module _ (name : List ℕ) (S : State History) (xs : List LineTurn) (t u : Tenan
   alone_passed none =
       let still = passed_own none in
       record {
-        named = ap (λ (v : Tenant). v.name) same ∙ is.named;
+        named = ap (λ (v : TenantState). v.name) same ∙ is.named;
         told_alone = ap told still ∙ is.told_alone ∙ ap (λ ts. alone S (asked ts)) (sym still);
-        holds = subst (λ ts. Holds u.machine (alone_after S (asked ts))) (sym still) (subst (λ (v : Tenant). Holds v.machine (alone_after S (asked (own name (turns xs))))) (sym same) is.holds);
+        holds = subst (λ ts. Holds (alone_after S (asked ts)) (tenant u.machine)) (sym still) (subst (λ (v : TenantState). Holds (alone_after S (asked (own name (turns xs)))) (tenant v.machine)) (sym same) is.holds);
         others = all_push _ xs x is.others beside;
       }
 
 -- ---- an own event that was answered
 
-alone_told : (name : List ℕ) (S : State History) (xs : List LineTurn) (t u : Tenant) (method target body : List ℕ) (a : Answer) → IsAlone name S xs t
+alone_told : (name : List ℕ) (S : State History) (xs : List LineTurn) (t u : TenantState) (method target body : List ℕ) (a : Answer) → IsAlone name S xs t
     → is_of name (Called method target body) ≡ true → is_unanswered a ≡ false → u.name ≡ name
     → a ≡ answer_to (alone_after S (asked (own name (turns xs)))) (read_event (Called method target body))
-    → Holds u.machine (after_read (alone_after S (asked (own name (turns xs)))) (read_event (Called method target body)))
+    → Holds (after_read (alone_after S (asked (own name (turns xs)))) (read_event (Called method target body))) (tenant u.machine)
     → IsAlone name S (xs ++ record { asked = Call method target body; answer = Told a } ∷ []) u
 alone_told name S xs t u method target body a is mine answered named same holds =
     let e = Called method target body in
@@ -93,7 +93,7 @@ alone_told name S xs t u method target body a is mine answered named same holds 
           ap told grown ∙ map-append (λ (y : Turn). y.answer) before (turn ∷ [])
           ∙ (λ i. is.told_alone i ++ same i ∷ [])
           ∙ sym (alone-push S (asked before) e) ∙ ap (alone S) (sym events);
-      holds = subst (Holds u.machine) (sym (alone_after-push S (asked before) e) ∙ ap (alone_after S) (sym events)) holds;
+      holds = subst (λ T. Holds T (tenant u.machine)) (sym (alone_after-push S (asked before) e) ∙ ap (alone_after S) (sym events)) holds;
       others = all_push _ xs x is.others (λ other. absurd (true_is_not (sym mine ∙ other)));
     }
 
@@ -111,7 +111,7 @@ full name cluster quota first free = by (is_name name) (not (within_limits clust
     by true true h = some_is_not Limits h
     by true false h = some_is_not Limits h
 
-grown : (xs : List LineTurn) (t u : Tenant) (x : LineTurn) (is : IsTenant xs t) → IsAlone is.name (opening is.cluster is.quota is.first) (is.later ++ x ∷ []) u → IsTenant (xs ++ x ∷ []) u
+grown : (xs : List LineTurn) (t u : TenantState) (x : LineTurn) (is : IsTenant xs t) → IsAlone is.name (opening is.cluster is.quota is.first) (is.later ++ x ∷ []) u → IsTenant (xs ++ x ∷ []) u
 grown xs t u x is alone = record {
   before = is.before;
   name = is.name;
@@ -125,7 +125,7 @@ grown xs t u x is alone = record {
   served = alone;
 }
 
-opened : (xs : List LineTurn) (name : List ℕ) (cluster quota first : ℕ) (new : Option Tenant) → AllByRecursion (λ (x : LineTurn). IsUnserved false x.asked x.answer) xs
+opened : (xs : List LineTurn) (name : List ℕ) (cluster quota first : ℕ) (new : Option TenantState) → AllByRecursion (λ (x : LineTurn). IsUnserved false x.asked x.answer) xs
     → add_fault false name cluster quota first ≡ None → Opens name cluster quota first new → IsReplayed (xs ++ record { asked = Add name cluster quota first; answer = Done } ∷ []) new
 opened xs name cluster quota first new before free opens =
     subst (IsReplayed (xs ++ record { asked = Add name cluster quota first; answer = Done } ∷ [])) (sym opens.is) (record {
@@ -142,10 +142,10 @@ opened xs name cluster quota first new before free opens =
     })
 
 -- nobody is there, and nobody comes
-unserved_more : (xs : List LineTurn) (new : Option Tenant) (x : LineTurn) → AllByRecursion (λ (y : LineTurn). IsUnserved false y.asked y.answer) xs → new ≡ None → IsUnserved false x.asked x.answer → IsReplayed (xs ++ x ∷ []) new
+unserved_more : (xs : List LineTurn) (new : Option TenantState) (x : LineTurn) → AllByRecursion (λ (y : LineTurn). IsUnserved false y.asked y.answer) xs → new ≡ None → IsUnserved false x.asked x.answer → IsReplayed (xs ++ x ∷ []) new
 unserved_more xs new x before none one = subst (IsReplayed (xs ++ x ∷ [])) (sym none) (all_push _ xs x before one)
 
-unserved_call : (xs : List LineTurn) (new : Option Tenant) (method target body : List ℕ) (a : Answer) (unanswered : Bool) → is_unanswered a ≡ unanswered
+unserved_call : (xs : List LineTurn) (new : Option TenantState) (method target body : List ℕ) (a : Answer) (unanswered : Bool) → is_unanswered a ≡ unanswered
     → AllByRecursion (λ (y : LineTurn). IsUnserved false y.asked y.answer) xs → IsCalled None (Called method target body) a new → IsReplayed (xs ++ record { asked = Call method target body; answer = Told a } ∷ []) new
 unserved_call xs new method target body a true is before called =
     unserved_more xs new (record { asked = Call method target body; answer = Told a }) before (called.memory is).0 (λ other. absurd (true_is_not (sym is ∙ other)))
@@ -158,7 +158,7 @@ and_false true = refl
 and_false false = refl
 
 -- a call of the tenant that is there, or of nobody
-served_call : (xs : List LineTurn) (t : Tenant) (new : Option Tenant) (method target body : List ℕ) (a : Answer) (is : IsTenant xs t) (unanswered mine : Bool)
+served_call : (xs : List LineTurn) (t : TenantState) (new : Option TenantState) (method target body : List ℕ) (a : Answer) (is : IsTenant xs t) (unanswered mine : Bool)
     → is_unanswered a ≡ unanswered → is_of is.name (Called method target body) ≡ mine → IsCalled (Some t) (Called method target body) a new
     → IsReplayed (xs ++ record { asked = Call method target body; answer = Told a } ∷ []) new
 served_call xs t new method target body a is true mine quiet own_is called =
@@ -184,11 +184,11 @@ served_call xs t new method target body a is false true answered mine called =
     let now = alone_after S (asked (own is.name (turns is.later))) in
     let own_told = (called.served answered).own t now refl (ap (λ n. is_of n e) is.served.named ∙ mine) is.served.holds in
     let after = own_told.1 in
-    let u : Tenant = record { name = t.name; machine = after.0 } in
+    let u : TenantState = record { name = t.name; machine = after.0 } in
     subst (IsReplayed (xs ++ x ∷ [])) (sym after.1)
     (grown xs t u x is (alone_told is.name S is.later t u method target body a is.served mine answered is.served.named own_told.0 after.2))
 
-added_call : (xs : List LineTurn) (t : Tenant) (new : Option Tenant) (name : List ℕ) (cluster quota first : ℕ) (f : AddFault) → IsTenant xs t
+added_call : (xs : List LineTurn) (t : TenantState) (new : Option TenantState) (name : List ℕ) (cluster quota first : ℕ) (f : AddFault) → IsTenant xs t
     → IsAdded (Some t) name cluster quota first (No f) new → IsReplayed (xs ++ record { asked = Add name cluster quota first; answer = No f } ∷ []) new
 added_call xs t new name cluster quota first f is added =
     let x : LineTurn = record { asked = Add name cluster quota first; answer = No f } in
@@ -197,7 +197,7 @@ added_call xs t new name cluster quota first f is added =
     (grown xs t t x is (alone_passed is.name (opening is.cluster is.quota is.first) is.later t t x is.served refl (λ _. refused.1) refl))
 
 -- a replay goes on with a line that was answered
-pub replayed_push : (xs : List LineTurn) (old new : Option Tenant) (q : Asked) (a : LineAnswer) → IsReplayed xs old → Tells old q a new → IsReplayed (xs ++ record { asked = q; answer = a } ∷ []) new
+pub replayed_push : (xs : List LineTurn) (old new : Option TenantState) (q : Asked) (a : LineAnswer) → IsReplayed xs old → Tells old q a new → IsReplayed (xs ++ record { asked = q; answer = a } ∷ []) new
 replayed_push xs None new (Add name cluster quota first) Done is tells = opened xs name cluster quota first new is (tells.free refl) (tells.opens refl)
 replayed_push xs None new (Add name cluster quota first) (No f) is tells = unserved_more xs new _ is (tells.no f refl).0 (tells.no f refl).1
 replayed_push xs None new (Add name cluster quota first) (Told a) is tells = absurd (tells.spoken a refl)
@@ -212,8 +212,10 @@ replayed_push xs (Some t) new (Call method target body) Done is tells = absurd t
 replayed_push xs (Some t) new (Call method target body) (No f) is tells = absurd tells
 
 -- what a line is told is spoken
-pub spoken_by : (old new : Option Tenant) (q : Asked) (a : LineAnswer) → Tells old q a new → IsSpoken a
-spoken_by old new q Done tells = tt
-spoken_by old new q (No f) tells = tt
+pub spoken_by : (old new : Option TenantState) (q : Asked) (a : LineAnswer) → Tells old q a new → IsSpoken q a
+spoken_by old new (Add name cluster quota first) Done tells = tt
+spoken_by old new (Add name cluster quota first) (No f) tells = tt
 spoken_by old new (Add name cluster quota first) (Told a) tells = absurd (tells.spoken a refl)
 spoken_by old new (Call method target body) (Told a) tells = λ unanswered. (tells.memory unanswered).1
+spoken_by old new (Call method target body) Done tells = absurd tells
+spoken_by old new (Call method target body) (No f) tells = absurd tells

@@ -1,7 +1,8 @@
 -- A replay: lines answered in turn, and the tenant that they made.
-use Rattle.std.specs.Prelude.{◌≡◌, ◌≢◌, ℕ, ◌==◌, ◌&&◌, ◌||◌, ◌++◌, not, Bool, true, false, List, ◌∷◌, nat_lt, nat_le, length, filter_map, Option, None, Some, Result, is_some, if◌then◌else◌}
+use Rattle.std.specs.Prelude.{◌≡◌, ◌≢◌, ℕ, ◌==◌, ◌&&◌, ◌||◌, ◌++◌, not, Bool, true, false, List, ◌∷◌, nat_lt, nat_le, length, filter_map, Option, None, Some, Result, is_some, if◌then◌else◌, refl}
 use Rattle.std.specs.Char.{is_ascii_digit, is_ascii_lowercase}
 use Rattle.std.specs.List.{list_all, AllByRecursion}
+use Rattle.std.specs.Coded.{Coded, code_by, coded×, coded_ℕ, coded_list}
 use Rattle.etcd_types.specs.Limits.{max_name, min_quota, max_quota, last_revision}
 use Rattle.etcd_types.specs.declared.call.Call.{Call as KnownCall}
 use Rattle.etcd_types.specs.declared.refusal.Refusal.{Refusal}
@@ -14,13 +15,21 @@ use Rattle.etcd_model.specs.Machine.{opening}
 use Rattle.etcd_model.specs.Calls.{Target, target_of, call_of}
 use Rattle.etcd_model.specs.ReplyText.{Answer, memory_answer, text}
 use Rattle.etcd_model.specs.Alone.{Event, Called, Stepped, Turn, is_of, is_unanswered, own, asked, told, alone, alone_after, read_event, answer_to, after_read}
-use Rattle.tenant_machine.specs.Newest.{Newest, Holds}
+use Rattle.etcd_model.specs.Held.{Holds}
+use Rattle.tenant_machine.specs.Held.{MachineState, machine_code, tenant}
 use Rattle.etcd_replay.specs.declared.answer.AddFault.{AddFault}
 use Rattle.etcd_replay.specs.declared.answer.AddFault.TheVariants.{Name, Limits, Memory}
 use Rattle.etcd_replay.specs.declared.answer.LineAnswer.{LineAnswer}
 use Rattle.etcd_replay.specs.declared.answer.LineAnswer.TheVariants.{Done, No, Told}
-use Rattle.etcd_replay.specs.declared.replay.Tenant.{Tenant}
 use Rattle.etcd_replay.specs.Script.{Asked, Add, Call}
+
+-- a tenant, by its name
+pub record TenantState : Type 0 where
+  pub name : List ℕ
+  pub machine : MachineState
+
+abbrev pub tenant_code : Coded TenantState
+tenant_code = code_by (List ℕ × MachineState) (coded× (coded_list coded_ℕ) machine_code) (λ t. (t.name, t.machine)) (λ p. record { name = p.0; machine = p.1 }) (λ _. refl)
 
 -- ---- adding a tenant
 
@@ -59,40 +68,40 @@ nobody (Stepped tenant step) = NoTenant
 -- ---- one line
 
 -- the event is of the tenant that is there
-abbrev pub is_there : Option Tenant → Event → Bool
+abbrev pub is_there : Option TenantState → Event → Bool
 is_there None e = false
 is_there (Some t) e = is_of t.name e
 
 -- a machine is asked for a step, or for one that is refused
-pub record Serves (old : State Newest) (wanted : Result Step Refusal) (a : Answer) (new : State Newest) : Type 0 where
-  pub served : (S : State History) → is_unanswered a ≡ false → Holds old S → (a ≡ answer_to S wanted) × Holds new (after_read S wanted)
+pub record Serves (old : MachineState) (wanted : Result Step Refusal) (a : Answer) (new : MachineState) : Type 0 where
+  pub served : (S : State History) → is_unanswered a ≡ false → Holds S (tenant old) → (a ≡ answer_to S wanted) × Holds (after_read S wanted) (tenant new)
   pub memory : is_unanswered a ≡ true → (new ≡ old) × (a ≡ memory_answer)
 
 -- the tenant is there, at its opening
-pub record Opens (name : List ℕ) (cluster quota first : ℕ) (new : Option Tenant) : Type 0 where
-  pub machine : State Newest
+pub record Opens (name : List ℕ) (cluster quota first : ℕ) (new : Option TenantState) : Type 0 where
+  pub machine : MachineState
   pub is : new ≡ Some (record { name = name; machine = machine })
-  pub holds : Holds machine (opening cluster quota first)
+  pub holds : Holds (opening cluster quota first) (tenant machine)
 
 -- a tenant is added where nothing speaks against it; one that is not changes nothing
-pub record IsAdded (old : Option Tenant) (name : List ℕ) (cluster quota first : ℕ) (answer : LineAnswer) (new : Option Tenant) : Type 0 where
+pub record IsAdded (old : Option TenantState) (name : List ℕ) (cluster quota first : ℕ) (answer : LineAnswer) (new : Option TenantState) : Type 0 where
   pub free : answer ≡ Done → add_fault (is_some old) name cluster quota first ≡ None
   pub opens : answer ≡ Done → Opens name cluster quota first new
   pub no : (fault : AddFault) → answer ≡ No fault → (new ≡ old) × (fault ≢ Memory → add_fault (is_some old) name cluster quota first ≡ Some fault)
   pub spoken : (a : Answer) → answer ≢ Told a
 
 -- a call of the tenant that is there is answered as the machine answers it, and its next state is held
-pub record IsServed (old : Option Tenant) (e : Event) (a : Answer) (new : Option Tenant) : Type 0 where
-  pub own : (t : Tenant) (S : State History) → old ≡ Some t → is_of t.name e ≡ true → Holds t.machine S →
-      (a ≡ answer_to S (read_event e)) × ((m : State Newest) × (new ≡ Some (record { name = t.name; machine = m })) × Holds m (after_read S (read_event e)))
+pub record IsServed (old : Option TenantState) (e : Event) (a : Answer) (new : Option TenantState) : Type 0 where
+  pub own : (t : TenantState) (S : State History) → old ≡ Some t → is_of t.name e ≡ true → Holds S (tenant t.machine) →
+      (a ≡ answer_to S (read_event e)) × ((m : MachineState) × (new ≡ Some (record { name = t.name; machine = m })) × Holds (after_read S (read_event e)) (tenant m))
   pub none : is_there old e ≡ false → (new ≡ old) × (a ≡ text (Refused (nobody e)))
 
 -- for want of memory nothing changed
-pub record IsCalled (old : Option Tenant) (e : Event) (a : Answer) (new : Option Tenant) : Type 0 where
+pub record IsCalled (old : Option TenantState) (e : Event) (a : Answer) (new : Option TenantState) : Type 0 where
   pub served : is_unanswered a ≡ false → IsServed old e a new
   pub memory : is_unanswered a ≡ true → (new ≡ old) × (a ≡ memory_answer)
 
-abbrev pub Tells : Option Tenant → Asked → LineAnswer → Option Tenant → Type 0
+abbrev pub Tells : Option TenantState → Asked → LineAnswer → Option TenantState → Type 0
 Tells old (Add name cluster quota first) answer new = IsAdded old name cluster quota first answer new
 Tells old (Call method target body) (Told a) new = IsCalled old (Called method target body) a new
 Tells old (Call method target body) answer new = ⊥
@@ -127,11 +136,13 @@ IsUnserved taken (Add name cluster quota first) answer = IsRefused (add_fault ta
 IsUnserved taken (Call method target body) (Told a) = is_unanswered a ≡ false → a ≡ text (Refused (nobody (Called method target body)))
 IsUnserved taken (Call method target body) answer = ⊥
 
--- an answer that says nothing of its call says that memory ran out
-abbrev pub IsSpoken : LineAnswer → Type 0
-IsSpoken Done = Unit {0}
-IsSpoken (No f) = Unit {0}
-IsSpoken (Told a) = is_unanswered a ≡ true → a ≡ memory_answer
+-- an add is told that it was done or why not, and a call its answer; one that says nothing of its call says that memory ran out
+abbrev pub IsSpoken : Asked → LineAnswer → Type 0
+IsSpoken (Add name cluster quota first) Done = Unit {0}
+IsSpoken (Add name cluster quota first) (No f) = Unit {0}
+IsSpoken (Add name cluster quota first) (Told a) = ⊥
+IsSpoken (Call method target body) (Told a) = is_unanswered a ≡ true → a ≡ memory_answer
+IsSpoken (Call method target body) answer = ⊥
 
 -- a line is the tenant's own call
 abbrev pub is_own_call : List ℕ → Asked → Bool
@@ -139,14 +150,14 @@ is_own_call name (Add n cluster quota first) = false
 is_own_call name (Call method target body) = is_of name (Called method target body)
 
 -- what is told of the tenant's own events is what it is told alone, and its machine holds the state after them; other lines are answered as if it was not there
-pub record IsAlone (name : List ℕ) (S : State History) (xs : List LineTurn) (t : Tenant) : Type 0 where
+pub record IsAlone (name : List ℕ) (S : State History) (xs : List LineTurn) (t : TenantState) : Type 0 where
   pub named : t.name ≡ name
   pub told_alone : told (own name (turns xs)) ≡ alone S (asked (own name (turns xs)))
-  pub holds : Holds t.machine (alone_after S (asked (own name (turns xs))))
+  pub holds : Holds (alone_after S (asked (own name (turns xs)))) (tenant t.machine)
   pub others : AllByRecursion (λ (x : LineTurn). is_own_call name x.asked ≡ false → IsUnserved true x.asked x.answer) xs
 
 -- the lines before the add that made the tenant are unserved, and from it on the tenant is alone, from its opening
-pub record IsTenant (xs : List LineTurn) (t : Tenant) : Type 0 where
+pub record IsTenant (xs : List LineTurn) (t : TenantState) : Type 0 where
   pub before : List LineTurn
   pub name : List ℕ
   pub cluster : ℕ
@@ -159,6 +170,6 @@ pub record IsTenant (xs : List LineTurn) (t : Tenant) : Type 0 where
   pub served : IsAlone name (opening cluster quota first) later t
 
 -- all lines, and the tenant that is there after them
-abbrev pub IsReplayed : List LineTurn → Option Tenant → Type 0
+abbrev pub IsReplayed : List LineTurn → Option TenantState → Type 0
 IsReplayed xs None = AllByRecursion (λ (x : LineTurn). IsUnserved false x.asked x.answer) xs
 IsReplayed xs (Some t) = IsTenant xs t

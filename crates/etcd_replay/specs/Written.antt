@@ -2,18 +2,17 @@
 use Rattle.std.specs.Prelude.{◌≡◌, ℕ, ◌+◌, List, ◌∷◌, ◌++◌, length, map, flat_map, Option, None, Some}
 use Rattle.std.specs.List.{AllByRecursion}
 use Rattle.std.specs.Io.KnownBytes.{Appends}
-use Rattle.etcd_replay.specs.declared.replay.Tenant.{Tenant}
 use Rattle.etcd_replay.specs.Script.{lines_of, read_line}
 use Rattle.etcd_replay.specs.Answers.{line_of}
-use Rattle.etcd_replay.specs.Replaying.{LineTurn, IsReplayed, IsSpoken}
+use Rattle.etcd_replay.specs.Replaying.{TenantState, LineTurn, IsReplayed, IsSpoken}
 
 -- these lines can all be read, and what was written is their answers
 pub record Wrote (old new : Option (List ℕ)) (lines : List (List ℕ)) : Type 0 where
   pub turns : List LineTurn
-  pub last : Option Tenant
+  pub last : Option TenantState
   pub read : map read_line lines ≡ map (λ x. Some x.asked) turns
   pub replayed : IsReplayed turns last
-  pub spoken : AllByRecursion (λ (x : LineTurn). IsSpoken x.answer) turns
+  pub spoken : AllByRecursion (λ (x : LineTurn). IsSpoken x.asked x.answer) turns
   pub text : Appends old new (flat_map (λ x. line_of x.answer) turns)
 
 -- the n-th line is the first that can't be read, and the lines before it are answered

@@ -8,8 +8,11 @@ mod answer;
 mod fault;
 mod lines;
 mod replay;
+mod reserve;
 mod run;
 mod script;
+#[cfg(test)]
+mod tests;
 
 use fault::ReplayFault;
 use run::run;

@@ -1,38 +1,53 @@
 //! The tenant of a script, and what it answers.
 ghost use Rattle.std.specs.Prelude.{◌≡◌, ◌≢◌, ◌↔◌, ◌≤◌, ◌+◌, ℕ, IsTrue, IfErr, IfOk, OnOk, OnErr, Some, None, Ok, true, false, is_some, length};
 ghost use Rattle.std.specs.List.{list_all};
-ghost use Rattle.etcd_model.specs.Machine.{opening};
 ghost use Rattle.etcd_model.specs.Alone.{Called, is_of, is_unanswered};
 ghost use Rattle.etcd_model.specs.Calls.{call_of, read_posted, target_of};
 ghost use Rattle.etcd_model.specs.ReplyText.{memory_answer, text};
-ghost use Rattle.tenant_machine.specs.Newest.{Newest, Holds};
+ghost use Rattle.tenant_machine.specs.Held.{IsLent};
 ghost use Rattle.etcd_replay.specs.Script.{asked_by};
 ghost use Rattle.etcd_replay.specs.Replaying.{add_fault, is_name, is_name_byte, within_limits, refused_call, nobody, IsAdded, IsCalled, IsServed, Opens, Serves, Tells};
 
 use crate::answer::{AddFault, Answer, Body, LineAnswer};
+use crate::reserve::Reserve;
 use crate::script::Line;
 use etcd_types::limits::{LAST_REVISION, MAX_NAME, MAX_QUOTA, MIN_QUOTA};
 use etcd_types::{List, Refusal, Reply, Step};
 use gateway_json::{call_of, read_posted, target_of};
 use gateway_text::{memory_text, write_reply};
 use std::alloc::Global;
-use tenant_machine::Machine;
+use std::marker::Model;
+use tenant_machine::{Machine, segments_for};
 
-/// A tenant, by its name.
+/// A tenant, by its name, with the segments that its quota takes.
 #[derive(Drop)]
-pub(crate) struct Tenant {
+pub(crate) struct Tenant<S: Reserve> {
     name: List<u8>,
     machine: Machine,
+    segments: S,
+}
+
+impl<S: Reserve> Model for Tenant<S> {
+    ghost use Rattle.tenant_machine.specs.Held.{IsLent};
+    ghost use Rattle.etcd_replay.specs.Replaying.{TenantState, tenant_code};
+
+    ghost Value = { TenantState };
+
+    ghost coded = { tenant_code };
+
+    ghost view = { λ t. record { name = t.name; machine = t.machine } };
+
+    ghost invariant = { λ t. IsLent t.machine.store (S.left t.segments) (S.room t.segments) };
 }
 
 /// A script's tenant, once it is added. There is one for now.
 #[derive(Drop)]
-pub(crate) struct Replay {
-    pub(crate) tenant: Option<Tenant>,
+pub(crate) struct Replay<S: Reserve> {
+    pub(crate) tenant: Option<Tenant<S>>,
 }
 
-impl Replay {
-    pub(crate) fn new() -> Replay
+impl<S: Reserve> Replay<S> {
+    pub(crate) fn new() -> Replay<S>
         ensures { result.tenant ≡ None }
     {
         Replay { tenant: None }
@@ -83,10 +98,18 @@ impl Replay {
         let Ok(name) = List::from_slice(alloc, name) else {
             return Err(AddFault::Memory);
         };
-        let Ok(machine) = Machine::new(alloc, cluster, quota as u32, first as i64) else {
+        let quota = quota as u32;
+        let Ok(machine) = Machine::new(alloc, cluster, quota, first as i64) else {
             return Err(AddFault::Memory);
         };
-        self.tenant = Some(Tenant { name, machine });
+        let Ok(segments) = S::reserve(alloc, segments_for(quota)) else {
+            return Err(AddFault::Memory);
+        };
+        self.tenant = Some(Tenant {
+            name,
+            machine,
+            segments,
+        });
         Ok(())
     }
 
@@ -106,7 +129,7 @@ impl Replay {
     }
 }
 
-impl Tenant {
+impl<S: Reserve> Tenant<S> {
     fn call(&mut self, alloc: Global, method: &[u8], path: &[u8], body: &[u8]) -> Answer
         ensures serves { Serves self.old.machine (read_posted method.now path.now body.now) result self.new.machine }
         ensures named { self.new.name ≡ self.old.name }
@@ -128,7 +151,7 @@ impl Tenant {
         let Ok((status, body)) = write_reply(alloc, planned.reply()) else {
             return no_memory();
         };
-        let _ = self.machine.commit(planned);
+        let _ = self.machine.commit(&mut self.segments, planned);
         Answer {
             status,
             body: Body::Made(body),

@@ -7,7 +7,9 @@ use crate::answer::write_answer;
 use crate::fault::ReplayFault;
 use crate::lines::{Taken, take_line, without_newline};
 use crate::replay::Replay;
+use crate::reserve::Reserve;
 use crate::script::read_line;
+use segment_pool::Stock;
 use std::alloc::Global;
 use std::io::{BufRead, Write};
 
@@ -25,7 +27,20 @@ pub fn run<R: BufRead, W: Write>(
     ensures line { IfErr result (λ f. (n : ℕ) → f ≡ ReplayFault.Line n → IfSome (R.remaining reader.old) (λ script. StopsAt n script (W.contents writer.old) (W.contents writer.new))) }
     ensures memory { IfErr result (λ f. f ≡ ReplayFault.Memory → IfSome (R.remaining reader.old) (λ script. StopsAmong script (W.contents writer.old) (W.contents writer.new))) }
 {
-    let mut replay = Replay::new();
+    run_over::<Stock, R, W>(alloc, reader, writer)
+}
+
+/// The same, whose tenant has its segments from any source.
+pub(crate) fn run_over<S: Reserve, R: BufRead, W: Write>(
+    alloc: Global,
+    reader: &mut R,
+    writer: &mut W,
+) -> Result<(), ReplayFault>
+    ensures ok { OnOk result (IfSome (R.remaining reader.old) (λ script. Wrote (W.contents writer.old) (W.contents writer.new) (lines_of script))) }
+    ensures line { IfErr result (λ f. (n : ℕ) → f ≡ ReplayFault.Line n → IfSome (R.remaining reader.old) (λ script. StopsAt n script (W.contents writer.old) (W.contents writer.new))) }
+    ensures memory { IfErr result (λ f. f ≡ ReplayFault.Memory → IfSome (R.remaining reader.old) (λ script. StopsAmong script (W.contents writer.old) (W.contents writer.new))) }
+{
+    let mut replay = Replay::<S>::new();
     let mut text = Vec::new(alloc);
     for n in 0..u32::MAX {
         if let Taken::TooLong = take_line(reader, &mut text)? {

@@ -5,7 +5,7 @@ ghost use Rattle.etcd_types.specs.Limits.{max_body};
 ghost use Rattle.etcd_types.specs.declared.refusal.Refusal.TheVariants.{TooLarge};
 ghost use Rattle.etcd_model.specs.Members.{IsAnswer};
 ghost use Rattle.etcd_model.specs.Offered.{is_built};
-ghost use Rattle.etcd_model.specs.Calls.{check_fields, offered_only, read_built, read_call, read_members, read_posted, read_step};
+ghost use Rattle.etcd_model.specs.Calls.{check_fields, read_built, read_call, read_members, read_posted, read_step};
 
 use crate::body::read_body;
 use crate::kv::{read_compaction, read_delete, read_put, read_range};
@@ -16,7 +16,7 @@ use crate::txn::read_txn;
 use crate::watch::read_watch;
 use etcd_types::limits::MAX_BODY;
 use etcd_types::{Call, Refusal, Step};
-use request_checks::{fields, is_offered};
+use request_checks::fields;
 use serde_json::Value;
 use std::alloc::Global;
 
@@ -79,27 +79,25 @@ pub fn read_step(alloc: Global, call: Call, body: &[u8]) -> Result<Step, Refusal
 fn is_built(call: Call) -> bool
     ensures { result ≡ is_built call }
 {
-    matches!(call, Call::Put | Call::Range)
+    matches!(
+        call,
+        Call::Range
+            | Call::Put
+            | Call::DeleteRange
+            | Call::Compaction
+            | Call::Alarm
+            | Call::Status
+            | Call::Defragment
+    )
 }
 
-/// A step, unless it is not offered.
-fn offered_only(step: Step) -> Result<Step, Refusal>
-    ensures { result ≡ offered_only step }
-{
-    if is_offered(&step) {
-        Ok(step)
-    } else {
-        Err(Refusal::NotOffered)
-    }
-}
-
-/// `read_step` of what is built and offered.
+/// `read_step` of what is built.
 #[tactic(auto, unfolding(etcd_model::specs::Calls::read_built))]
 fn read_built(alloc: Global, call: Call, body: &[u8]) -> Result<Step, Refusal>
     ensures { IsAnswer result (read_built call body.now) }
 {
     if is_built(call) {
-        offered_only(read_step(alloc, call, body)?)
+        read_step(alloc, call, body)
     } else {
         check_size(body).and(Err(Refusal::NotOffered))
     }

@@ -4,7 +4,10 @@
 //! prove.
 use crate::{bytes_of_text, call_of, read_call, read_posted, read_step, target_of};
 use etcd_types::limits::MAX_BODY;
-use etcd_types::{Call, Mem, RangeReq, Refusal, SortOrder, SortTarget, Step};
+use etcd_types::{
+    AlarmAction, AlarmKind, AlarmReq, Call, Mem, PutReq, RangeReq, Refusal, SortOrder, SortTarget,
+    Step,
+};
 use std::alloc::Global;
 use std::test::Fail;
 
@@ -262,28 +265,106 @@ fn sizes(rt: HostRuntime) -> Mem<()> {
     Ok(())
 }
 
+/// The body of what is built is read, and that of what is not built is not.
 #[test]
 fn gate(rt: HostRuntime) {
     assert_eq!(rt; refusal_at(rt.alloc(), b"kv/put", PUT), None);
     let refused = [
-        (
-            "kv/range",
-            "{\"key\":\"YQ==\",\"limit\":1}",
-            Refusal::NotOffered,
-        ),
         ("kv/range", "{\"key\":\"\",\"limit\":1}", Refusal::NoKey),
         (
             "kv/range",
             "{\"key\":\"\",\"limit\":\"x\"}",
             Refusal::BadBody,
         ),
+        ("kv/deleterange", "{", Refusal::BadBody),
         ("kv/txn", "{", Refusal::NotOffered),
+        ("lease/grant", "{", Refusal::NotOffered),
+        ("watch", "{", Refusal::NotOffered),
         ("kv/none", "{", Refusal::NoPath),
     ];
     for (path, body, refusal) in refused {
         let met = refusal_at(rt.alloc(), path.as_bytes(), body.as_bytes());
         assert_eq!(rt; met, Some(refusal), "{path} {body}");
     }
+}
+
+/// Whether a posted range is read with all that it names.
+fn is_full_range(alloc: Global) -> Result<bool, Refusal> {
+    let body =
+        b"{\"key\":\"YQ==\",\"range_end\":\"Yg==\",\"limit\":3,\"revision\":\"2\",\"sort_order\":\"DESCEND\",\"sort_target\":\"MOD\",\"keys_only\":true,\"max_create_revision\":7}";
+    match read_posted(alloc, b"POST", b"kv/range", body)? {
+        Step::Range(request) => Ok(matches!(
+            request,
+            RangeReq {
+                limit: 3,
+                revision: 2,
+                sort_order: SortOrder::Descend,
+                sort_target: SortTarget::Mod,
+                keys_only: true,
+                count_only: false,
+                max_create_revision: 7,
+                ..
+            }
+        )),
+        _ => Ok(false),
+    }
+}
+
+/// Whether a posted put is read with all that it names.
+fn is_full_put(alloc: Global) -> Result<bool, Refusal> {
+    let body = b"{\"key\":\"YQ==\",\"lease\":\"5\",\"prev_kv\":true,\"ignore_value\":true}";
+    match read_posted(alloc, b"POST", b"kv/put", body)? {
+        Step::Put(request) => Ok(matches!(
+            request,
+            PutReq {
+                lease: 5,
+                prev_kv: true,
+                ignore_value: true,
+                ignore_lease: false,
+                ..
+            }
+        )),
+        _ => Ok(false),
+    }
+}
+
+/// Whether a posted deleterange is read with its end and what it is to answer.
+fn is_full_delete(alloc: Global) -> Result<bool, Refusal> {
+    let body = b"{\"key\":\"YQ==\",\"range_end\":\"Yg==\",\"prev_kv\":true}";
+    match read_posted(alloc, b"POST", b"kv/deleterange", body)? {
+        Step::Delete(request) => {
+            Ok(request.range_end.as_slice() == b"b".as_slice() && request.prev_kv)
+        }
+        _ => Ok(false),
+    }
+}
+
+/// Whether the body of the call at a path asks for that step.
+fn asks_for(alloc: Global, path: &[u8], body: &[u8], wanted: Step) -> Result<bool, Refusal> {
+    Ok(read_call(alloc, path, body)?.same_as(&wanted))
+}
+
+#[test]
+fn built(rt: HostRuntime) {
+    let alloc = rt.alloc();
+    assert_eq!(rt; is_full_range(alloc), Ok(true));
+    assert_eq!(rt; is_full_put(alloc), Ok(true));
+    assert_eq!(rt; is_full_delete(alloc), Ok(true));
+    let compaction = b"{\"revision\":\"3\",\"physical\":true}";
+    let compacts = asks_for(alloc, b"kv/compaction", compaction, Step::Compact(3));
+    assert_eq!(rt; compacts, Ok(true));
+    let alarm = AlarmReq {
+        action: AlarmAction::Deactivate,
+        member: 2,
+        alarm: AlarmKind::NoSpace,
+    };
+    let body = b"{\"action\":\"DEACTIVATE\",\"memberID\":2,\"alarm\":\"NOSPACE\"}";
+    let clears = asks_for(alloc, b"maintenance/alarm", body, Step::Alarm(alarm));
+    assert_eq!(rt; clears, Ok(true));
+    let status = asks_for(alloc, b"maintenance/status", b"{}", Step::Status);
+    assert_eq!(rt; status, Ok(true));
+    let defragment = asks_for(alloc, b"maintenance/defragment", b"", Step::Defragment);
+    assert_eq!(rt; defragment, Ok(true));
 }
 
 #[test]

@@ -256,7 +256,7 @@ module _ {X Y : Type 0} (ax : Asks X) (ay : Asks Y) (h : X → Y) where
     same_decided t p cells step None allowed = same_outcome t p cells step (allowed refl)
 
     -- before space is counted
-    pub carried_before_space : (t : State X) → P t.store → SameCells t.store → (step : Step) → before_space ay (over h t) step ≡ outcome_over h (before_space ax t step)
+    carried_before_space : (t : State X) → P t.store → SameCells t.store → (step : Step) → before_space ay (over h t) step ≡ outcome_over h (before_space ax t step)
     carried_before_space t p cells step =
         let k = carries t.store p in
         ap (λ (r : Option Refusal). decided ay (over h t) step (first_refusal (r ∷ look_up ay (over h t) step ∷ []))) (same_early t k step)

@@ -40,12 +40,12 @@ use Rattle.etcd_model.specs.Held.{keep, IsHistory}
 use Rattle.etcd_model.proofs.HistoryLaws.{current-after}
 use Rattle.etcd_model.proofs.GrowthLaws.{after_before_space, store_stays, first_none}
 use Rattle.etcd_model.proofs.OnceLaws.{outcome_once, ChangesOnce-opening}
-use Rattle.model_laws.specs.Holding.{KeepAfter, KeepCompact, KeepReads, KeepLook, KeepAhead, KeepRowAt, KeepCells, OpeningIsHistory, StepIsHistory, StepOverKept, BeforeSpaceOverKept}
+use Rattle.model_laws.specs.Holding.{KeepAfter, KeepCompact, KeepReads, KeepLook, KeepAhead, KeepRowAt, KeepCells, OpeningIsHistory, StepIsHistory, StepOverKept}
 use Rattle.model_laws.proofs.LastLaws.{true_or_false}
 use Rattle.model_laws.proofs.KeptLaws.{kept_append, kept_kept, kept_true, kept_false, live_kept}
 use Rattle.model_laws.proofs.RecordedLaws.{all_push, all_weaker, changes_are_entries, changes_after, changes_rise, changes_up_to_current, changes_own_their_rows, live_of_changes, rows_of_changes}
 use Rattle.model_laws.proofs.HistoryKeptLaws.{rows_kept, recorded_kept, kept_of_changes}
-use Rattle.model_laws.proofs.CarryLaws.{Carries, carried, carried_before_space, up_to_current}
+use Rattle.model_laws.proofs.CarryLaws.{Carries, carried, up_to_current}
 
 -- ---- one more revision
 
@@ -193,7 +193,7 @@ before_space_up S step le = after_allowed IsUp S step le (λ f e. outcome_up S s
 before_space_once : (S : State History) (step : Step) → ChangesOnce S.store → ChangesOnce (machine.before_space S step).state.store
 before_space_once S step once = after_before_space (λ T. ChangesOnce T.store) S step once (outcome_once S step once)
 
-pub before_space_is_history : (S : State History) (step : Step) → IsHistory S.store → IsHistory (machine.before_space S step).state.store
+before_space_is_history : (S : State History) (step : Step) → IsHistory S.store → IsHistory (machine.before_space S step).state.store
 before_space_is_history S step is = record { compacted = before_space_up S step is.compacted; once = before_space_once S step is.once }
 
 -- the machine's step ends in the state before space is counted, or in the one before, with the alarm or without
@@ -216,10 +216,6 @@ pub step_is_history : StepIsHistory
 step_is_history S step is = after_machine (λ T. IsHistory T.store) S step is is (before_space_is_history S step is)
 
 -- ---- the steps
-
-pub before_space_over_kept : BeforeSpaceOverKept
-before_space_over_kept S step is =
-    carried_before_space machine.history kept_store keep (λ H. H.compacted ≤ current H) carries up_after S is.compacted (keep_cells S.store is) step
 
 pub step_over_kept : StepOverKept
 step_over_kept S step is =

@@ -8,9 +8,9 @@ use Rattle.etcd_model.specs.Machine as machine
 use Rattle.etcd_model.specs.Machine.{opening}
 use Rattle.etcd_model.specs.Store.{Store, kept_store}
 use Rattle.etcd_model.specs.Held.{keep, empty_store, over, outcome_over}
-use Rattle.model_laws.specs.Holding.{OpeningIsHeld, HeldAfterStep, HeldBeforeSpace}
-use Rattle.model_laws.proofs.HeldLaws.{step_over_kept, before_space_over_kept}
-use Rattle.model_laws.proofs.StateLaws.{opening_is_state, before_is_state, step_is_state}
+use Rattle.model_laws.specs.Holding.{OpeningIsHeld, HeldAfterStep}
+use Rattle.model_laws.proofs.HeldLaws.{step_over_kept}
+use Rattle.model_laws.proofs.StateLaws.{opening_is_state, step_is_state}
 
 pub opening_is_held : OpeningIsHeld
 opening_is_held cluster quota first = record { sound = opening_is_state cluster quota first; same = ap (λ n. over (λ (H : History). empty_store n) (opening cluster quota first)) (first_current first) }
@@ -22,8 +22,3 @@ pub held_after_step : HeldAfterStep
 held_after_step S m step h =
     let same : stepping.machine kept_store m step ≡ outcome_over keep (machine.machine S step) = ap (λ (t : State Store). stepping.machine kept_store t step) h.same ∙ step_over_kept S step h.sound.history in
     (record { sound = step_is_state S step h.sound; same = ap (λ (o : Outcome Store). o.state) same }, ap (λ (o : Outcome Store). o.reply) same)
-
-pub held_before_space : HeldBeforeSpace
-held_before_space S m step h =
-    let same : stepping.before_space kept_store m step ≡ outcome_over keep (machine.before_space S step) = ap (λ (t : State Store). stepping.before_space kept_store t step) h.same ∙ before_space_over_kept S step h.sound.history in
-    (record { sound = before_is_state S step h.sound; same = ap (λ (o : Outcome Store). o.state) same }, ap (λ (o : Outcome Store). o.reply) same)

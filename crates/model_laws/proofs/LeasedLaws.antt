@@ -150,7 +150,7 @@ keys_outcome S (Revoke id) has f = keys_after S.store (map Del (attached (reads 
 keys_outcome S (Tick m) has f = let later = record S { moment = max S.moment (min m last_moment) } in keys_ends (run_out later.moment later.leases) later has
 keys_outcome S step has f = subst HasKeys (sym (store_stays S step refl)) has
 
-pub before_has_keys : (S : State History) (step : Step) → HasKeys S.store → HasKeys (machine.before_space S step).state.store
+before_has_keys : (S : State History) (step : Step) → HasKeys S.store → HasKeys (machine.before_space S step).state.store
 before_has_keys S step has = after_allowed (λ T. HasKeys T.store) S step has (λ f e. keys_outcome S step has f)
 
 pub step_has_keys : StepHasKeys
@@ -327,7 +327,7 @@ leased_outcome S (KeepAlive id) given has e = alive_leased S id (lease_at S.leas
 leased_outcome S (Tick m) given has e = let later = record S { moment = max S.moment (min m last_moment) } in ends_leased (run_out later.moment later.leases) later given has
 leased_outcome S step given has e = quiet_outcome HoldsLeased S has (λ i w. has) (λ on. has) step refl
 
-pub before_holds_leased : (S : State History) (step : Step) → HasKeys S.store → HoldsLeased S → HoldsLeased (machine.before_space S step).state
+before_holds_leased : (S : State History) (step : Step) → HasKeys S.store → HoldsLeased S → HoldsLeased (machine.before_space S step).state
 before_holds_leased S step given has = after_allowed HoldsLeased S step has (λ f e. leased_outcome S step given has e)
 
 pub step_holds_leased : StepHoldsLeased

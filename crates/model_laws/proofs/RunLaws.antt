@@ -124,7 +124,7 @@ full_outcome S (Revoke id) full = full_after S.store (map Del (attached (reads m
 full_outcome S (Tick m) full = let later = record S { moment = max S.moment (min m last_moment) } in full_ends (run_out later.moment later.leases) later full
 full_outcome S step full = subst IsFull (sym (store_stays S step refl)) full
 
-pub before_is_full : (S : State History) (step : Step) → IsFull S.store → IsFull (machine.before_space S step).state.store
+before_is_full : (S : State History) (step : Step) → IsFull S.store → IsFull (machine.before_space S step).state.store
 before_is_full S step full = after_allowed (λ T. IsFull T.store) S step full (λ f e. full_outcome S step full)
 
 pub step_is_full : StepIsFull
@@ -157,7 +157,7 @@ slots_outcome S (KeepAlive id) = slots_alive S id (lease_at S.leases id)
 slots_outcome S (Tick m) = let later = record S { moment = max S.moment (min m last_moment) } in slots_ends (run_out later.moment later.leases) later
 slots_outcome S step = quiet_outcome (SameSlots S) S refl (λ i w. length-set S.slots i w) (λ on. refl) step refl
 
-pub before_has_slots : (S : State History) (step : Step) → length (machine.before_space S step).state.slots ≡ length S.slots
+before_has_slots : (S : State History) (step : Step) → length (machine.before_space S step).state.slots ≡ length S.slots
 before_has_slots S step = after_allowed (SameSlots S) S step refl (λ f e. slots_outcome S step)
 
 pub step_has_slots : StepHasSlots
@@ -352,7 +352,7 @@ leases_outcome S (Txn t) has h = same_leases S (outcome machine.history S (Txn t
 leases_outcome S (Compact r) has h = same_leases S (outcome machine.history S (Compact r)).state has refl refl
 leases_outcome S step has h = quiet_outcome HasLeases S has (λ i w. same_leases S (record S { slots = slice_set S.slots i w }) has refl refl) (λ on. same_leases S (record S { alarm = on }) has refl refl) step refl
 
-pub before_has_leases : (S : State History) (step : Step) → HasLeases S → HasLeases (machine.before_space S step).state
+before_has_leases : (S : State History) (step : Step) → HasLeases S → HasLeases (machine.before_space S step).state
 before_has_leases S step has = after_allowed HasLeases S step has (λ f e. leases_outcome S step has f)
 
 pub step_has_leases : StepHasLeases

@@ -6,9 +6,9 @@ use Rattle.etcd_model.specs.declared.state.State.{State}
 use Rattle.etcd_model.specs.Machine as machine
 use Rattle.etcd_model.specs.Held.{IsState}
 use Rattle.model_laws.specs.Runs.{OpeningIsState, StepIsState}
-use Rattle.model_laws.proofs.HeldLaws.{opening_is_history, before_space_is_history, step_is_history}
-use Rattle.model_laws.proofs.RunLaws.{opening_is_full, before_is_full, step_is_full, opening_has_leases, before_has_leases, step_has_leases, opening_has_slots, before_has_slots, step_has_slots}
-use Rattle.model_laws.proofs.LeasedLaws.{opening_has_keys, before_has_keys, step_has_keys, opening_holds_leased, before_holds_leased, step_holds_leased}
+use Rattle.model_laws.proofs.HeldLaws.{opening_is_history, step_is_history}
+use Rattle.model_laws.proofs.RunLaws.{opening_is_full, step_is_full, opening_has_leases, step_has_leases, opening_has_slots, step_has_slots}
+use Rattle.model_laws.proofs.LeasedLaws.{opening_has_keys, step_has_keys, opening_holds_leased, step_holds_leased}
 
 pub opening_is_state : OpeningIsState
 opening_is_state cluster quota first = record {
@@ -18,16 +18,6 @@ opening_is_state cluster quota first = record {
   leases = opening_has_leases cluster quota first;
   leased = opening_holds_leased cluster quota first;
   slots = opening_has_slots cluster quota first;
-}
-
-pub before_is_state : (S : State History) (step : Step) → IsState S → IsState (machine.before_space S step).state
-before_is_state S step is = record {
-  history = before_space_is_history S step is.history;
-  full = before_is_full S step is.full;
-  keys = before_has_keys S step is.keys;
-  leases = before_has_leases S step is.leases;
-  leased = before_holds_leased S step is.keys is.leased;
-  slots = before_has_slots S step ∙ is.slots;
 }
 
 pub step_is_state : StepIsState

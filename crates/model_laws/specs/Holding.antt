@@ -52,10 +52,6 @@ StepIsHistory = (S : State History) (step : Step) → IsHistory S.store → IsHi
 abbrev pub StepOverKept : Type 0
 StepOverKept = (S : State History) (step : Step) → IsHistory S.store → stepping.machine kept_store (over keep S) step ≡ outcome_over keep (machine.machine S step)
 
--- and so it is before space is counted
-abbrev pub BeforeSpaceOverKept : Type 0
-BeforeSpaceOverKept = (S : State History) (step : Step) → IsHistory S.store → stepping.before_space kept_store (over keep S) step ≡ outcome_over keep (machine.before_space S step)
-
 -- a tenant as it was opened holds the opening
 abbrev pub OpeningIsHeld : Type 0
 OpeningIsHeld = (cluster quota first : ℕ) → Holds (opening cluster quota first) (over (λ (H : History). empty_store first) (opening cluster quota first))
@@ -64,7 +60,3 @@ OpeningIsHeld = (cluster quota first : ℕ) → Holds (opening cluster quota fir
 abbrev pub HeldAfterStep : Type 0
 HeldAfterStep = (S : State History) (m : State Store) (step : Step) → Holds S m
     → Holds (machine.machine S step).state (stepping.machine kept_store m step).state × ((stepping.machine kept_store m step).reply ≡ (machine.machine S step).reply)
-
-abbrev pub HeldBeforeSpace : Type 0
-HeldBeforeSpace = (S : State History) (m : State Store) (step : Step) → Holds S m
-    → Holds (machine.before_space S step).state (stepping.before_space kept_store m step).state × ((stepping.before_space kept_store m step).reply ≡ (machine.before_space S step).reply)

@@ -1,5 +1,5 @@
 //! What is kept of a history answers as the history does: a step over it is the step over the history.
-ghost use Rattle.model_laws.specs.Holding.{BeforeSpaceOverKept, HeldAfterStep, HeldBeforeSpace, KeepAfter, KeepAhead, KeepCells, KeepCompact, KeepLook, KeepReads, KeepRowAt, OpeningIsHeld, OpeningIsHistory, StepIsHistory, StepOverKept};
+ghost use Rattle.model_laws.specs.Holding.{HeldAfterStep, KeepAfter, KeepAhead, KeepCells, KeepCompact, KeepLook, KeepReads, KeepRowAt, OpeningIsHeld, OpeningIsHistory, StepIsHistory, StepOverKept};
 
 /// One more revision of what is kept is what is kept with one more revision.
 pub fn keep_after()
@@ -51,11 +51,6 @@ pub fn step_over_kept()
     ensures { StepOverKept }
 {}
 
-/// The same before space is counted.
-pub fn before_space_over_kept()
-    ensures { BeforeSpaceOverKept }
-{}
-
 /// A tenant with an empty store holds the opening.
 pub fn opening_is_held()
     ensures { OpeningIsHeld }
@@ -64,9 +59,4 @@ pub fn opening_is_held()
 /// Whatever state a tenant held, after a step it holds the state afterwards, and it answers alike.
 pub fn held_after_step()
     ensures { HeldAfterStep }
-{}
-
-/// The same before space is counted.
-pub fn held_before_space()
-    ensures { HeldBeforeSpace }
 {}

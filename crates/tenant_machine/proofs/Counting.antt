@@ -1,39 +1,66 @@
--- No row has more versions than there are revisions, and so none ever passes its bound.
-use Rattle.std.proofs.Common.{◌≡◌, ℕ, ◌+◌, ◌≤◌, List, [], ◌∷◌, Option, Some, None, Bool, true, false, cond, arith, refl, subst}
-use Rattle.std.specs.Str.{bytes_eq}
-use Rattle.std.specs.declared.cmp.Ordering.TheVariants.{Less, Equal, Greater}
+-- How many cells are in use, and how many are free, after a commit.
+use Rattle.std.proofs.Common.{◌≡◌, ℕ, ◌+◌, ◌≤◌, List, ap, sym, subst, ◌∙◌, arith}
+use Rattle.std.specs.Prelude.{sum_by}
 use Rattle.etcd_types.specs.declared.key_value.KeyValue.{KeyValue}
-use Rattle.etcd_model.specs.Order.{beside, put_in}
-use Rattle.tenant_machine.specs.Newest.{by_key}
-use Rattle.tenant_machine.specs.Plans.{AreCounted, next_version, row_of}
+use Rattle.etcd_model.specs.Interval.{every_key}
+use Rattle.etcd_model.specs.Kept.{cost_delete}
+use Rattle.etcd_model.specs.Changes.{kept}
+use Rattle.etcd_model.specs.Store.{Store, IsStore, cells, compact, record_cells, reserved_cells}
+use Rattle.model_laws.proofs.HistoryKeptLaws.{rows_kept}
+use Rattle.model_laws.proofs.SpaceLaws.{after_is_store, compact_is_store, compaction_takes_none}
+use Rattle.revision_store.specs.declared.plan.Write.{Write}
+use Rattle.revision_store.specs.Plans.{costs_in}
+use Rattle.revision_store.specs.Stored.{StoreState, changes_of}
+use Rattle.revision_store.specs.Stored as stored
+use Rattle.quota_alarm.specs.declared.quota.Quota.{Quota}
+use Rattle.revision_store.proofs.Grown.{costs_of, records_after}
+use Rattle.tenant_machine.specs.Held.{IsMachine}
+use Rattle.tenant_machine.specs.Plans.{FitsCompaction, FitsWrite, written}
 
-either : (P : KeyValue → Type 0) (b : Bool) (first : KeyValue) (later : Option KeyValue) (row : KeyValue) → P first → (later ≡ Some row → P row) → cond b (Some first) later ≡ Some row → P row
-either P true first later row here rest e = subst P (some_is first row e) here
-  where
-    some_is : (a b : KeyValue) → Some a ≡ Some b → a ≡ b
-    some_is a b h = cc
-either P false first later row here rest e = rest e
+-- ---- a compaction
 
-pub counted_found : (n : ℕ) (key : List ℕ) (rows : List KeyValue) (row : KeyValue) → AreCounted n rows → row_of key rows ≡ Some row → row.version ≤ n
-counted_found n key [] row counted e = absurd (cc)
-counted_found n key (first ∷ rows) row counted e = either (λ r. r.version ≤ n) (bytes_eq first.key key) first (row_of key rows) row counted.0 (counted_found n key rows row counted.1) e
+-- what is held for deletes stays
+reserved_stays : (s : Store) (r : ℕ) → r ≤ s.current → IsStore s → reserved_cells s.current (kept r s.changes) ≡ reserved_cells s.current s.changes
+reserved_stays s r within is = ap (sum_by (λ (row : KeyValue). cost_delete row.key)) (rows_kept every_key r s.current s.changes within is.rises is.own)
 
-pub counted_more : (n m : ℕ) (rows : List KeyValue) → n ≤ m → AreCounted n rows → AreCounted m rows
-counted_more n m [] up counted = tt
-counted_more n m (row ∷ rows) up counted = (omega (arith, counted.0), counted_more n m rows up counted.1)
+-- records are none the more
+pub fewer_records : (s : Store) (r : ℕ) → s.compacted ≤ r → r ≤ s.current → IsStore s → record_cells (kept r s.changes) ≤ record_cells s.changes
+fewer_records s r above within is = omega (arith, compaction_takes_none s r is above within, reserved_stays s r within is)
 
-pub counted_put_in : (n : ℕ) (rows : List KeyValue) (row : KeyValue) → AreCounted n rows → row.version ≤ n → AreCounted n (put_in by_key rows row)
-counted_put_in n [] row counted one = (one, tt)
-counted_put_in n (first ∷ rows) row counted one =
-    elim (by_key row first) as (λ o. AreCounted n (beside o row first rows (put_in by_key rows row))) [
-      | Less ↦ (one, counted)
-      | Equal ↦ (one, counted.1)
-      | Greater ↦ (counted.0, counted_put_in n rows row counted.1 one)
-    ]
+-- the cells in use fall by those of the records that go
+used_after : (s : Store) (r : ℕ) → r ≤ s.current → IsStore s → cells (compact s r) + record_cells s.changes ≡ cells s + record_cells (kept r s.changes)
+used_after s r within is = omega (arith, reserved_stays s r within is)
 
-next_counted : (n : ℕ) (now : Option KeyValue) → ((row : KeyValue) → now ≡ Some row → row.version ≤ n) → next_version now ≤ n + 1
-next_counted n None each = omega arith
-next_counted n (Some row) each = omega (arith, each row refl)
+-- ---- a machine after a commit
 
-pub counted_next : (n : ℕ) (key : List ℕ) (rows : List KeyValue) → AreCounted n rows → next_version (row_of key rows) ≤ n + 1
-counted_next n key rows counted = next_counted n (row_of key rows) (λ row e. counted_found n key rows row counted e)
+-- after a write as many cells are in use as were planned, and those that are free are fewer by what its changes take
+pub machine_after_write : (store new : StoreState) (quota : Quota) (writes : List Write) (used : ℕ) → IsMachine store quota → FitsWrite store writes used
+    → new.kept ≡ written store writes → new.free + costs_in (stored.cells store) writes ≡ store.free → new.lease_cells ≡ store.lease_cells → new.reserved ≡ store.reserved → IsMachine new (record quota { used = used })
+machine_after_write store new quota writes used is fits kept free leases reserved = record {
+  sound = subst IsStore (sym kept) (after_is_store store.kept (changes_of store writes) is.sound);
+  used = fits.counted ∙ ap cells (sym kept);
+  space = omega (arith, is.space, free, leases, reserved, ap (λ (s : Store). record_cells s.changes) kept, records_after store.kept (changes_of store writes), costs_of (stored.cells store) writes);
+  leases = leases ∙ is.leases;
+  within = omega (arith, fits.within, reserved);
+  allowed = omega (arith, is.allowed, reserved);
+  few = omega (arith, is.few, reserved);
+}
+
+-- after a compaction the cells in use are fewer by those that records no longer take
+pub machine_after_compaction : (store new : StoreState) (quota : Quota) (revision used : ℕ) → IsMachine store quota → FitsCompaction store revision
+    → new.kept ≡ compact store.kept revision → new.free + record_cells new.kept.changes ≡ store.free + record_cells store.kept.changes → new.lease_cells ≡ store.lease_cells → new.reserved ≡ store.reserved
+    → used + record_cells store.kept.changes ≡ quota.used + record_cells new.kept.changes → IsMachine new (record quota { used = used })
+machine_after_compaction store new quota revision used is fits kept free leases reserved falls =
+    let records = ap (λ (s : Store). record_cells s.changes) kept in
+    let counted = ap cells kept in
+    let taken = used_after store.kept revision fits.within is.sound in
+    let fewer : record_cells new.kept.changes ≤ record_cells store.kept.changes = omega (arith, records, fewer_records store.kept revision (omega (arith, fits.above)) fits.within is.sound) in
+    record {
+      sound = subst IsStore (sym kept) (compact_is_store store.kept revision fits.within is.sound);
+      used = omega (arith, falls, is.used, taken, records, counted);
+      space = omega (arith, is.space, free, leases, reserved);
+      leases = leases ∙ is.leases;
+      within = omega (arith, is.within, reserved, falls, fewer);
+      allowed = omega (arith, is.allowed, reserved);
+      few = omega (arith, is.few, reserved);
+    }

@@ -1,3 +1,7 @@
+-- Proofs of this crate.
 pub mod Counting
-pub mod Requests
-pub mod Planning
+pub mod DecidingOps
+pub mod DecidingSpace
+pub mod Gates
+pub mod Holding
+pub mod Spoken

@@ -1,2 +1,3 @@
-pub mod Newest
+pub mod Held
 pub mod Plans
+pub mod Deciding

@@ -1,117 +1,92 @@
 -- What is planned for a step, and what its commit makes of a machine.
-use Rattle.std.specs.Prelude.{◌≡◌, ◌≢◌, ℕ, ◌+◌, ◌≤◌, ◌&&◌, false, List, [], ◌∷◌, length, find, nat_le, pos, Option, Some, None, if◌then◌else◌}
-use Rattle.std.specs.List.{AllByRecursion}
-use Rattle.std.specs.Option.{option_to_list}
-use Rattle.std.specs.Str.{bytes_eq}
-use Rattle.etcd_types.specs.Limits.{last_revision}
-use Rattle.etcd_types.specs.declared.key_value.KeyValue.{KeyValue}
-use Rattle.etcd_types.specs.declared.kv.PutReq.{PutReq}
-use Rattle.etcd_types.specs.declared.kv.RangeReq.{RangeReq}
+use Rattle.std.specs.Prelude.{◌≡◌, ◌≢◌, ℕ, ◌+◌, ◌*◌, ◌<◌, ◌≤◌, ◌^◌, Bool, true, false, List}
 use Rattle.etcd_types.specs.declared.step.Step.{Step}
-use Rattle.etcd_types.specs.declared.step.Step.TheVariants.{Put, Range}
-use Rattle.etcd_types.specs.declared.refusal.Refusal.{Refusal}
-use Rattle.etcd_types.specs.declared.refusal.Refusal.TheVariants.{Memory, NotOffered, UsedUp}
-use Rattle.etcd_types.specs.declared.reply.Header.{Header}
+use Rattle.etcd_types.specs.declared.step.Step.TheVariants.{Compact, DropWatch, Revoke, KeepAlive, Alarm, Status, Defragment, Tick, CatchUp}
+use Rattle.etcd_types.specs.declared.refusal.Refusal.TheVariants.{Memory}
 use Rattle.etcd_types.specs.declared.reply.Reply.{Reply}
-use Rattle.etcd_types.specs.declared.reply.Reply.TheVariants.{Refused, Put as PutReply, Range as RangeReply}
+use Rattle.etcd_types.specs.declared.reply.Reply.TheVariants.{Refused}
 use Rattle.etcd_model.specs.declared.state.History.{History}
 use Rattle.etcd_model.specs.declared.state.State.{State}
-use Rattle.etcd_model.specs.Order.{put_in}
-use Rattle.etcd_model.specs.Fields.{fields, refused_if}
-use Rattle.etcd_model.specs.Operations.{first_refusal}
-use Rattle.etcd_model.specs.Stepping.{writes}
-use Rattle.etcd_model.specs.Offered.{is_offered, built_machine}
-use Rattle.tenant_machine.specs.Newest.{Newest, Holds, by_key}
+use Rattle.etcd_model.specs.Store as kept
+use Rattle.etcd_model.specs.Store.{Store, kept_store}
+use Rattle.etcd_model.specs.Held.{Holds}
+use Rattle.etcd_model.specs.Offered.{built_machine}
+use Rattle.revision_store.specs.Stored.{StoreState, IsPlanFor, HasSpace, changes_of}
+use Rattle.revision_store.specs.declared.plan.Write.{Write}
+use Rattle.tenant_machine.specs.declared.planned.Effect.{Effect}
+use Rattle.tenant_machine.specs.declared.planned.Effect.TheVariants as effect
+use Rattle.tenant_machine.specs.Held.{MachineState, tenant}
 
--- a reply, and the rows after the next revision where there is one
+-- what a commit does, and what it answers
 pub record Plan : Type 0 where
-  pub next : Option (List KeyValue)
+  pub effect : Effect
   pub reply : Reply
 
 -- ---- a commit
 
-abbrev pub written : State Newest → List KeyValue → State Newest
-written m rows = record m { store = record { current = m.store.current + 1; rows = rows } }
+-- the store with some writes as one more revision
+abbrev pub written : StoreState → List Write → Store
+written store writes = kept.after store.kept (changes_of store writes)
 
--- the machine after a plan is committed
-abbrev pub after_next : State Newest → Option (List KeyValue) → State Newest
-after_next m None = m
-after_next m (Some rows) = written m rows
+-- the tenant after an effect
+abbrev pub after_effect : MachineState → Effect → State Store
+after_effect m effect.Nothing = tenant m
+after_effect m (effect.Alarm on) = record (tenant m) { alarm = on }
+after_effect m (effect.Write writes used) = record (tenant m) { store = written m.store writes }
+after_effect m (effect.Compact revision) = record (tenant m) { store = kept.compact m.store.kept revision }
 
-abbrev pub after : State Newest → Plan → State Newest
-after m p = after_next m p.next
+-- Some writes that can be the next revision, for which there is space; so many cells are in use then.
+pub record FitsWrite (store : StoreState) (writes : List Write) (used : ℕ) : Type 0 where
+  pub plan : IsPlanFor store writes
+  pub space : HasSpace store writes
+  pub revisions : store.kept.current + 1 < 2 ^ 63
+  pub counted : used ≡ kept.cells (written store writes)
+  pub within : used ≤ 64 * store.reserved
 
--- no row has more versions than there are revisions
-abbrev pub AreCounted : ℕ → List KeyValue → Type 0
-AreCounted n rows = AllByRecursion (λ (row : KeyValue). row.version ≤ n) rows
+-- a compaction that is one
+pub record FitsCompaction (store : StoreState) (revision : ℕ) : Type 0 where
+  pub above : store.kept.compacted < revision
+  pub within : revision ≤ store.kept.current
 
-abbrev pub FitsNext : State Newest → Option (List KeyValue) → Type 0
-FitsNext m None = Unit {0}
-FitsNext m (Some rows) = (m.store.current + 1 ≤ last_revision) × AreCounted (m.store.current + 1) rows
+abbrev pub FitsEffect : MachineState → Effect → Type 0
+FitsEffect m effect.Nothing = Unit {0}
+FitsEffect m (effect.Alarm on) = Unit {0}
+FitsEffect m (effect.Write writes used) = FitsWrite m.store writes used
+FitsEffect m (effect.Compact revision) = FitsCompaction m.store revision
 
 -- the plan can be committed here
-abbrev pub Fits : State Newest → Plan → Type 0
-Fits m p = FitsNext m p.next
+abbrev pub Fits : MachineState → Plan → Type 0
+Fits m p = FitsEffect m p.effect
+
+-- What a commit leaves: the tenant as planned, with as many segments reserved. How many are drawn, and which cells the records have, is left open.
+pub record IsAfter (m : MachineState) (p : Plan) (n : MachineState) : Type 0 where
+  pub tenant : tenant n ≡ after_effect m p.effect
+  pub reserved : n.store.reserved ≡ m.store.reserved
 
 -- ---- what is promised of a plan and of a step
 
--- whatever state is held, the reply is the machine's, and its next state is held after the commit
-pub record Plans (m : State Newest) (step : Step) (p : Plan) : Type 0 where
+-- whatever state is held, the reply is that of the machine as it is built, and its next state is held after the commit
+pub record Plans (m : MachineState) (step : Step) (p : Plan) : Type 0 where
   pub spoken : p.reply ≢ Refused Memory
-  pub reply : (S : State History) → Holds m S → p.reply ≡ (built_machine S step).reply
-  pub state : (S : State History) → Holds m S → Holds (after m p) (built_machine S step).state
+  pub reply : (S : State History) → Holds S (tenant m) → p.reply ≡ (built_machine S step).reply
+  pub state : (S : State History) (n : MachineState) → Holds S (tenant m) → IsAfter m p n → Holds (built_machine S step).state (tenant n)
 
 -- the same of a step, which for want of memory changes nothing
-pub record Steps (m : State Newest) (step : Step) (reply : Reply) (n : State Newest) : Type 0 where
-  pub told : (S : State History) → Holds m S → reply ≢ Refused Memory → reply ≡ (built_machine S step).reply
-  pub state : (S : State History) → Holds m S → reply ≢ Refused Memory → Holds n (built_machine S step).state
+pub record Steps (m : MachineState) (step : Step) (reply : Reply) (n : MachineState) : Type 0 where
+  pub told : (S : State History) → Holds S (tenant m) → reply ≢ Refused Memory → reply ≡ (built_machine S step).reply
+  pub state : (S : State History) → Holds S (tenant m) → reply ≢ Refused Memory → Holds (built_machine S step).state (tenant n)
   pub memory : reply ≡ Refused Memory → n ≡ m
+  pub reserved : n.store.reserved ≡ m.store.reserved
 
--- ---- what is planned
-
-abbrev pub row_of : List ℕ → List KeyValue → Option KeyValue
-row_of key rows = find (λ row. bytes_eq row.key key) rows
-
-abbrev pub created_at : ℕ → Option KeyValue → ℕ
-created_at r None = r
-created_at r (Some row) = row.create_revision
-
-abbrev pub next_version : Option KeyValue → ℕ
-next_version None = 1
-next_version (Some row) = row.version + 1
-
--- the row of a put at a revision, where the key's row was `now`
-abbrev pub row_put : Option KeyValue → ℕ → PutReq → KeyValue
-row_put now r p = record { key = p.key; create_revision = created_at r now; mod_revision = r; version = next_version now; value = p.value; lease = p.lease }
-
-abbrev pub header_at : State Newest → ℕ → Header
-header_at m r = record { cluster = m.cluster; revision = pos r }
-
-abbrev pub plan_put : State Newest → PutReq → Plan
-plan_put m p = record {
-  next = Some (put_in by_key m.store.rows (row_put (row_of p.key m.store.rows) (m.store.current + 1) p));
-  reply = PutReply (header_at m (m.store.current + 1)) None;
-}
-
-abbrev pub plan_range : State Newest → RangeReq → Plan
-plan_range m q =
-    let found = option_to_list (row_of q.key m.store.rows) in
-    record { next = None; reply = RangeReply (header_at m m.store.current) (length found) found false }
-
-abbrev pub refused : Refusal → Plan
-refused r = record { next = None; reply = Refused r }
-
-abbrev pub refusal : State Newest → Step → Option Refusal
-refusal m step = first_refusal (fields step ∷ refused_if (nat_le last_revision m.store.current && writes step) UsedUp ∷ [])
-
-abbrev pub plan_step : State Newest → Step → Plan
-plan_step m (Put p) = plan_put m p
-plan_step m (Range q) = plan_range m q
-plan_step m step = refused NotOffered
-
-abbrev pub plan_unless : State Newest → Step → Option Refusal → Plan
-plan_unless m step (Some r) = refused r
-plan_unless m step None = plan_step m step
-
-abbrev pub planned : State Newest → Step → Plan
-planned m step = if is_offered step then plan_unless m step (refusal m step) else refused NotOffered
+-- a step that may find no memory: the others take none
+abbrev pub takes_memory : Step → Bool
+takes_memory (Compact r) = false
+takes_memory (DropWatch i) = false
+takes_memory (Revoke id) = false
+takes_memory (KeepAlive id) = false
+takes_memory (Alarm a) = false
+takes_memory Status = false
+takes_memory Defragment = false
+takes_memory (Tick m) = false
+takes_memory (CatchUp n) = false
+takes_memory step = true

@@ -1,14 +1,16 @@
 //! One tenant: a step is planned, and a plan is committed.
 //!
-//! A plan reads, decides, makes the reply and takes all the memory there is to take. A commit moves
-//! it in, takes none and cannot fail.
+//! A plan reads, decides, makes the reply and takes all the memory there is to take. A commit writes what
+//! was planned to the store, whose segments are lent to it, takes none and cannot fail.
 #![tactic(auto)]
 
 mod machine;
+mod maintenance;
+mod operations;
 mod planned;
-mod rows;
+mod planning;
 #[cfg(test)]
 mod tests;
 
-pub use machine::Machine;
+pub use machine::{Machine, segments_for};
 pub use planned::Planned;

@@ -1,197 +1,159 @@
 //! One tenant's machine.
-ghost use Rattle.std.specs.Prelude.{◌≡◌, ◌+◌, ◌≤◌, ◌<◌, ◌^◌, ◌≤ℤ◌, ℕ, pos, Some, None, true, false, IfOk, IsOk, OnErr};
+ghost use Rattle.std.specs.Prelude.{◌≡◌, ◌≢◌, ◌+◌, ◌-◌, ◌≤◌, ◌≤ℤ◌, ℕ, pos, Some, None, false, IfOk, IsOk};
 ghost use Rattle.etcd_types.specs.Limits.{last_revision};
+ghost use Rattle.etcd_types.specs.declared.reply.Reply.TheVariants.{Refused};
+ghost use Rattle.etcd_types.specs.declared.refusal.Refusal.TheVariants.{Memory};
+ghost use Rattle.cell_arena.specs.Table.{segments_for};
 ghost use Rattle.etcd_model.specs.Machine.{opening};
-ghost use Rattle.etcd_model.specs.Offered.{is_offered};
-ghost use Rattle.tenant_machine.specs.Newest.{Holds};
-ghost use Rattle.tenant_machine.specs.Plans.{Plans, Steps, Fits, after, planned, plan_put, plan_range, refusal, row_put, row_of, header_at};
+ghost use Rattle.etcd_model.specs.Held.{Holds};
+ghost use Rattle.etcd_model.specs.Store.{kept_store, reserved_cells};
+ghost use Rattle.etcd_model.specs.Tenant.{used};
+ghost use Rattle.tenant_machine.specs.Held.{IsLent, tenant};
+ghost use Rattle.tenant_machine.specs.Plans.{Fits, FitsCompaction, FitsWrite, IsAfter, Plans, Steps, takes_memory, written};
 
-use crate::planned::Planned;
-use crate::rows::{row_of, rows_with};
-use etcd_types::limits::LAST_REVISION;
-use etcd_types::{CopyOf, Header, KeyValue, List, Mem, PutReq, RangeReq, Refusal, Reply, Step};
-use request_checks::{fields, is_offered};
+use crate::planned::{Effect, Planned};
+use cell_arena::Segments;
+use etcd_types::limits::SEGMENT_CELLS;
+use etcd_types::{Mem, Refusal, Reply, Step};
+use quota_alarm::Quota;
+use revision_store::{Plan, Store};
 use std::alloc::Global;
 use std::marker::Model;
 
-/// One tenant's cluster. It keeps the rows of all keys at the current revision.
+/// One tenant's cluster.
 #[derive(Drop)]
 pub struct Machine {
     cluster: u64,
-    /// Cells that the tenant may use. They are not counted yet.
-    quota: u32,
-    current: u64,
-    /// By ascending key.
-    rows: List<KeyValue>,
+    pub(crate) store: Store,
+    /// The cells of what the store keeps, and room for a delete of each live key, are in use.
+    pub(crate) quota: Quota,
 }
 
 impl Model for Machine {
-    ghost use Rattle.std.specs.Prelude.{◌≤◌, [], false, replicate, None};
-    ghost use Rattle.etcd_types.specs.Limits.{last_revision, watch_slots};
-    ghost use Rattle.etcd_model.specs.declared.state.State.{State};
-    ghost use Rattle.tenant_machine.specs.Newest.{Newest};
-    ghost use Rattle.tenant_machine.specs.Plans.{AreCounted};
+    ghost use Rattle.tenant_machine.specs.Held.{MachineState, IsMachine, machine_code};
 
-    ghost Value = { State Newest };
+    ghost Value = { MachineState };
 
-    ghost view = { λ m. record {
-      cluster = m.cluster;
-      quota = m.quota;
-      store = record { current = m.current; rows = m.rows };
-      leases = [];
-      counter = 1;
-      moment = 0;
-      alarm = false;
-      slots = replicate watch_slots None;
-    } };
+    ghost coded = { machine_code };
 
-    ghost invariant = { λ m. (m.current ≤ last_revision) × AreCounted m.current m.rows };
+    ghost view = { λ m. record { cluster = m.cluster; quota = m.quota.cells; store = m.store; alarm = m.quota.alarm } };
+
+    ghost invariant = { λ m. IsMachine m.store m.quota };
+}
+
+/// The segments that a quota of so many cells takes.
+pub fn segments_for(quota: u32) -> u32
+    ensures { result ≡ segments_for quota }
+{
+    quota.div_ceil(SEGMENT_CELLS)
 }
 
 impl Machine {
-    /// A new tenant, whose empty store is at the first revision.
+    /// A new tenant, whose empty store is at the first revision. Takes all memory that commits need, but for their
+    /// segments: these are lent to each commit.
     pub fn new(alloc: Global, cluster: u64, quota: u32, first: i64) -> Mem<Machine>
         requires cluster { 1 ≤ cluster }
         requires quota { (4 ≤ quota) × (quota ≤ 1048576) }
         requires first { (pos 1 ≤ℤ first) × (first ≤ℤ pos last_revision) }
-        ensures { (n : ℕ) → first ≡ pos n → IfOk result (λ m. Holds m (opening cluster quota n)) }
+        ensures holds { (n : ℕ) → first ≡ pos n → IfOk result (λ m. Holds (opening cluster quota n) (tenant m)) }
+        ensures reserved { IfOk result (λ m. m.store.reserved ≡ segments_for quota) }
+        ensures drawn { IfOk result (λ m. m.store.drawn ≡ 0) }
     {
+        let cells = segments_for(quota) * SEGMENT_CELLS;
         Ok(Machine {
             cluster,
-            quota,
-            current: first as u64,
-            rows: List::new(alloc),
+            store: Store::new(alloc, cells, first as u64)?,
+            quota: Quota::new(quota),
         })
     }
 
-    /// Decides a step. Where it finds no memory, nothing is decided; a step that is not offered needs none.
+    /// Decides a step. Where it finds no memory, nothing is decided. Compactions, alarms, ticks and others need none.
     pub fn plan(&self, alloc: Global, step: &Step) -> Mem<Planned>
         ensures plans { IfOk result (λ p. Plans self.now step.now p) }
         ensures fits { IfOk result (λ p. Fits self.now p) }
-        ensures sure { is_offered step.now ≡ false → IsOk result }
+        ensures sure { takes_memory step.now ≡ false → IsOk result }
     {
-        self.plan_step(alloc, step)
+        self.plan_built(alloc, step)
     }
 
-    /// Makes what was planned. It takes no memory and cannot fail.
-    pub fn commit(&mut self, planned: Planned) -> Reply
-        requires { Fits self.old planned }
-        ensures after { self.new ≡ after self.old planned }
+    /// Makes what was planned, of the machine as it was then. It is lent the segments that the store may draw and give
+    /// back. It takes no memory and cannot fail.
+    pub fn commit<S: Segments>(&mut self, segments: &mut S, planned: Planned) -> Reply
+        requires fits { Fits self.old planned }
+        requires lent { IsLent self.old.store (S.left segments.old) (S.room segments.old) }
         ensures reply { result ≡ planned.reply }
+        ensures after { IsAfter self.old planned self.new }
+        ensures lent { IsLent self.new.store (S.left segments.new) (S.room segments.new) }
+        ensures room { S.room segments.new + self.old.store.drawn ≡ S.room segments.old + self.new.store.drawn }
+        ensures others { S.others segments.new ≡ S.others segments.old }
     {
-        let Planned { next, reply } = planned;
-        if let Some(rows) = next {
-            self.current += 1;
-            self.rows = rows;
+        let Planned { effect, reply } = planned;
+        match effect {
+            Effect::Nothing => {}
+            Effect::Alarm(true) => self.quota.raise(),
+            Effect::Alarm(false) => self.quota.clear(),
+            Effect::Write { plan, used } => self.write(segments, plan, used),
+            Effect::Compact(revision) => self.compact(segments, revision),
         }
         reply
     }
 
     /// One step: planned and committed, or for want of memory neither.
-    pub fn step(&mut self, alloc: Global, step: &Step) -> Reply
-        ensures { Steps self.old step.now result self.new }
+    pub fn step<S: Segments>(&mut self, alloc: Global, segments: &mut S, step: &Step) -> Reply
+        requires lent { IsLent self.old.store (S.left segments.old) (S.room segments.old) }
+        ensures steps { Steps self.old step.now result self.new }
+        ensures sure { takes_memory step.now ≡ false → result ≢ Refused Memory }
+        ensures lent { IsLent self.new.store (S.left segments.new) (S.room segments.new) }
+        ensures room { S.room segments.new + self.old.store.drawn ≡ S.room segments.old + self.new.store.drawn }
+        ensures others { S.others segments.new ≡ S.others segments.old }
     {
         match self.plan(alloc, step) {
-            Ok(planned) => self.commit(planned),
+            Ok(planned) => self.commit(segments, planned),
             Err(_) => Reply::Refused(Refusal::Memory),
         }
     }
 
-    fn plan_step(&self, alloc: Global, step: &Step) -> Mem<Planned>
-        ensures planned { IfOk result (λ p. p ≡ planned self.now step.now) }
-        ensures fits { IfOk result (λ p. Fits self.now p) }
-        ensures sure { is_offered step.now ≡ false → IsOk result }
+    /// The cluster's ID.
+    pub fn cluster(&self) -> u64
+        ensures { result ≡ self.now.cluster }
     {
-        if !is_offered(step) {
-            return Ok(Planned::refused(Refusal::NotOffered));
-        }
-        if let Some(refusal) = self.refusal(step) {
-            return Ok(Planned::refused(refusal));
-        }
-        match step {
-            Step::Put(request) => self.plan_put(alloc, request),
-            Step::Range(request) => self.plan_range(alloc, request),
-            _ => Ok(Planned::refused(Refusal::NotOffered)),
-        }
+        self.cluster
     }
 
-    /// Why a step is refused before anything is looked up.
-    fn refusal(&self, step: &Step) -> Option<Refusal>
-        requires { is_offered step.now ≡ true }
-        ensures { result ≡ refusal self.now step.now }
+    /// The cells that records take: those that count against the quota, without the room that is held for deletes.
+    pub fn used_cells(&self) -> u32
+        ensures { result ≡ used kept_store (tenant self.now) - reserved_cells self.now.store.kept.current self.now.store.kept.changes }
     {
-        if let Some(refusal) = fields(step) {
-            Some(refusal)
-        } else if self.current >= LAST_REVISION && matches!(step, Step::Put(_)) {
-            Some(Refusal::UsedUp)
-        } else {
-            None
-        }
+        self.store.used_cells()
     }
 
-    fn plan_put(&self, alloc: Global, request: &PutReq) -> Mem<Planned>
-        requires { self.now.store.current < last_revision }
-        ensures planned { IfOk result (λ p. p ≡ plan_put self.now request.now) }
-        ensures fits { IfOk result (λ p. Fits self.now p) }
+    /// Makes changes one more revision, after which so many cells are in use.
+    fn write<S: Segments>(&mut self, segments: &mut S, plan: Plan, used: u64)
+        requires fits { FitsWrite self.old.store plan used }
+        requires lent { IsLent self.old.store (S.left segments.old) (S.room segments.old) }
+        ensures tenant { tenant self.new ≡ record (tenant self.old) { store = written self.old.store plan } }
+        ensures reserved { self.new.store.reserved ≡ self.old.store.reserved }
+        ensures lent { IsLent self.new.store (S.left segments.new) (S.room segments.new) }
+        ensures room { S.room segments.new + self.old.store.drawn ≡ S.room segments.old + self.new.store.drawn }
+        ensures others { S.others segments.new ≡ S.others segments.old }
     {
-        let revision = self.current + 1;
-        let row = self.row_put(alloc, revision, request)?;
-        let rows = rows_with(alloc, self.rows.as_slice(), row)?;
-        Ok(Planned {
-            next: Some(List::from_vec(rows)),
-            reply: Reply::Put {
-                header: self.header_at(revision),
-                prev_kv: None,
-            },
-        })
+        self.store.commit(segments, plan);
+        self.quota.used = used;
     }
 
-    /// The row of a put at a revision.
-    fn row_put(&self, alloc: Global, revision: u64, request: &PutReq) -> Mem<KeyValue>
-        ensures { IfOk result (λ row. row ≡ row_put (row_of request.now.key self.now.store.rows) revision request.now) }
+    /// Forgets what reads below a revision need. The cells that this frees are in use no more.
+    fn compact<S: Segments>(&mut self, segments: &mut S, revision: u64)
+        requires fits { FitsCompaction self.old.store revision }
+        requires lent { IsLent self.old.store (S.left segments.old) (S.room segments.old) }
+        ensures tenant { tenant self.new ≡ record (tenant self.old) { store = kept_store.compact self.old.store.kept revision } }
+        ensures reserved { self.new.store.reserved ≡ self.old.store.reserved }
+        ensures lent { IsLent self.new.store (S.left segments.new) (S.room segments.new) }
+        ensures room { S.room segments.new + self.old.store.drawn ≡ S.room segments.old + self.new.store.drawn }
+        ensures others { S.others segments.new ≡ S.others segments.old }
     {
-        let (create_revision, version) = match row_of(
-            self.rows.as_slice(),
-            request.key.as_slice(),
-        ) {
-            Some(row) => (row.create_revision, row.version + 1),
-            None => (revision, 1),
-        };
-        Ok(KeyValue {
-            key: request.key.copy_of(alloc)?,
-            create_revision,
-            mod_revision: revision,
-            version,
-            value: request.value.copy_of(alloc)?,
-            lease: request.lease,
-        })
-    }
-
-    fn plan_range(&self, alloc: Global, request: &RangeReq) -> Mem<Planned>
-        ensures { IfOk result (λ p. p ≡ plan_range self.now request.now) }
-    {
-        let mut kvs = List::new(alloc);
-        if let Some(row) = row_of(self.rows.as_slice(), request.key.as_slice()) {
-            kvs.push(row.copy_of(alloc)?)?;
-        }
-        Ok(Planned {
-            next: None,
-            reply: Reply::Range {
-                header: self.header_at(self.current),
-                count: kvs.as_slice().len() as u64,
-                kvs,
-                more: false,
-            },
-        })
-    }
-
-    fn header_at(&self, revision: u64) -> Header
-        requires { revision < 2 ^ 63 }
-        ensures { result ≡ header_at self.now revision }
-    {
-        Header {
-            cluster: self.cluster,
-            revision: revision as i64,
-        }
+        let before = self.store.used_cells();
+        self.store.compact(segments, revision);
+        let freed = before - self.store.used_cells();
+        self.quota.used -= u64::from(freed);
     }
 }

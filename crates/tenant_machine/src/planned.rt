@@ -1,24 +1,36 @@
 //! What is planned for a step.
 ghost use Rattle.std.specs.Prelude.{◌≡◌};
-ghost use Rattle.tenant_machine.specs.Plans.{refused};
+ghost use Rattle.etcd_types.specs.declared.reply.Reply.TheVariants.{Refused};
 
-use etcd_types::{KeyValue, List, Refusal, Reply};
+use etcd_types::{Refusal, Reply};
+use revision_store::Plan;
 use std::marker::Model;
 
-/// A step that is decided: its reply, and what its commit writes. It has all the memory that both need.
+/// What a commit does to a machine. It has all the memory that this needs.
+#[derive(Drop)]
+pub(crate) enum Effect {
+    Nothing,
+    /// The alarm goes on, or off.
+    Alarm(bool),
+    /// Changes become one more revision, and so many cells are in use then.
+    Write { plan: Plan, used: u64 },
+    /// What reads below this revision need is forgotten.
+    Compact(u64),
+}
+
+/// A step that is decided: its reply, and what its commit does.
 #[derive(Drop)]
 pub struct Planned {
-    /// The rows of all keys after the next revision, where the step makes one.
-    pub(crate) next: Option<List<KeyValue>>,
+    pub(crate) effect: Effect,
     pub(crate) reply: Reply,
 }
 
 impl Model for Planned {
-    ghost use Rattle.tenant_machine.specs.Plans.{Plan};
+    ghost use Rattle.tenant_machine.specs.Plans as plans;
 
-    ghost Value = { Plan };
+    ghost Value = { plans.Plan };
 
-    ghost view = { λ p. record { next = p.next; reply = p.reply } };
+    ghost view = { λ p. record { effect = p.effect; reply = p.reply } };
 }
 
 impl Planned {
@@ -29,13 +41,20 @@ impl Planned {
         &self.reply
     }
 
-    /// A step that is refused, and so writes nothing.
-    pub(crate) fn refused(refusal: Refusal) -> Planned
-        ensures { result ≡ refused refusal }
+    /// A step that changes nothing.
+    pub(crate) fn told(reply: Reply) -> Planned
+        ensures { result ≡ record { effect = Effect.Nothing; reply = reply } }
     {
         Planned {
-            next: None,
-            reply: Reply::Refused(refusal),
+            effect: Effect::Nothing,
+            reply,
         }
+    }
+
+    /// A step that is refused, and so changes nothing.
+    pub(crate) fn refused(refusal: Refusal) -> Planned
+        ensures { result ≡ record { effect = Effect.Nothing; reply = Refused refusal } }
+    {
+        Planned::told(Reply::Refused(refusal))
     }
 }

@@ -1,19 +1,20 @@
-use Rattle.std.proofs.Common.{◌≡◌, ◌≤◌, ◌<◌, ◌+◌, arith, sym, subst, ◌∙◌, ap, List}
-use Rattle.etcd_types.specs.declared.key_value.KeyValue.{KeyValue}
-use Rattle.etcd_types.specs.Limits.{last_revision}
-use Rattle.etcd_model.specs.Order.{put_in}
-use Rattle.tenant_machine.specs.Newest.{by_key}
-use Rattle.tenant_machine.specs.Plans.{AreCounted}
-use Rattle.tenant_machine.proofs.Counting.{counted_more, counted_put_in, counted_next}
+use Rattle.std.proofs.Common.{◌≡◌, ◌∙◌, ap, of_z, pos, rules, sym, to_z, w64}
+use Rattle.tenant_machine.specs.Held.{MachineState}
+use Rattle.tenant_machine.proofs.DecidingOps.{IsPutAnswer, put_planned_does, put_refused_does}
+use Rattle.tenant_machine.proofs.machine.Machine.plan_put.Goals.{in-Ok, in-Err}
 use Rattle.tenant_machine.proofs.machine.Machine.plan_put.Goals as goal
 
-pub returns-clause-fits : goal.returns-clause-fits
-returns-clause-fits c =
-    let now = c.self.inside.current in
-    let rows = c.self.inside.rows in
-    let low : now < last_revision = rw (← c.self.view_is) at c.requires in
-    let before = counted_more now (now + 1) rows (omega arith) c.self.invariant.1 in
-    let is : c.from_vec.result ≡ put_in by_key rows c.in_ok-row.row = c.from_vec.ensures ∙ c.in_ok-rows.ensures ∙ ap (λ (rs : List KeyValue). put_in by_key rs c.in_ok-row.row) c.as_slice.ensures in
-    let row = rw (← c.self.view_is) at c.in_ok-row.ensures in
-    let one : c.in_ok-row.row.version ≤ now + 1 = omega (arith, ap (λ (r : KeyValue). r.version) row, counted_next now c.args.request.now.key rows c.self.invariant.1) in
-    rw (← c.self.view_is) (omega (arith, low), subst (AreCounted (now + 1)) (sym is) (counted_put_in (now + 1) rows c.in_ok-row.row before one))
+pub returns-clause-does : goal.returns-clause-does
+returns-clause-does c =
+    let m = c.args.self.now in
+    let q = c.args.request.now in
+    let same = ap (λ (m : MachineState). m.store) c.self.view_is in
+    let bits : to_z w64 (of_z w64 q.lease) ≡ q.lease = search rules in
+    let none : q.lease ≡ pos 0 = sym bits ∙ ap (to_z w64) c.if-request-ne0.false in
+    let says : IsPutAnswer c.self.inside.store q c.in_ok-planned.field-0 = record { refusal = c.in_ok-planned.ensures.refusal; plan = c.in_ok-planned.ensures.plan; reply = c.in_ok-planned.ensures.reply } in
+    elim c.match-branch-2.branch [
+      | in-Ok w ↦
+          put_planned_does m c.self.inside.store q c.in_ok-planned.field-0 same none says w.in-Ok.planned c.match-branch-2.result w.in-Ok.is
+          (λ within. w.result-is ∙ w.within_quota.ensures.admitted within) (λ past. w.result-is ∙ w.within_quota.ensures.refused past)
+      | in-Err w ↦ put_refused_does m c.self.inside.store q c.in_ok-planned.field-0 same none says w.in-Err.refusal c.match-branch-2.result w.in-Err.is (w.result-is ∙ w.refused-in-Err.ensures)
+    ]

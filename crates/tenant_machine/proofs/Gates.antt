@@ -1,0 +1,79 @@
+-- What refuses a step before anything is looked up, and what comes of a step that this lets through.
+use Rattle.std.proofs.Common.{◌≡◌, [], ◌∷◌, Bool, true, false, refl, ap, sym, subst, ◌∙◌, if◌then◌else◌}
+use Rattle.std.specs.Prelude.{◌&&◌, Option, Some, None, Result, IfOk}
+use Rattle.etcd_types.specs.declared.step.Step.{Step}
+use Rattle.etcd_types.specs.declared.refusal.Refusal.{Refusal}
+use Rattle.etcd_types.specs.declared.refusal.Refusal.TheVariants.{NoSpace, NotOffered}
+use Rattle.etcd_types.specs.declared.reply.Reply.TheVariants.{Refused}
+use Rattle.etcd_model.specs.declared.state.State.{State}
+use Rattle.etcd_model.specs.Fields.{refused_if}
+use Rattle.etcd_model.specs.Offered.{built, is_offered}
+use Rattle.etcd_model.specs.Operations.{first_refusal}
+use Rattle.etcd_model.specs.Stepping.{decided, early, look_up, machine, may_add, outcome, unless_alarmed, within_quota}
+use Rattle.etcd_model.specs.Store.{Store, kept_store}
+use Rattle.etcd_model.specs.Tenant.{Outcome, stays}
+use Rattle.tenant_machine.specs.Deciding.{Does, gate, past_gate}
+use Rattle.tenant_machine.specs.Held.{MachineState, tenant}
+use Rattle.tenant_machine.specs.Plans.{Plan}
+use Rattle.tenant_machine.specs.declared.planned.Effect.TheVariants.{Nothing}
+
+same_refusal : {a b : Refusal} → Some a ≡ Some b → a ≡ b
+same_refusal is = cc
+
+alone_refusal : (o : Option Refusal) → first_refusal (o ∷ []) ≡ o
+alone_refusal None = refl
+alone_refusal (Some r) = refl
+
+module _ (t : State Store) (step : Step) where
+  -- ---- the gate
+
+  -- the machine, where this is what goes before the alarm
+  abbrev after_early : Option Refusal → Outcome Store
+  after_early e = unless_alarmed kept_store t step (decided kept_store t step (first_refusal (e ∷ look_up kept_store t step ∷ []))) e
+
+  refused_early : (r : Refusal) (e : Option Refusal) → first_refusal (e ∷ refused_if (t.alarm && may_add step) NoSpace ∷ []) ≡ Some r → after_early e ≡ stays kept_store t (Refused r)
+  refused_early r (Some x) is = ap (λ y. stays kept_store t (Refused y)) (same_refusal is)
+  refused_early r None is = alarmed (t.alarm && may_add step) (within_quota kept_store t step (decided kept_store t step (first_refusal (look_up kept_store t step ∷ []))) (look_up kept_store t step)) is
+    where
+      alarmed : (a : Bool) (o : Outcome Store) → first_refusal (refused_if a NoSpace ∷ []) ≡ Some r → (if a then stays kept_store t (Refused NoSpace) else o) ≡ stays kept_store t (Refused r)
+      alarmed true o is = ap (λ y. stays kept_store t (Refused y)) (same_refusal is)
+      alarmed false o is = absurd (cc)
+
+  let_through_early : (e : Option Refusal) → first_refusal (e ∷ refused_if (t.alarm && may_add step) NoSpace ∷ []) ≡ None → after_early e ≡ past_gate t step
+  let_through_early (Some x) is = absurd (cc)
+  let_through_early None is =
+      calm (t.alarm && may_add step) (within_quota kept_store t step (decided kept_store t step (first_refusal (look_up kept_store t step ∷ []))) (look_up kept_store t step)) is
+      ∙ ap (λ (o : Option Refusal). within_quota kept_store t step (decided kept_store t step o) (look_up kept_store t step)) (alone_refusal (look_up kept_store t step))
+    where
+      calm : (a : Bool) (o : Outcome Store) → first_refusal (refused_if a NoSpace ∷ []) ≡ None → (if a then stays kept_store t (Refused NoSpace) else o) ≡ o
+      calm true o is = absurd (cc)
+      calm false o is = refl
+
+  pub refused_by_gate : (r : Refusal) → gate t step ≡ Some r → machine kept_store t step ≡ stays kept_store t (Refused r)
+  refused_by_gate r is = refused_early r (early kept_store t step) is
+
+  pub let_through : gate t step ≡ None → machine kept_store t step ≡ past_gate t step
+  let_through is = let_through_early (early kept_store t step) is
+
+  -- what is offered is what the machine does
+  offered_is_built : is_offered step ≡ true → built kept_store t step ≡ machine kept_store t step
+  offered_is_built offered = ap (λ (b : Bool). if b then machine kept_store t step else stays kept_store t (Refused NotOffered)) offered
+
+  -- ---- past the gate
+
+  pub refused_past_gate : (r : Refusal) → look_up kept_store t step ≡ Some r → past_gate t step ≡ stays kept_store t (Refused r)
+  refused_past_gate r is = ap (λ (o : Option Refusal). within_quota kept_store t step (decided kept_store t step o) o) is
+
+  -- what is not refused is done, unless it adds and passes the quota
+  pub done_past_gate : look_up kept_store t step ≡ None → past_gate t step ≡ within_quota kept_store t step (outcome kept_store t step) None
+  done_past_gate is = ap (λ (o : Option Refusal). within_quota kept_store t step (decided kept_store t step o) o) is
+
+pub refused_is_built : (m : MachineState) (step : Step) (r : Refusal) (p : Plan) → is_offered step ≡ true → gate (tenant m) step ≡ Some r → p ≡ record { effect = Nothing; reply = Refused r } → Does m p (built kept_store (tenant m) step)
+refused_is_built m step r p offered is planned =
+    subst (λ (q : Plan). Does m q (built kept_store (tenant m) step)) (sym planned)
+    (subst (Does m (record { effect = Nothing; reply = Refused r })) (sym (offered_is_built (tenant m) step offered ∙ refused_by_gate (tenant m) step r is)) (record { reply = refl; state = refl }))
+
+pub let_through_is_built : {E : Type 0} (m : MachineState) (step : Step) (result : Result Plan E) → is_offered step ≡ true → gate (tenant m) step ≡ None
+    → IfOk result (λ p. Does m p (past_gate (tenant m) step)) → IfOk result (λ p. Does m p (built kept_store (tenant m) step))
+let_through_is_built m step result offered is does =
+    subst (λ (o : Outcome Store). IfOk result (λ p. Does m p o)) (sym (offered_is_built (tenant m) step offered ∙ let_through (tenant m) step is)) does

@@ -1,0 +1,9 @@
+use Rattle.std.proofs.Common.{sym, subst}
+use Rattle.std.specs.Prelude.{IfOk}
+use Rattle.etcd_types.specs.declared.step.Step.{Step}
+use Rattle.tenant_machine.specs.Deciding.{Does, past_gate}
+use Rattle.tenant_machine.specs.Held.{tenant}
+use Rattle.tenant_machine.proofs.machine.Machine.decide.Goals as goal
+
+pub returns-in-Put-clause-does : goal.returns-in-Put-clause-does
+returns-in-Put-clause-does c = subst (λ (s : Step). IfOk c.plan_put.result (λ p. Does c.args.self.now p (past_gate (tenant c.args.self.now) s))) (sym c.in-Put.is) c.plan_put.ensures.does

@@ -1,0 +1,84 @@
+//! How a step is decided.
+ghost use Rattle.std.specs.Prelude.{◌≡◌, ◌<◌, None, true, false, IfOk, IsOk};
+ghost use Rattle.etcd_model.specs.Offered.{built, is_offered};
+ghost use Rattle.etcd_model.specs.Store.{kept_store};
+ghost use Rattle.etcd_model.specs.Stepping.{may_add, writes};
+ghost use Rattle.tenant_machine.specs.Deciding.{Does, gate, past_gate};
+ghost use Rattle.tenant_machine.specs.Held.{tenant};
+ghost use Rattle.tenant_machine.specs.Plans.{Fits, takes_memory};
+
+use crate::machine::Machine;
+use crate::planned::Planned;
+use etcd_types::limits::LAST_REVISION;
+use etcd_types::{Mem, Refusal, Step};
+use request_checks::{fields, is_offered};
+use std::alloc::Global;
+
+impl Machine {
+    /// What is offered is decided, and nothing else.
+    pub(crate) fn plan_built(&self, alloc: Global, step: &Step) -> Mem<Planned>
+        ensures does { IfOk result (λ p. Does self.now p (built kept_store (tenant self.now) step.now)) }
+        ensures fits { IfOk result (λ p. Fits self.now p) }
+        ensures sure { takes_memory step.now ≡ false → IsOk result }
+    {
+        if !is_offered(step) {
+            return Ok(Planned::refused(Refusal::NotOffered));
+        }
+        match self.gate(step) {
+            Some(refusal) => Ok(Planned::refused(refusal)),
+            None => self.decide(alloc, step),
+        }
+    }
+
+    /// What refuses a step before anything is looked up: its fields, then revisions that are used up, then the alarm.
+    fn gate(&self, step: &Step) -> Option<Refusal>
+        requires { is_offered step.now ≡ true }
+        ensures { result ≡ gate (tenant self.now) step.now }
+    {
+        if let Some(refusal) = fields(step) {
+            Some(refusal)
+        } else if self.store.current() >= LAST_REVISION && writes(step) {
+            Some(Refusal::UsedUp)
+        } else if self.quota.alarm() && may_add(step) {
+            Some(Refusal::NoSpace)
+        } else {
+            None
+        }
+    }
+
+    /// Decides a step that the gate lets through.
+    fn decide(&self, alloc: Global, step: &Step) -> Mem<Planned>
+        requires offered { is_offered step.now ≡ true }
+        requires gate { gate (tenant self.now) step.now ≡ None }
+        ensures does { IfOk result (λ p. Does self.now p (past_gate (tenant self.now) step.now)) }
+        ensures fits { IfOk result (λ p. Fits self.now p) }
+        ensures sure { takes_memory step.now ≡ false → IsOk result }
+    {
+        match step {
+            Step::Range(request) => self.plan_range(alloc, request),
+            Step::Put(request) => self.plan_put(alloc, request),
+            Step::Delete(request) => self.plan_delete(alloc, request),
+            Step::Compact(revision) => Ok(self.plan_compaction(*revision)),
+            Step::Alarm(request) => Ok(self.plan_alarm(request)),
+            Step::Status => Ok(self.plan_status()),
+            Step::Defragment => Ok(self.plan_defragment()),
+            _ => Ok(Planned::refused(Refusal::NotOffered)),
+        }
+    }
+}
+
+/// Whether a step may write a revision.
+fn writes(step: &Step) -> bool
+    requires { is_offered step.now ≡ true }
+    ensures { result ≡ writes step.now }
+{
+    matches!(step, Step::Put(_) | Step::Delete(_))
+}
+
+/// Whether a step may take space.
+fn may_add(step: &Step) -> bool
+    requires { is_offered step.now ≡ true }
+    ensures { result ≡ may_add step.now }
+{
+    matches!(step, Step::Put(_))
+}
