@@ -1,0 +1,99 @@
+"""The replay program, driven by a script in a pipe."""
+import select
+import subprocess
+import threading
+import time
+
+from replay_calls import Wrong
+from replay_process import memory, processor_seconds
+
+PATIENCE = 60
+# The program writes its answers when its buffer is full or the script ends. So lines that name no tenant follow
+# those that are timed: their answers push the others out, and are then dropped.
+PUSH = b"call POST /t/none/v3/kv/range {}\n"
+PUSHES = 200
+
+
+class Program:
+    """A program that answers each line of its standard input by a line; `cat` is one, too."""
+
+    def __init__(self, path):
+        self.path = path
+        self.child = subprocess.Popen([path], stdin=subprocess.PIPE, stdout=subprocess.PIPE, bufsize=0)
+        self.rest = b""
+        self.dropped = 0
+
+    def __enter__(self):
+        return self
+
+    def __exit__(self, *_):
+        self.child.kill()
+        self.child.wait()
+        self.child.stdin.close()
+        self.child.stdout.close()
+
+    def feed(self, script):
+        try:
+            left = memoryview(script)
+            while left:
+                left = left[self.child.stdin.write(left) :]
+        except BrokenPipeError:
+            # The reader sees the end of the answers, and tells.
+            pass
+
+    def piece(self):
+        if not select.select([self.child.stdout], [], [], PATIENCE)[0]:
+            raise Wrong(f"{self.path}: no answer within {PATIENCE} seconds")
+        piece = self.child.stdout.read(1 << 16)
+        if not piece:
+            raise Wrong(f"{self.path}: ended with status {self.child.wait()} before the end of its script")
+        return piece
+
+    def lines(self, script, count):
+        """Feeds `count` lines, and gives back as many answer lines and the seconds until the last one came."""
+        pieces = [self.rest]
+        wanted = self.dropped + count - self.rest.count(b"\n")
+        feeder = threading.Thread(target=self.feed, args=(script + PUSH * PUSHES,), daemon=True)
+        started = time.perf_counter()
+        feeder.start()
+        while wanted > 0:
+            pieces.append(self.piece())
+            wanted -= pieces[-1].count(b"\n")
+        seconds = time.perf_counter() - started
+        feeder.join()
+        *lines, tail = b"".join(pieces).split(b"\n")
+        answers, pushed = lines[self.dropped : self.dropped + count], lines[self.dropped + count :]
+        self.rest, self.dropped = b"\n".join([*pushed, tail]), PUSHES
+        return answers, seconds
+
+    def end(self):
+        """Ends the script: the program ends by itself, with status 0."""
+        self.child.stdin.close()
+        while self.child.stdout.read(1 << 16):
+            pass
+        if self.child.wait() != 0:
+            raise Wrong(f"{self.path}: status {self.child.returncode} at the end of its script")
+
+
+class Replay(Program):
+    """The replay program with its one tenant."""
+
+    def add(self, quota, first):
+        answers, _ = self.lines(b"add one 7 %d %d\n" % (quota, first), 1)
+        if answers != [b"ok"]:
+            raise Wrong(f"{self.path}: adding a tenant of {quota} cells was answered {answers[0]!r}")
+
+    @staticmethod
+    def script(calls):
+        return b"".join(b"call POST /t/one/v3/%s %s\n" % (call.name.encode(), call.body) for call in calls)
+
+    def answer(self, calls):
+        """Makes the calls. Gives back a status and a body for each, and the seconds that they took."""
+        answers, seconds = self.lines(self.script(calls), len(calls))
+        return [(int(answer[:3]) if answer[:3].isdigit() else 0, answer[4:]) for answer in answers], seconds
+
+    def processor(self):
+        return processor_seconds(self.child.pid)
+
+    def memory(self):
+        return memory(self.child.pid)
