@@ -1,5 +1,5 @@
 -- What a plan makes of the cells in use.
-use Rattle.std.proofs.Common.{◌≡◌, ℕ, ◌+◌, ◌*◌, ◌<◌, ◌≤◌, ◌==◌, List, [], ◌∷◌, ◌++◌, map, length, length-append, append_assoc, get_or, take, refl, ap, ◌∙◌, sym, subst, arith}
+use Rattle.std.proofs.Common.{◌≡◌, ℕ, ◌+◌, ◌<◌, ◌≤◌, ◌==◌, List, [], ◌∷◌, ◌++◌, map, length, length-append, append_assoc, get_or, take, refl, ap, ◌∙◌, sym, subst, arith}
 use Rattle.std.specs.Prelude.{Bool, true, false, cond, fold, sum_by, Option, Some, None, if◌then◌else◌}
 use Rattle.std.specs.List.{AllByRecursion}
 use Rattle.std.specs.Str.{bytes_eq}
@@ -23,7 +23,7 @@ use Rattle.model_laws.proofs.RowLaws.{live-key}
 use Rattle.model_laws.proofs.SpaceLaws.{delete_takes_its_room, put_takes_cells}
 use Rattle.key_index.specs.Entries.{Cells}
 use Rattle.revision_store.specs.Plans.{change_in, costs_in, cost_in, growth_of, key_at}
-use Rattle.revision_store.specs.Stored.{Follows, HasSpace, IsPlanFor, StoreState, cells, changes_of}
+use Rattle.revision_store.specs.Stored.{Follows, IsPlanFor, StoreState, cells, changes_of}
 use Rattle.revision_store.specs.Pending.{IsSound}
 use Rattle.revision_store.specs.declared.plan.Write.{Write}
 use Rattle.revision_store.specs.declared.plan.Write.TheVariants.{Put, Delete}
@@ -51,10 +51,6 @@ records_after s (c ∷ cs) = revision_takes (s.current + 1) s.changes (c ∷ cs)
 pub costs_of : (cells : Cells) (writes : List Write) → costs_in cells writes ≡ sum_by cost (map (change_in cells) writes)
 costs_of cells [] = refl
 costs_of cells (w ∷ ws) = omega (arith, costs_of cells ws, sum_by-cons (cost_in cells) w ws, sum_by-cons cost (change_in cells w) (map (change_in cells) ws))
-
--- there is space for writes after which all that counts is within the reserved cells
-pub has_space : (store : StoreState) (writes : List Write) → IsSound store → counted (after store.kept (changes_of store writes)) + store.lease_cells ≤ 64 * store.reserved → HasSpace store writes
-has_space store writes sound within = omega (arith, records_after store.kept (changes_of store writes), costs_of (cells store) writes, sound.space, within)
 
 -- ---- what counts
 

@@ -20,5 +20,7 @@ pub mod PendingStores
 pub mod PendingReads
 pub mod PendingPuts
 pub mod PendingDeletes
+pub mod RowPlaces
 pub mod PendingRows
+pub mod PendingRanges
 pub mod Grown

@@ -1,5 +1,5 @@
 -- The deletes of the rows of an interval, among writes that are pending.
-use Rattle.std.proofs.Common.{◌≡◌, ℕ, ◌+◌, ◌<◌, ◌≤◌, List, [], ◌∷◌, ◌++◌, length, length-append, refl, ap, ◌∙◌, sym, subst, arith, map}
+use Rattle.std.proofs.Common.{◌≡◌, ℕ, ◌+◌, ◌<◌, ◌≤◌, ◌^◌, List, [], ◌∷◌, ◌++◌, length, length-append, refl, ap, ◌∙◌, sym, subst, arith, map}
 use Rattle.std.specs.Prelude.{Bool, true, false, zero, suc, cond, not, ◌&&◌, ◌||◌, filter, filter_map, find, Option, Some, None, IsSome, if◌then◌else◌}
 use Rattle.std.specs.List.{AllByRecursion, list_any, cons_option}
 use Rattle.std.specs.Option.{option_or}
@@ -29,7 +29,7 @@ use Rattle.revision_store.specs.Stored.{StoreState, Follows, IsPlanFor, cells, c
 use Rattle.revision_store.specs.Pending.{IsPending, is_erased, left_by, left_cells, put_at, puts_inside, row_put_to, rows_at}
 use Rattle.revision_store.specs.declared.plan.Write.{Write}
 use Rattle.revision_store.specs.declared.plan.Write.TheVariants.{Put, Delete}
-use Rattle.revision_store.proofs.PendingReads.{of_key, row_more, none_put, none_where_live, deletes_of, after_deletes, find_filtered, found_inside, any_found, none_found}
+use Rattle.revision_store.proofs.PendingReads.{of_key, one_revision, row_more, none_put, none_where_live, deletes_of, after_deletes, find_filtered, found_inside, any_found, none_found}
 use Rattle.revision_store.proofs.PendingPuts.{rows_at-more}
 use Rattle.revision_store.proofs.PendingStores.{own_cells}
 
@@ -259,10 +259,11 @@ module _ (store : StoreState) (ws : List Write) (places : List ℕ) (deletes : L
               ∙ ap (λ b. if b then None else (look store old).row key) (sym (any_found key read (read_found key ∙ ap (λ b. if b then (look store old).row key else None) t)))
         ] refl
 
-    pub deletes_are_pending : IsPending store (ws ++ map Delete cs) places (deletes ++ d ∷ [])
-    deletes_are_pending = record {
+    pub deletes_are_pending : store.kept.current + 1 < 2 ^ 63 → IsPending store (ws ++ map Delete cs) places (deletes ++ d ∷ [])
+    deletes_are_pending room = record {
       sound = is.sound;
       plan = deletes_are_plan;
+      short = omega (arith, room, one_revision store.kept (changes_of store (ws ++ map Delete cs)));
       within = all_weaker (λ place. place < length ws) (λ place. place < length (ws ++ map Delete cs)) (λ place h. omega (arith, h, length-append ws (map Delete cs))) places is.within;
       seen = λ key.
           ap (λ qs. option_or (row_put_to key qs) (left_by (deletes ++ d ∷ []) store key)) (rows_at-more ws (map Delete cs) places is.within)

@@ -1,5 +1,5 @@
 -- One more put among writes that are pending.
-use Rattle.std.proofs.Common.{◌≡◌, ℕ, ◌+◌, ◌<◌, ◌≤◌, List, [], ◌∷◌, ◌++◌, length, length-append, refl, ap, ◌∙◌, sym, subst, arith}
+use Rattle.std.proofs.Common.{◌≡◌, ℕ, ◌+◌, ◌<◌, ◌≤◌, ◌^◌, List, [], ◌∷◌, ◌++◌, length, length-append, refl, ap, ◌∙◌, sym, subst, arith}
 use Rattle.std.specs.Prelude.{Bool, true, false, zero, suc, cond, ◌||◌, fold, filter_map, Option, Some, None, option_and_then, option_map, slice_get, if◌then◌else◌}
 use Rattle.std.specs.List.{AllByRecursion, cons_option}
 use Rattle.std.specs.Option.{option_or}
@@ -28,7 +28,7 @@ use Rattle.revision_store.specs.Stored.{StoreState, Follows, IsPlanFor, cells, c
 use Rattle.revision_store.specs.Pending.{IsPending, PendingState, changes_key, lease_put, left_by, present, put_at, put_row, row_put, row_put_to, rows_at}
 use Rattle.revision_store.specs.declared.plan.Write.{Write}
 use Rattle.revision_store.specs.declared.plan.Write.TheVariants.{Put}
-use Rattle.revision_store.proofs.PendingReads.{of_key, row_more, row_untouched}
+use Rattle.revision_store.proofs.PendingReads.{of_key, one_revision, row_more, row_untouched}
 
 -- ---- places
 
@@ -92,10 +92,11 @@ module _ (store : StoreState) (ws : List Write) (row : KeyValue) (free : changes
       ∙ ap (λ o. next_row (store.kept.current + 1) o put) (row_untouched store.kept (changes_of store ws) row.key is free)
       ∙ follows
 
-  pub put_is_pending : (places : List ℕ) (deletes : List DeleteReq) → IsPending store ws places deletes → IsPending store (ws ++ Put row ∷ []) (places ++ length ws ∷ []) deletes
-  put_is_pending places deletes is = record {
+  pub put_is_pending : (places : List ℕ) (deletes : List DeleteReq) → store.kept.current + 1 < 2 ^ 63 → IsPending store ws places deletes → IsPending store (ws ++ Put row ∷ []) (places ++ length ws ∷ []) deletes
+  put_is_pending places deletes room is = record {
     sound = is.sound;
     plan = put_is_plan is.plan;
+    short = omega (arith, room, one_revision store.kept (changes_of store (ws ++ Put row ∷ [])));
     within = all_push (λ place. place < length (ws ++ Put row ∷ [])) places (length ws) (all_weaker (λ place. place < length ws) (λ place. place < length (ws ++ Put row ∷ [])) (λ place h. omega (arith, h, longer)) places is.within) (omega (arith, longer));
     seen = λ key.
         let rs = rows_at ws places in

@@ -1,5 +1,5 @@
 -- What is read with more changes pending.
-use Rattle.std.proofs.Common.{◌≡◌, ℕ, ◌+◌, List, [], ◌∷◌, ◌++◌, refl, ap, ◌∙◌, sym, map}
+use Rattle.std.proofs.Common.{◌≡◌, ℕ, ◌+◌, ◌≤◌, List, [], ◌∷◌, ◌++◌, refl, ap, ◌∙◌, sym, arith, map}
 use Rattle.std.specs.Prelude.{Bool, true, false, cond, ◌&&◌, ◌||◌, fold, filter, find, Option, Some, None, if◌then◌else◌}
 use Rattle.std.specs.List.{AllByRecursion, list_any}
 use Rattle.std.specs.Str.{bytes_eq}
@@ -36,6 +36,11 @@ pub row_untouched : (s : Store) (cs : List Change) (key : List ℕ) → IsStore 
 row_untouched s cs key is none =
     row_with_pending s cs key is
     ∙ ap (fold (next_row (s.current + 1)) ((reads_of s).row key)) (filter-none (λ (c : Change). bytes_eq (key_of c) key) cs none)
+
+-- whatever is pending is one revision
+pub one_revision : (s : Store) (cs : List Change) → (after s cs).current ≤ s.current + 1
+one_revision s [] = omega arith
+one_revision s (c ∷ cs) = omega arith
 
 -- ---- changes that put nothing
 

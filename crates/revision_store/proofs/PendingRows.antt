@@ -1,11 +1,9 @@
 -- The rows of an interval with changes pending: what the deletes leave of the store's, with the puts' in their places.
-use Rattle.std.proofs.Common.{◌≡◌, ℕ, ◌+◌, ◌<◌, List, [], ◌∷◌, ◌++◌, length, get_or, set, take, drop, drop-cons, add-one, suc, refl, ap, ◌∙◌, sym, map}
-use Rattle.std.proofs.lemmas.List.{drop-set, take-append-drop, take-set}
+use Rattle.std.proofs.Common.{◌≡◌, ℕ, List, [], ◌∷◌, refl, ap, ◌∙◌, sym, subst, map}
 use Rattle.std.specs.Prelude.{Bool, true, false, cond, not, fold, filter, find, Option, Some, None, if◌then◌else◌}
 use Rattle.std.specs.List.Sorted.{IsStrictlySortedBy}
 use Rattle.std.specs.Option.{option_or}
 use Rattle.std.specs.Ordering.{is_eq, ordering_reverse}
-use Rattle.std.specs.Cmp.{IsTotalOrder}
 use Rattle.std.specs.Cmp.Lexicographic.{nat_list_cmp_total, bytes_decides}
 use Rattle.std.specs.Str.{bytes_eq}
 use Rattle.std.specs.declared.cmp.Ordering.TheVariants.{Less, Equal, Greater}
@@ -24,15 +22,9 @@ use Rattle.model_laws.proofs.SpaceLaws.{after_is_store}
 use Rattle.revision_store.specs.Stored.{StoreState, cells, changes_of, look, row_at}
 use Rattle.revision_store.specs.Pending.{IsPending, is_erased, left_cells, row_put_to, rows_at}
 use Rattle.revision_store.specs.declared.plan.Write.{Write}
+use Rattle.revision_store.proofs.RowPlaces.{by_key_total}
 use Rattle.revision_store.proofs.PendingReads.{find_filtered, found_inside}
 use Rattle.revision_store.proofs.PendingDeletes.{Under, same_somes, under_left}
-
-by_key_total : IsTotalOrder by_key
-by_key_total = record {
-  antisymm = λ a b. nat_list_cmp_total.antisymm a.key b.key;
-  trans = λ a b c. nat_list_cmp_total.trans a.key b.key c.key;
-  congr = λ a b c. nat_list_cmp_total.congr a.key b.key c.key;
-}
 
 -- ---- a row in its place
 
@@ -115,18 +107,6 @@ last_filtered key p (x ∷ xs) = by (p x.key) (bytes_eq x.key key) (λ t. ap p (
         neither false e = refl
     by false false same a b h = h ∙ ap (λ o. if p key then o else None) (sym (alone (row_put_to key xs)))
 
--- a row whose key has a place takes it
-pub put_equal : (xs : List KeyValue) (x : KeyValue) (i : ℕ) (y : KeyValue) → i < length xs → put_in by_key xs x ≡ take i xs ++ put_in by_key (drop i xs) x → y ≡ get_or xs i y → Equal ≡ key_cmp x.key y.key → put_in by_key xs x ≡ set xs i x
-put_equal xs x i y h inv is e =
-    let rest = drop (i + 1) xs in
-    let dropped : drop i xs ≡ y ∷ rest = drop-cons xs i y h ∙ ap (λ (z : KeyValue). z ∷ drop (suc i) xs) (sym is) ∙ ap (λ n. y ∷ drop n xs) (sym (add-one i)) in
-    inv
-    ∙ ap (λ zs. take i xs ++ put_in by_key zs x) dropped
-    ∙ ap (λ o. take i xs ++ beside o x y rest (put_in by_key rest x)) (sym e)
-    ∙ ap (λ zs. take i xs ++ zs) (sym (drop-set xs i x h))
-    ∙ ap (λ zs. zs ++ drop i (set xs i x)) (sym (take-set xs i x))
-    ∙ take-append-drop i (set xs i x)
-
 -- ---- the rows of an interval
 
 module _ (store : StoreState) (ws : List Write) (places : List ℕ) (deletes : List DeleteReq) (is : IsPending store ws places deletes) (key end : List ℕ) where
@@ -162,10 +142,20 @@ module _ (store : StoreState) (ws : List Write) (places : List ℕ) (deletes : L
       ∙ ap (option_or (row_put_to k puts)) (ap (λ o. if not (is_erased deletes k) then o else None) (sym (found_inside k inside s.current s.changes own)) ∙ sym (find_filtered k (λ j. not (is_erased deletes j)) (rows inside s.current s.changes)))
       ∙ sym (find_put_all k puts left))
 
+  -- the rows under the cells that are left ascend
+  left_is : (cs kept : List ℕ) (rs : List KeyValue) → Under (row_at (cells store)) cs (rows inside store.kept.current store.kept.changes) → kept ≡ left_cells (cells store) deletes cs
+      → map Some rs ≡ map (row_at (cells store)) kept → rs ≡ left
+  left_is cs kept rs under is_left is_rows =
+      same_somes rs left (is_rows ∙ ap (map (row_at (cells store))) is_left ∙ under_left store deletes cs (rows inside store.kept.current store.kept.changes) under)
+
+  pub left_rises : (cs kept : List ℕ) (rs : List KeyValue) → Under (row_at (cells store)) cs (rows inside store.kept.current store.kept.changes) → kept ≡ left_cells (cells store) deletes cs
+      → map Some rs ≡ map (row_at (cells store)) kept → IsStrictlySortedBy by_key rs
+  left_rises cs kept rs under is_left is_rows =
+      let s = store.kept in
+      subst (IsStrictlySortedBy by_key) (sym (left_is cs kept rs under is_left is_rows))
+      (IsStrictlySortedBy-filter by_key (λ row. not (is_erased deletes row.key)) (rows inside s.current s.changes) (rows_rise s.changes is.sound.kept.own s.current inside))
+
   -- what a read makes of the cells that the store has there
   pub rows_made : (cs kept : List ℕ) (rs found : List KeyValue) → Under (row_at (cells store)) cs (rows inside store.kept.current store.kept.changes) → kept ≡ left_cells (cells store) deletes cs
       → map Some rs ≡ map (row_at (cells store)) kept → found ≡ fold (put_in by_key) rs puts → found ≡ (look store (changes_of store ws)).rows key end
-  rows_made cs kept rs found under is_left is_rows made =
-      let at = row_at (cells store) in
-      let same : rs ≡ left = same_somes rs left (is_rows ∙ ap (map at) is_left ∙ under_left store deletes cs (rows inside store.kept.current store.kept.changes) under) in
-      made ∙ ap (λ qs. fold (put_in by_key) qs puts) same ∙ sym rows_are
+  rows_made cs kept rs found under is_left is_rows made = made ∙ ap (λ qs. fold (put_in by_key) qs puts) (left_is cs kept rs under is_left is_rows) ∙ sym rows_are

@@ -86,9 +86,10 @@ wanted_rows look q (c ∷ cs) =
     by (Some row) = refl
 
 -- with no filter all do
-pub all_pass : (look : ℕ → Option KeyValue) (q : RangeReq) (cs : List ℕ) → AllShow look cs → wants_all q ≡ true → filter (λ c. passes q (look c)) cs ≡ cs
-all_pass look q [] all h = refl
-all_pass look q (c ∷ cs) all h = ap (λ b. cond b (c ∷ filter (λ d. passes q (look d)) cs) (filter (λ d. passes q (look d)) cs)) (by (look c) all.0) ∙ ap (λ ds. c ∷ ds) (all_pass look q cs all.1 h)
+any_row : (q : RangeReq) (row : KeyValue) → wants_all q ≡ true → is_wanted q row ≡ true
+any_row q row h =
+    no_bound (int_eq q.min_mod_revision (pos 0)) (int_eq q.max_mod_revision (pos 0)) (int_eq q.min_create_revision (pos 0)) (int_eq q.max_create_revision (pos 0))
+    (int_le q.min_mod_revision (pos row.mod_revision)) (int_le (pos row.mod_revision) q.max_mod_revision) (int_le q.min_create_revision (pos row.create_revision)) (int_le (pos row.create_revision) q.max_create_revision) h
   where
     no_bound : (a b c d w x y z : Bool) → (a && b && c && d) ≡ true → (((a || w) && (b || x)) && ((c || y) && (d || z))) ≡ true
     no_bound true true true true w x y z e = refl
@@ -97,11 +98,17 @@ all_pass look q (c ∷ cs) all h = ap (λ b. cond b (c ∷ filter (λ d. passes 
     no_bound true false c d w x y z e = absurd (true≢false (sym e))
     no_bound false b c d w x y z e = absurd (true≢false (sym e))
 
+pub all_wanted : (q : RangeReq) (rows : List KeyValue) → wants_all q ≡ true → filter (is_wanted q) rows ≡ rows
+all_wanted q [] h = refl
+all_wanted q (row ∷ rows) h = ap (λ b. cond b (row ∷ filter (is_wanted q) rows) (filter (is_wanted q) rows)) (any_row q row h) ∙ ap (λ rs. row ∷ rs) (all_wanted q rows h)
+
+pub all_pass : (look : ℕ → Option KeyValue) (q : RangeReq) (cs : List ℕ) → AllShow look cs → wants_all q ≡ true → filter (λ c. passes q (look c)) cs ≡ cs
+all_pass look q [] all h = refl
+all_pass look q (c ∷ cs) all h = ap (λ b. cond b (c ∷ filter (λ d. passes q (look d)) cs) (filter (λ d. passes q (look d)) cs)) (by (look c) all.0) ∙ ap (λ ds. c ∷ ds) (all_pass look q cs all.1 h)
+  where
     by : (o : Option KeyValue) → IsSome o → passes q o ≡ true
     by None e = let bad : ⊥ = cc in absurd bad
-    by (Some row) e =
-        no_bound (int_eq q.min_mod_revision (pos 0)) (int_eq q.max_mod_revision (pos 0)) (int_eq q.min_create_revision (pos 0)) (int_eq q.max_create_revision (pos 0))
-        (int_le q.min_mod_revision (pos row.mod_revision)) (int_le (pos row.mod_revision) q.max_mod_revision) (int_le q.min_create_revision (pos row.create_revision)) (int_le (pos row.create_revision) q.max_create_revision) h
+    by (Some row) e = any_row q row h
 
 -- ---- those that are read
 

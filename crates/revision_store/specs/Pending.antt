@@ -115,10 +115,11 @@ pub record IsSound (store : StoreState) : Type 0 where
   pub short : store.kept.current < 2 ^ 63
   pub space : store.free + record_cells store.kept.changes + store.lease_cells ≡ 64 * store.reserved
 
--- writes that can be the next revision of a store, and all that touches a key among them
+-- writes that can be the next revision of a store, within the revisions, and all that touches a key among them
 pub record IsPending (store : StoreState) (writes : List Write) (places : List ℕ) (deletes : List DeleteReq) : Type 0 where
   pub sound : IsSound store
   pub plan : IsPlanFor store writes
+  pub short : (look store (changes_of store writes)).current < 2 ^ 63
   pub within : AllByRecursion (λ place. place < length writes) places
   pub seen : (key : List ℕ) → shown store (rows_at writes places) deletes key ≡ (look store (changes_of store writes)).row key
 

@@ -1,18 +1,20 @@
 //! Changes that are pending.
 ghost use Rattle.std.specs.Prelude.{◌≡◌, ◌+◌, ◌<◌, ◌^◌, [], false, is_some, map, pos, Some, None, IfOk, OnOk, OnErr, if◌then◌else◌};
 ghost use Rattle.etcd_types.specs.declared.reply.OpReply.TheVariants.{Put as PutReply, Delete as DeleteReply};
-ghost use Rattle.etcd_types.specs.declared.txn.Op.TheVariants.{Put as PutOp, Delete as DeleteOp};
+ghost use Rattle.etcd_types.specs.declared.txn.Op.TheVariants.{Range as RangeOp, Put as PutOp, Delete as DeleteOp};
 ghost use Rattle.etcd_model.specs.Changes.{version_of};
 ghost use Rattle.etcd_model.specs.Operations.{and_changes, op_reply};
+ghost use Rattle.etcd_model.specs.Reads.{revision_read, unreadable};
 ghost use Rattle.revision_store.specs.Stored.{IsPlanFor, cells, changes_of, look, reads, row_at};
 ghost use Rattle.revision_store.specs.Pending.{changes_key, pending_reads, present, puts_inside, row_put, value_put};
 ghost use Rattle.std.specs.Option.{option_copied};
 
 use crate::overlay::{left_cells, push_deletes, rows_asked, rows_under};
 use crate::plan::{Plan, Write};
+use crate::ranging::rows_reply;
 use crate::store::Store;
 use crate::touching::{lies_erased, put_rows, row_put_to};
-use etcd_types::{CellNo, CopyOf, DeleteReq, KeyValue, List, Mem, OpReply, PutReq};
+use etcd_types::{CellNo, CopyOf, DeleteReq, KeyValue, List, Mem, OpReply, PutReq, RangeReq};
 use std::alloc::Global;
 use std::marker::Model;
 
@@ -57,7 +59,8 @@ impl<'a> Pending<'a> {
 
     /// The current revision: with changes pending, the one that they are to be.
     pub fn current(&self) -> u64
-        ensures { result ≡ (pending_reads self.now).current }
+        ensures current { result ≡ (pending_reads self.now).current }
+        ensures short { result < 2 ^ 63 }
     {
         if self.writes.is_empty() {
             self.store.current()
@@ -100,6 +103,18 @@ impl<'a> Pending<'a> {
         let mut rows = rows_under(alloc, &store.log, &left)?;
         put_rows(alloc, &mut rows, &self.writes, &self.puts, key, range_end)?;
         Ok(rows)
+    }
+
+    /// Reads an interval, the newest rows with what is pending among them, or at a revision above 0 the store's.
+    pub fn range(&self, alloc: Global, request: &RangeReq) -> Mem<OpReply>
+        requires { unreadable (reads self.now.store) (revision_read (reads self.now.store) request.now.revision) ≡ None }
+        ensures { IfOk result (λ reply. reply ≡ op_reply (pending_reads self.now) (pending_reads self.now).current (RangeOp request.now)) }
+    {
+        if self.writes.is_empty() || request.revision > 0 {
+            return self.store.range_at(alloc, request, self.current());
+        }
+        let rows = self.rows(alloc, request.key.as_slice(), request.range_end.as_slice())?;
+        rows_reply(alloc, request, rows, self.current())
     }
 
     /// Puts a key that nothing pending changes, and answers as if it was done. Without memory nothing changes.

@@ -1,5 +1,6 @@
 //! What a plan writes.
 ghost use Rattle.std.specs.Prelude.{◌≡◌};
+ghost use Rattle.etcd_model.specs.Fields.{is_empty};
 
 use etcd_types::{CellNo, KeyValue};
 use std::marker::Model;
@@ -33,6 +34,13 @@ impl Plan {
         ensures { result ≡ writes.items }
     {
         Plan { writes }
+    }
+
+    /// Nothing is written.
+    pub fn is_empty(&self) -> bool
+        ensures { result ≡ is_empty self.now }
+    {
+        self.writes.is_empty()
     }
 
     /// What is written, in order.

@@ -22,16 +22,27 @@ pub struct PlannedOp {
 }
 
 impl Store {
-    /// Decides a put. It is refused where the key is absent and its value or its lease is to stay. Which leases there
-    /// are is not asked.
+    /// Why a put is refused: its key is absent, and its value or its lease is to stay. Which leases there are is not
+    /// asked.
+    pub fn put_refusal(&self, request: &PutReq) -> Option<Refusal>
+        ensures { result ≡ put_refusal (reads self.now) request.now }
+    {
+        if (request.ignore_value || request.ignore_lease) && !self.has_key(request.key.as_slice()) {
+            Some(Refusal::KeyNotFound)
+        } else {
+            None
+        }
+    }
+
+    /// Decides a put, or tells why it is refused.
     pub fn plan_put(&self, alloc: Global, request: &PutReq) -> Mem<Result<PlannedOp, Refusal>>
         requires { self.now.kept.current + 1 < 2 ^ 63 }
         ensures refusal { IfOk result (λ answer. MatchResult answer (λ planned. put_refusal (reads self.now) request.now ≡ None) (λ refusal. put_refusal (reads self.now) request.now ≡ Some refusal)) }
         ensures plan { IfOk result (λ answer. IfOk answer (λ planned. IsPlanOf self.now (PutOp request.now) planned.plan)) }
         ensures reply { IfOk result (λ answer. IfOk answer (λ planned. planned.reply ≡ op_reply (reads self.now) (self.now.kept.current + 1) (PutOp request.now))) }
     {
-        if (request.ignore_value || request.ignore_lease) && !self.has_key(request.key.as_slice()) {
-            return Ok(Err(Refusal::KeyNotFound));
+        if let Some(refusal) = self.put_refusal(request) {
+            return Ok(Err(refusal));
         }
         let mut pending = Pending::new(alloc, self);
         let reply = pending.add_put(alloc, request)?;

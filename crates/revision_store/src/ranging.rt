@@ -1,9 +1,10 @@
 //! The answer of a range.
-ghost use Rattle.std.specs.Prelude.{◌≡◌, ◌<◌, ◌^◌, map, None, Some, IsSome, IfOk, MatchResult, option_map};
+ghost use Rattle.std.specs.Prelude.{◌≡◌, ◌<◌, ◌^◌, filter, map, pos, None, Some, IsSome, IfOk, MatchResult, option_map};
 ghost use Rattle.std.specs.List.Sorted.{IsStrictlySortedBy};
+ghost use Rattle.etcd_types.specs.declared.reply.OpReply.TheVariants.{Range as RangeReply};
 ghost use Rattle.etcd_types.specs.declared.txn.Op.TheVariants.{Range as RangeOp};
 ghost use Rattle.etcd_model.specs.Operations.{op_reply};
-ghost use Rattle.etcd_model.specs.Ranges.{without_value};
+ghost use Rattle.etcd_model.specs.Ranges.{is_wanted, without_value};
 ghost use Rattle.etcd_model.specs.Reads.{revision_read, unreadable};
 ghost use Rattle.model_laws.specs.Recording.{by_key};
 ghost use Rattle.revision_store.specs.Answering.{given};
@@ -29,6 +30,15 @@ impl Store {
         if let Some(refusal) = self.unreadable(request.revision) {
             return Ok(Err(refusal));
         }
+        Ok(Ok(self.range_at(alloc, request, self.current())?))
+    }
+
+    /// The same of a revision that can be read, with the revision that is answered.
+    pub(crate) fn range_at(&self, alloc: Global, request: &RangeReq, current: u64) -> Mem<OpReply>
+        requires readable { unreadable (reads self.now) (revision_read (reads self.now) request.now.revision) ≡ None }
+        requires current { current < 2 ^ 63 }
+        ensures { IfOk result (λ reply. reply ≡ op_reply (reads self.now) current (RangeOp request.now)) }
+    {
         self.keep_sound();
         let cells = self.log.live_cells(
             alloc,
@@ -36,8 +46,7 @@ impl Store {
             request.range_end.as_slice(),
             self.revision_read(request.revision),
         )?;
-        let reply = range_reply(alloc, &self.log, request, cells, self.current())?;
-        Ok(Ok(reply))
+        range_reply(alloc, &self.log, request, cells, current)
     }
 
     /// Why there is no read at a revision.
@@ -79,25 +88,64 @@ pub(crate) fn range_reply(
     requires revision { revision < 2 ^ 63 }
     ensures { IfOk result (λ reply. reply ≡ range_answer request.now revision (rows_of (cells_of log.now.records) cells.items)) }
 {
-    let revision = revision as i64;
     let count = cells.len() as u64;
     if request.count_only {
-        return Ok(OpReply::Range {
-            revision,
-            count,
-            kvs: List::new(alloc),
-            more: false,
-        });
+        return Ok(reply_of(revision, count, List::new(alloc), false));
     }
     let wanted = wanted(alloc, log, request, cells)?;
     let more = is_cut(request, wanted.len());
     let kvs = rows_given(alloc, log, request, wanted)?;
-    Ok(OpReply::Range {
-        revision,
+    Ok(reply_of(revision, count, kvs, more))
+}
+
+/// What a range is answered at a revision, where its interval has these rows, which ascend by key.
+pub(crate) fn rows_reply(
+    alloc: Global,
+    request: &RangeReq,
+    rows: Vec<KeyValue>,
+    revision: u64,
+) -> Mem<OpReply>
+    requires ascend { IsStrictlySortedBy by_key rows.items }
+    requires revision { revision < 2 ^ 63 }
+    ensures { IfOk result (λ reply. reply ≡ range_answer request.now revision rows.items) }
+{
+    let count = rows.len() as u64;
+    if request.count_only {
+        return Ok(reply_of(revision, count, List::new(alloc), false));
+    }
+    let found = wanted_rows(alloc, request, rows)?;
+    let more = is_cut(request, found.len());
+    let kvs = ordered(alloc, request, found);
+    Ok(reply_of(revision, count, kvs, more))
+}
+
+/// The answer of a range.
+fn reply_of(revision: u64, count: u64, kvs: List<KeyValue>, more: bool) -> OpReply
+    requires { revision < 2 ^ 63 }
+    ensures { result ≡ RangeReply (pos revision) count kvs more }
+{
+    OpReply::Range {
+        revision: revision as i64,
         count,
         kvs,
         more,
-    })
+    }
+}
+
+/// Those of some rows that pass the filters. With no filter they are all.
+fn wanted_rows(alloc: Global, request: &RangeReq, rows: Vec<KeyValue>) -> Mem<Vec<KeyValue>>
+    ensures { IfOk result (λ found. found.items ≡ filter (is_wanted request.now) rows.items) }
+{
+    if wants_all(request) {
+        return Ok(rows);
+    }
+    let mut found = Vec::new(alloc);
+    for row in rows {
+        if is_wanted(request, row.create_revision, row.mod_revision) {
+            found.push(row)?;
+        }
+    }
+    Ok(found)
 }
 
 /// Those of some cells whose rows pass the filters. With no filter they are all, and none is looked at.

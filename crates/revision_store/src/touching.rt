@@ -1,6 +1,7 @@
 //! What pending puts and deletes make of a key, and of the rows of an interval.
 ghost use Rattle.std.specs.Prelude.{◌≡◌, ◌<◌, ◌≤◌, length, map, filter, fold, set, OnOk, MatchResult};
 ghost use Rattle.std.specs.List.{insert};
+ghost use Rattle.std.specs.List.Sorted.{IsStrictlySortedBy};
 ghost use Rattle.std.specs.Option.{option_copied};
 ghost use Rattle.etcd_model.specs.Interval.{is_in};
 ghost use Rattle.etcd_model.specs.Order.{put_in};
@@ -56,22 +57,28 @@ pub(crate) fn lies_erased(deletes: &[&DeleteReq], key: &[u8]) -> bool
 
 /// Where a row stands among rows that ascend, or where it is to stand.
 fn place_of(rows: &[KeyValue], row: &KeyValue) -> Result<usize, usize>
+    requires { IsStrictlySortedBy by_key rows.now }
     ensures within { MatchResult result (λ i. i < length rows.now) (λ i. i ≤ length rows.now) }
     ensures place { MatchResult result (λ i. put_in by_key rows.now row.now ≡ set rows.now i row.now) (λ i. put_in by_key rows.now row.now ≡ insert rows.now i row.now) }
 {
-    for (index, other) in rows.iter().enumerate() {
-        match row.key.as_slice().cmp(other.key.as_slice()) {
-            Ordering::Less => return Err(index),
-            Ordering::Equal => return Ok(index),
-            Ordering::Greater => {}
+    let mut low = 0;
+    let mut high = rows.len();
+    while low < high {
+        let middle = low + (high - low) / 2;
+        match row.key.as_slice().cmp(rows[middle].key.as_slice()) {
+            Ordering::Less => high = middle,
+            Ordering::Equal => return Ok(middle),
+            Ordering::Greater => low = middle + 1,
         }
     }
-    Err(rows.len())
+    Err(low)
 }
 
-/// Puts a row in its place among rows that ascend; one of its key gives way.
+/// Puts a row in its place among rows that ascend, and they still do; one of its key gives way.
 fn put_in(rows: &mut Vec<KeyValue>, row: KeyValue) -> Mem<()>
-    ensures { OnOk result (rows.new.items ≡ put_in by_key rows.old.items row) }
+    requires { IsStrictlySortedBy by_key rows.old.items }
+    ensures put { OnOk result (rows.new.items ≡ put_in by_key rows.old.items row) }
+    ensures ascend { OnOk result (IsStrictlySortedBy by_key rows.new.items) }
 {
     match place_of(rows, &row) {
         Ok(place) => rows[place] = row,
@@ -89,6 +96,7 @@ pub(crate) fn put_rows(
     key: &[u8],
     range_end: &[u8],
 ) -> Mem<()>
+    requires { IsStrictlySortedBy by_key rows.old.items }
     ensures { OnOk result (rows.new.items ≡ fold (put_in by_key) rows.old.items (filter (λ row. is_in key.now range_end.now row.key) (rows_at writes.now places.now))) }
 {
     for place in places {

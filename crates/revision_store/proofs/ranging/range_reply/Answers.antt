@@ -1,7 +1,6 @@
-use Rattle.std.proofs.Common.{◌≡◌, ◌∙◌, length, sym, ap, subst, w64, arith}
+use Rattle.std.proofs.Common.{◌≡◌, ◌∙◌, length, sym, ap, subst, arith}
 use Rattle.std.specs.Prelude.{filter}
 use Rattle.std.specs.List.Sorted.{IsStrictlySortedBy}
-use Rattle.std.proofs.lemmas.Int.{to_z_pos}
 use Rattle.std.proofs.lemmas.List.Kept.{IsStrictlySortedBy-filter}
 use Rattle.etcd_model.specs.Ranges.{is_wanted}
 use Rattle.model_laws.specs.Recording.{by_key}
@@ -18,7 +17,7 @@ pub returns-then-request : goal.returns-then-request
 returns-then-request c =
     let rows = rows_of (cells_of c.args.log.now.records) c.args.cells.items in
     let counted = length-filter_map (row_at (cells_of c.args.log.now.records)) c.args.cells.items c.requires.rows in
-    rw (to_z_pos w64 c.args.revision c.requires.revision, c.new.ensures) (answer_counted c.args.request.now c.args.revision rows c.len-count.result c.if-request.true (c.len-count.ensures ∙ c.args.cells.ok.0 ∙ sym counted))
+    rw (c.reply_of.ensures, c.new.ensures) (answer_counted c.args.request.now c.args.revision rows c.len-count.result c.if-request.true (c.len-count.ensures ∙ c.args.cells.ok.0 ∙ sym counted))
 
 pub rows_given-requires-clause-rows : goal.rows_given-requires-clause-rows
 rows_given-requires-clause-rows c =
@@ -42,5 +41,5 @@ returns c =
     let counted = length-filter_map (row_at cells) c.args.cells.items c.requires.rows in
     let some : length (filter (is_wanted q) (rows_of cells c.args.cells.items)) ≡ length wanted = ap length (sym (wanted_rows (row_at cells) q c.args.cells.items)) ∙ length-filter_map (row_at cells) (wanted_cells cells q c.args.cells.items) all ∙ ap length (sym c.in_ok-wanted.ensures) in
     let size : length (filter (is_wanted q) (rows_of cells c.args.cells.items)) ≡ c.len.result = omega (arith, some, c.len.ensures) in
-    rw (to_z_pos w64 c.args.revision c.requires.revision)
-    (answer_given q c.args.revision (rows_of cells c.args.cells.items) c.in_ok-kvs.kvs c.len-count.result c.len.result c.is_cut-more.result c.if-request.false c.requires.ascend (c.len-count.ensures ∙ c.args.cells.ok.0 ∙ sym counted) size c.is_cut-more.ensures (c.in_ok-kvs.ensures ∙ ap (given q) is))
+    c.reply_of-2.ensures
+    ∙ answer_given q c.args.revision (rows_of cells c.args.cells.items) c.in_ok-kvs.kvs c.len-count.result c.len.result c.is_cut-more.result c.if-request.false c.requires.ascend (c.len-count.ensures ∙ c.args.cells.ok.0 ∙ sym counted) size c.is_cut-more.ensures (c.in_ok-kvs.ensures ∙ ap (given q) is)

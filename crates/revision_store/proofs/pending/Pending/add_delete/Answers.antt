@@ -1,4 +1,4 @@
-use Rattle.std.proofs.Common.{◌≡◌, ◌∙◌, ap, false, length}
+use Rattle.std.proofs.Common.{◌≡◌, ◌+◌, ◌<◌, ◌^◌, ◌∙◌, ap, false, length}
 use Rattle.std.specs.Prelude.{ℕ, pos, [], List, if◌then◌else◌}
 use Rattle.std.proofs.lemmas.List.{map-append}
 use Rattle.etcd_types.specs.declared.reply.OpReply.TheVariants.{Delete as DeleteReply}
@@ -24,8 +24,9 @@ invariant_of-self-2 c =
     let ws = c.self.inside.writes.items in
     let free : puts_inside d (changes_of store ws) ≡ false = rw (← c.self.view_is) at c.requires.once in
     let under : Under (row_at (cells store)) c.in_ok-cells.cells.items ((look store (changes_of store ws)).rows d.key d.range_end) = rw (← c.self.view_is) at c.in_ok-cells.ensures in
+    let room : store.kept.current + 1 < 2 ^ 63 = rw (← c.self.view_is) at c.requires.revisions in
     rw (c.push_reserved.ensures.items, c.reserve.ensures.items, c.in_ok-push_deletes.ensures.ok, c.deref-2.ensures.value, map-append)
-    (deletes_are_pending store ws c.self.inside.puts.items _ c.self.invariant d free c.in_ok-cells.cells.items under)
+    (deletes_are_pending store ws c.self.inside.puts.items _ c.self.invariant d free c.in_ok-cells.cells.items under room)
 
 pub returns-clause-changes : goal.returns-clause-changes
 returns-clause-changes c =
@@ -49,4 +50,4 @@ returns-clause-reply c =
     let records : c.store.inside.log.records ≡ store.records = ap (λ (s : StoreState). s.records) c.store.view_is in
     let many : c.len.result ≡ length read = c.len.ensures ∙ c.in_ok-cells.cells.ok.0 ∙ under_length at cs read under in
     let rows : c.in_ok-prev_kvs.prev_kvs ≡ (if d.prev_kv then read else []) = asked_rows d.prev_kv at cs c.in_ok-prev_kvs.prev_kvs read under (rw (records, c.deref.ensures.value) at c.in_ok-prev_kvs.ensures) in
-    rw (← c.self.view_is) (c.delete_reply.ensures ∙ same_reply _ _ _ _ _ _ c.current.ensures many rows)
+    rw (← c.self.view_is) (c.delete_reply.ensures ∙ same_reply _ _ _ _ _ _ c.current.ensures.current many rows)

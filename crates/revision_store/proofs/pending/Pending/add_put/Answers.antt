@@ -23,9 +23,10 @@ invariant_of-self-2 c =
     let made : row ≡ row_put (store.kept.current + 1) p (live p.key store.kept.current store.kept.changes)
     = rw (c.in_ok-row.ensures, c.as_ref.ensures.value, c.in_ok-now.ensures, c.current-revision.ensures.current) (row_put_present (store.kept.current + 1) p (live p.key store.kept.current store.kept.changes)) in
     let free : changes_key p.key (changes_of store ws) ≡ false = rw (← c.self.view_is) at c.requires.once in
+    let room : store.kept.current + 1 < 2 ^ 63 = rw (← c.self.view_is) at c.requires.revisions in
     let place : c.len-place.result ≡ length ws = c.len-place.ensures ∙ c.self.inside.writes.ok.0 in
     rw (c.in_ok-push.ensures.items, c.push_reserved.ensures.items, c.reserve.ensures.items, place)
-    (put_is_pending store ws row (put_key store p row (changes_of store ws) made free) (put_follows store p row made) c.self.inside.puts.items _ c.self.invariant)
+    (put_is_pending store ws row (put_key store p row (changes_of store ws) made free) (put_follows store p row made) c.self.inside.puts.items _ room c.self.invariant)
 
 pub returns-clause-changes : goal.returns-clause-changes
 returns-clause-changes c =

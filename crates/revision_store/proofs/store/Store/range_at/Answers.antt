@@ -1,8 +1,11 @@
-use Rattle.std.proofs.Common.{◌≡◌, ◌∙◌, None, sym, ap, subst, w64, to_z, of_z, rules}
+use Rattle.std.proofs.Common.{◌≡◌, ◌∙◌, sym, ap, subst, w64, to_z, of_z, rules}
 use Rattle.std.specs.List.Sorted.{IsStrictlySortedBy}
+use Rattle.std.proofs.lemmas.Result.{IfOk-weaker}
+use Rattle.etcd_types.specs.declared.txn.Op.TheVariants.{Range as RangeOp}
 use Rattle.etcd_model.specs.Changes.{rows}
 use Rattle.etcd_model.specs.Interval.{is_in}
-use Rattle.etcd_model.specs.Reads.{revision_read, rows_read, unreadable}
+use Rattle.etcd_model.specs.Operations.{op_reply}
+use Rattle.etcd_model.specs.Reads.{revision_read, rows_read}
 use Rattle.model_laws.specs.Recording.{by_key}
 use Rattle.model_laws.proofs.RowLaws.{rows_rise}
 use Rattle.revision_store.specs.Recorded.{cells_of}
@@ -10,7 +13,7 @@ use Rattle.revision_store.specs.Stored.{StoreState, reads, row_at}
 use Rattle.revision_store.specs.Ranging.{range_answer, rows_of}
 use Rattle.revision_store.proofs.RangingCells.{all_show, filter_map-is}
 use Rattle.revision_store.proofs.RangingReads.{rows_live}
-use Rattle.revision_store.proofs.store.Store.plan_range.Goals as goal
+use Rattle.revision_store.proofs.store.Store.range_at.Goals as goal
 
 pub range_reply-requires-clause-rows : goal.range_reply-requires-clause-rows
 range_reply-requires-clause-rows c =
@@ -25,18 +28,18 @@ range_reply-requires-clause-ascend c =
     subst (IsStrictlySortedBy by_key) (ap (rows (is_in c.as_slice.result.now c.as_slice-2.result.now) c.revision_read.result) (sym changes) ∙ found)
     (rows_rise c.args.self.now.kept.changes c.keep_sound.ensures.kept.own c.revision_read.result (is_in c.as_slice.result.now c.as_slice-2.result.now))
 
-pub returns-clause-reply : goal.returns-clause-reply
-returns-clause-reply c =
+pub returns : goal.returns
+returns c =
     let q = c.args.request.now in
     let store = c.args.self.now in
     let bits : to_z w64 (of_z w64 q.revision) ≡ q.revision = search rules in
     let cells = cells_of c.self.inside.log.records in
+    let cs = c.in_ok-cells.cells.items in
     let changes = ap (λ (s : StoreState). s.kept.changes) c.self.view_is in
-    let found = filter_map-is (row_at cells) c.in_ok-cells.cells.items _ (sym c.in_ok-cells.ensures) in
-    let readable : unreadable (reads store) (revision_read (reads store) q.revision) ≡ None = ap (λ z. unreadable (reads store) (revision_read (reads store) z)) (sym bits) ∙ sym c.unreadable.ensures ∙ c.in_default.is in
-    let read : rows_of cells c.in_ok-cells.cells.items ≡ rows_read (reads store) q.key q.range_end q.revision =
+    let found = filter_map-is (row_at cells) cs _ (sym c.in_ok-cells.ensures) in
+    let read : rows_of cells cs ≡ rows_read (reads store) q.key q.range_end q.revision =
     sym found ∙ ap (rows (is_in c.as_slice.result.now c.as_slice-2.result.now) c.revision_read.result) changes
-    ∙ rows_live store.kept q.key q.range_end c.as_slice.result.now c.as_slice-2.result.now q.revision c.revision_read.result c.as_slice.ensures c.as_slice-2.ensures (c.revision_read.ensures ∙ ap (revision_read (reads store)) bits) readable in
-    c.in_ok-reply.ensures
-    ∙ ap (λ n. range_answer q n (rows_of cells c.in_ok-cells.cells.items)) c.current.ensures.current
-    ∙ ap (range_answer q store.kept.current) read
+    ∙ rows_live store.kept q.key q.range_end c.as_slice.result.now c.as_slice-2.result.now q.revision c.revision_read.result c.as_slice.ensures c.as_slice-2.ensures (c.revision_read.ensures ∙ ap (revision_read (reads store)) bits) c.requires.readable in
+    IfOk-weaker c.range_reply.result (λ reply. reply ≡ range_answer q c.args.current (rows_of cells cs)) (λ reply. reply ≡ op_reply (reads store) c.args.current (RangeOp q))
+    (λ reply h. h ∙ ap (range_answer q c.args.current) read)
+    c.range_reply.ensures
