@@ -1,0 +1,30 @@
+-- What is planned for a transaction.
+use Rattle.std.specs.Prelude.{◌≡◌, pos, [], false, List}
+use Rattle.etcd_types.specs.declared.txn.Op.{Op}
+use Rattle.etcd_types.specs.declared.txn.Op.TheVariants.{Put, Delete}
+use Rattle.etcd_types.specs.declared.txn.TxnReq.{TxnReq}
+use Rattle.etcd_model.specs.declared.state.Change.{Change}
+use Rattle.etcd_model.specs.Compares.{all_hold}
+use Rattle.etcd_model.specs.Operations.{adds_any, branch, pending_after, replies}
+use Rattle.revision_store.specs.Pending.{changes_key, puts_inside}
+use Rattle.revision_store.specs.Stored.{StoreState, IsPlanFor, changes_of, look, reads}
+use Rattle.txn_plan.specs.declared.planning.PlannedTxn.{PlannedTxn}
+
+-- no pending change is of a put's key, and no pending put lies in the interval of a delete
+abbrev pub IsApart : Op → List Change → Type 0
+IsApart (Put p) pending = changes_key p.key pending ≡ false
+IsApart (Delete d) pending = puts_inside d pending ≡ false
+IsApart op pending = Unit {0}
+
+-- what all operations of the branch that is taken change, and what they are answered
+abbrev pub changed : StoreState → TxnReq → List Change
+changed store t = pending_after (look store) [] (branch (reads store) t)
+
+-- what is planned is the transaction
+pub record IsTxn (store : StoreState) (t : TxnReq) (planned : PlannedTxn) : Type 0 where
+  pub plan : IsPlanFor store planned.plan
+  pub changes : changes_of store planned.plan ≡ changed store t
+  pub succeeded : planned.succeeded ≡ all_hold (reads store) t.compare
+  pub adds : planned.adds ≡ adds_any (branch (reads store) t)
+  pub revision : planned.revision ≡ pos (look store (changed store t)).current
+  pub responses : planned.responses ≡ replies (look store) [] (branch (reads store) t)

@@ -1,0 +1,14 @@
+//! A transaction over a store: its compares, the branch that they take, and the operations of that one after another,
+//! each of which reads what the ones before it change.
+#![tactic(auto)]
+
+mod branch;
+mod folding;
+mod planning;
+mod refusal;
+#[cfg(test)]
+mod tests;
+
+pub use branch::{adds_any, holds, writes_any};
+pub use planning::{PlannedTxn, plan};
+pub use refusal::check;

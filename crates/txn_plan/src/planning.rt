@@ -1,0 +1,53 @@
+//! Plans of transactions.
+ghost use Rattle.std.specs.Prelude.{◌≡◌, ◌+◌, ◌<◌, ◌^◌, ◌++◌, [], true, None, Some, IfOk, MatchResult};
+ghost use Rattle.std.specs.List.{list_any};
+ghost use Rattle.etcd_model.specs.Fields.{txn_fields};
+ghost use Rattle.etcd_model.specs.Operations.{branch, ops_refusal};
+ghost use Rattle.etcd_model.specs.Stepping.{writes_op};
+ghost use Rattle.revision_store.specs.Stored.{reads};
+ghost use Rattle.txn_plan.specs.Planned.{IsTxn};
+
+use crate::branch::{adds_any, all_hold, branch};
+use crate::folding::{Folded, fold};
+use crate::refusal::ops_refusal;
+use etcd_types::{List, Mem, OpReply, Refusal, TxnReq};
+use revision_store::{Plan, Store};
+use std::alloc::Global;
+
+/// A transaction that is decided, with all memory that its commit needs.
+#[derive(Drop)]
+pub struct PlannedTxn {
+    /// What it changes, in one revision.
+    pub plan: Plan,
+    /// All compares hold, and so the first branch is taken.
+    pub succeeded: bool,
+    /// The branch that is taken has a put.
+    pub adds: bool,
+    /// The current revision, once the plan is committed.
+    pub revision: i64,
+    /// What the operations of the branch are answered, in their order.
+    pub responses: List<OpReply>,
+}
+
+/// Decides a transaction that its fields don't refuse. It is refused by the first operation of the branch that is taken
+/// which the store refuses as it is before all of them. Nothing changes.
+pub fn plan(alloc: Global, store: &Store, request: &TxnReq) -> Mem<Result<PlannedTxn, Refusal>>
+    requires fields { txn_fields request.now ≡ None }
+    requires revisions { list_any writes_op (request.now.success ++ request.now.failure) ≡ true → store.now.kept.current + 1 < 2 ^ 63 }
+    ensures refusal { IfOk result (λ answer. MatchResult answer (λ planned. ops_refusal [] (reads store.now) (branch (reads store.now) request.now) ≡ None) (λ refusal. ops_refusal [] (reads store.now) (branch (reads store.now) request.now) ≡ Some refusal)) }
+    ensures planned { IfOk result (λ answer. IfOk answer (λ planned. IsTxn store.now request.now planned)) }
+{
+    let succeeded = all_hold(store, request.compare.as_slice());
+    let ops = branch(request, succeeded);
+    if let Some(refusal) = ops_refusal(store, ops) {
+        return Ok(Err(refusal));
+    }
+    let Folded { pending, replies } = fold(alloc, store, ops)?;
+    Ok(Ok(PlannedTxn {
+        succeeded,
+        adds: adds_any(ops),
+        revision: pending.current() as i64,
+        plan: pending.finish(),
+        responses: replies,
+    }))
+}

@@ -1,0 +1,55 @@
+//! What a transaction is refused for.
+ghost use Rattle.std.specs.Prelude.{◌≡◌, [], None, Some, MatchResult};
+ghost use Rattle.etcd_model.specs.Fields.{txn_fields};
+ghost use Rattle.etcd_model.specs.Operations.{op_refusal, ops_refusal};
+ghost use Rattle.revision_store.specs.Stored.{reads};
+ghost use Rattle.etcd_types.specs.declared.txn.Op.TheVariants.{Put as PutOp};
+
+use etcd_types::{Op, PutReq, Refusal, TxnReq};
+use request_checks::txn_fields;
+use revision_store::Store;
+
+/// What the fields of a transaction refuse, those of its compares and of both its branches.
+pub fn check(request: &TxnReq) -> Result<(), Refusal>
+    ensures { MatchResult result (λ _. txn_fields request.now ≡ None) (λ refusal. txn_fields request.now ≡ Some refusal) }
+{
+    match txn_fields(request) {
+        None => Ok(()),
+        Some(refusal) => Err(refusal),
+    }
+}
+
+/// The first refusal of some operations, each of which is looked up in the store before any of them. There is no lease
+/// yet that a put can name.
+pub(crate) fn ops_refusal(store: &Store, ops: &[Op]) -> Option<Refusal>
+    ensures { result ≡ ops_refusal [] (reads store.now) ops.now }
+{
+    for op in ops {
+        if let Some(refusal) = op_refusal(store, op) {
+            return Some(refusal);
+        }
+    }
+    None
+}
+
+/// Why one operation is refused.
+fn op_refusal(store: &Store, op: &Op) -> Option<Refusal>
+    ensures { result ≡ op_refusal [] (reads store.now) op.now }
+{
+    match op {
+        Op::Range(request) => store.unreadable(request.revision),
+        Op::Put(request) => put_refusal(store, request),
+        Op::Delete(_) | Op::Nested => None,
+    }
+}
+
+/// Why a put is refused.
+fn put_refusal(store: &Store, request: &PutReq) -> Option<Refusal>
+    ensures { result ≡ op_refusal [] (reads store.now) (PutOp request.now) }
+{
+    if request.lease == 0 {
+        store.put_refusal(request)
+    } else {
+        Some(Refusal::LeaseNotFound)
+    }
+}
