@@ -1,7 +1,7 @@
 -- What is built so far. This file goes with the last stage.
 use Rattle.std.specs.Prelude.{Bool, true, false, if◌then◌else◌}
 use Rattle.etcd_types.specs.declared.step.Step.{Step}
-use Rattle.etcd_types.specs.declared.step.Step.TheVariants.{Range, Put, Delete, Compact, Alarm, Status, Defragment}
+use Rattle.etcd_types.specs.declared.step.Step.TheVariants.{Range, Put, Delete, Txn, Compact, Alarm, Status, Defragment}
 use Rattle.etcd_types.specs.declared.call.Call.{Call}
 use Rattle.etcd_types.specs.declared.call.Call.TheVariants as call
 use Rattle.etcd_types.specs.declared.refusal.Refusal.TheVariants.{NotOffered}
@@ -11,11 +11,12 @@ use Rattle.etcd_model.specs.History.{History}
 use Rattle.etcd_model.specs.Machine.{history}
 use Rattle.etcd_model.specs.Stepping.{machine}
 
--- the machine does this step: all but transactions, leases and ticks, and watches
+-- the machine does this step: all but leases and ticks, and watches
 abbrev pub is_offered : Step → Bool
 is_offered (Range q) = true
 is_offered (Put p) = true
 is_offered (Delete d) = true
+is_offered (Txn t) = true
 is_offered (Compact r) = true
 is_offered (Alarm a) = true
 is_offered Status = true
@@ -27,6 +28,7 @@ abbrev pub is_built : Call → Bool
 is_built call.Range = true
 is_built call.Put = true
 is_built call.DeleteRange = true
+is_built call.Txn = true
 is_built call.Compaction = true
 is_built call.Alarm = true
 is_built call.Status = true

@@ -135,6 +135,17 @@ fn count_of(answers: &[u8], front: &[u8]) -> u64 {
     count
 }
 
+/// At least so many lines tell what operations of a transaction were answered.
+fn assert_transactions(rt: &impl Abort, answers: &[u8], least: u64) {
+    let mut count = 0u64;
+    for line in answers.split(|byte| *byte == b'\n') {
+        if str::from_utf8(line).is_ok_and(|text| text.split_once("\"responses\"").is_some()) {
+            count = count.saturating_add(1);
+        }
+    }
+    assert!(rt; count >= least, "{count}");
+}
+
 #[test]
 fn rows_are_answered(rt: HostRuntime) {
     for row in &ROWS {
@@ -148,6 +159,7 @@ fn script_by_chance_is_answered_alike(rt: HostRuntime) -> Mem<()> {
     let answers = answers_to::<Lowest>(&rt, rt.alloc(), script.as_bytes());
     assert_at_least(&rt, &answers, b"429 ", 1_000);
     assert_at_least(&rt, &answers, b"200 {\"alarms\"", 100);
+    assert_transactions(&rt, &answers, 500);
     assert_all_answer(&rt, rt.alloc(), script.as_bytes(), &answers);
     Ok(())
 }

@@ -84,6 +84,7 @@ fn is_built(call: Call) -> bool
         Call::Range
             | Call::Put
             | Call::DeleteRange
+            | Call::Txn
             | Call::Compaction
             | Call::Alarm
             | Call::Status

@@ -277,7 +277,7 @@ fn gate(rt: HostRuntime) {
             Refusal::BadBody,
         ),
         ("kv/deleterange", "{", Refusal::BadBody),
-        ("kv/txn", "{", Refusal::NotOffered),
+        ("kv/txn", "{", Refusal::BadBody),
         ("lease/grant", "{", Refusal::NotOffered),
         ("watch", "{", Refusal::NotOffered),
         ("kv/none", "{", Refusal::NoPath),

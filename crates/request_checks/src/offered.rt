@@ -4,7 +4,7 @@ ghost use Rattle.etcd_model.specs.Offered.{is_offered};
 
 use etcd_types::Step;
 
-/// Whether the machine does this step: all but transactions, leases and ticks, and watches.
+/// Whether the machine does this step: all but leases and ticks, and watches.
 pub fn is_offered(step: &Step) -> bool
     ensures { result ≡ is_offered step.now }
 {
@@ -13,6 +13,7 @@ pub fn is_offered(step: &Step) -> bool
         Step::Range(_)
             | Step::Put(_)
             | Step::Delete(_)
+            | Step::Txn(_)
             | Step::Compact(_)
             | Step::Alarm(_)
             | Step::Status

@@ -339,7 +339,7 @@ fn offers(step: Step) -> bool {
     is_offered(&step)
 }
 
-/// Reads, puts and deletes with every member, and maintenance.
+/// Reads, puts and deletes with every member, transactions, and maintenance.
 #[test]
 fn offered(rt: HostRuntime) -> Mem<()> {
     let alloc = rt.alloc();
@@ -351,6 +351,7 @@ fn offered(rt: HostRuntime) -> Mem<()> {
     assert!(rt; offers(Step::Range(limited(alloc)?)));
     assert!(rt; offers(Step::Put(leased(alloc)?)));
     assert!(rt; offers(Step::Delete(delete(alloc, b"a", b"b")?)));
+    assert!(rt; offers(Step::Txn(txn_of(alloc, 0, 0, 0)?)));
     assert!(rt; offers(Step::Compact(-1)));
     assert!(rt; offers(Step::Alarm(alarm)));
     assert!(rt; offers(Step::Status));
@@ -361,7 +362,6 @@ fn offered(rt: HostRuntime) -> Mem<()> {
 #[test]
 fn not_offered(rt: HostRuntime) -> Mem<()> {
     let alloc = rt.alloc();
-    assert!(rt; !offers(Step::Txn(txn_of(alloc, 0, 0, 0)?)));
     assert!(rt; !offers(Step::Grant(GrantReq { ttl: 5, id: 0 })));
     assert!(rt; !offers(Step::Leases));
     assert!(rt; !offers(Step::Watch(watch(alloc)?)));

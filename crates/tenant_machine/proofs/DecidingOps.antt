@@ -10,7 +10,7 @@ use Rattle.etcd_types.specs.declared.txn.Op.TheVariants.{Range as RangeOp, Put a
 use Rattle.etcd_types.specs.declared.step.Step.TheVariants.{Put}
 use Rattle.etcd_types.specs.declared.refusal.Refusal.{Refusal}
 use Rattle.etcd_types.specs.declared.refusal.Refusal.TheVariants.{NoSpace}
-use Rattle.etcd_types.specs.declared.reply.OpReply.{OpReply}
+use Rattle.etcd_types.specs.declared.reply.Reply.{Reply}
 use Rattle.etcd_types.specs.declared.reply.Reply.TheVariants.{Refused}
 use Rattle.etcd_model.specs.declared.state.Change.{Change}
 use Rattle.etcd_model.specs.declared.state.State.{State}
@@ -39,10 +39,10 @@ answered_at m R n (DeleteOp d) = refl
 answered_at m R n Nested = refl
 
 -- a plan of an operation does what the operation does
-pub op_does : (m : MachineState) (op : Op) (writes : List Write) (cells_then : ℕ) (reply : OpReply) → changes_of m.store writes ≡ changes (reads m.store) op → reply ≡ op_reply (reads m.store) (look m.store (changes (reads m.store) op)).current op
-    → Does m (record { effect = WriteEffect writes cells_then; reply = answer m reply }) (single kept_store (tenant m) op)
+pub op_does : (m : MachineState) (op : Op) (writes : List Write) (cells_then : ℕ) (reply : Reply) → changes_of m.store writes ≡ changes (reads m.store) op
+    → reply ≡ answer m (op_reply (reads m.store) (look m.store (changes (reads m.store) op)).current op) → Does m (record { effect = WriteEffect writes cells_then; reply = reply }) (single kept_store (tenant m) op)
 op_does m op writes cells_then reply is told = record {
-  reply = ap (answer m) told ∙ answered_at m (reads m.store) (look m.store (changes (reads m.store) op)).current op;
+  reply = told ∙ answered_at m (reads m.store) (look m.store (changes (reads m.store) op)).current op;
   state = ap (λ (cs : List Change). record (tenant m) { store = after m.store.kept cs }) is;
 }
 
@@ -65,9 +65,9 @@ put_passes t q o past =
     let is : nat_lt t.quota (used kept_store o.state) ≡ true = grind (arith, nat_tests) in
     ap (λ (b : Bool). if b then record { state = record t { alarm = true }; reply = Refused NoSpace } else o) is
 
-pub put_does : (m : MachineState) (q : PutReq) (writes : List Write) (reply : OpReply) (p : Plan)
-    → look_up kept_store (tenant m) (Put q) ≡ None → IsPlanOf m.store (PutOp q) writes → reply ≡ op_reply (reads m.store) (m.store.kept.current + 1) (PutOp q)
-    → (cells (written m.store writes) ≤ m.quota → p ≡ record { effect = WriteEffect writes (cells (written m.store writes)); reply = answer m reply })
+pub put_does : (m : MachineState) (q : PutReq) (writes : List Write) (reply : Reply) (p : Plan)
+    → look_up kept_store (tenant m) (Put q) ≡ None → IsPlanOf m.store (PutOp q) writes → reply ≡ answer m (op_reply (reads m.store) (m.store.kept.current + 1) (PutOp q))
+    → (cells (written m.store writes) ≤ m.quota → p ≡ record { effect = WriteEffect writes (cells (written m.store writes)); reply = reply })
     → (m.quota < cells (written m.store writes) → p ≡ record { effect = Alarm true; reply = Refused NoSpace })
     → Does m p (past_gate (tenant m) (Put q))
 put_does m q writes reply p none plan told admitted refused =
@@ -96,13 +96,13 @@ module _ (m : MachineState) (store : StoreState) (q : PutReq) (answered : Result
   said_as : (a : Result PlannedOp Refusal) → answered ≡ a → IsPutAnswer m.store q a
   said_as a is = subst (IsPutAnswer m.store q) is (subst (λ (s : StoreState). IsPutAnswer s q answered) same says)
 
-  pub put_planned_does : (planned : PlannedOp) (p : Plan) → answered ≡ Ok planned
-      → (cells (written m.store planned.plan) ≤ m.quota → p ≡ record { effect = WriteEffect planned.plan (cells (written m.store planned.plan)); reply = answer m planned.reply })
+  pub put_planned_does : (planned : PlannedOp) (reply : Reply) (p : Plan) → answered ≡ Ok planned → reply ≡ answer m planned.reply
+      → (cells (written m.store planned.plan) ≤ m.quota → p ≡ record { effect = WriteEffect planned.plan (cells (written m.store planned.plan)); reply = reply })
       → (m.quota < cells (written m.store planned.plan) → p ≡ record { effect = Alarm true; reply = Refused NoSpace })
       → Does m p (past_gate (tenant m) (Put q))
-  put_planned_does planned p is admitted refused =
+  put_planned_does planned reply p is told admitted refused =
       let said = said_as (Ok planned) is in
-      put_does m q planned.plan planned.reply p (put_looked_up m q none ∙ said.refusal) said.plan said.reply admitted refused
+      put_does m q planned.plan reply p (put_looked_up m q none ∙ said.refusal) said.plan (told ∙ ap (answer m) said.reply) admitted refused
 
   pub put_refused_does : (r : Refusal) (p : Plan) → answered ≡ Err r → p ≡ record { effect = Nothing; reply = Refused r } → Does m p (past_gate (tenant m) (Put q))
   put_refused_does r p is planned = put_refused m q r p (put_looked_up m q none ∙ (said_as (Err r) is).refusal) planned
@@ -113,10 +113,10 @@ module _ (m : MachineState) (store : StoreState) (q : PutReq) (answered : Result
 pub delete_keeps : (store : StoreState) (d : DeleteReq) (writes : List Write) → IsStore store.kept → IsPlanOf store (DeleteOp d) writes → cells store.kept ≡ cells (written store writes)
 delete_keeps store d writes sound plan = sym (ap (λ (cs : List Change). cells (after store.kept cs)) plan.changes ∙ delete_takes_none store.kept [] d sound)
 
-pub delete_does : (m : MachineState) (store : StoreState) (d : DeleteReq) (planned : PlannedOp) (cells_then : ℕ) (p : Plan) → store ≡ m.store → IsPlanOf store (DeleteOp d) planned.plan
+pub delete_does : (m : MachineState) (store : StoreState) (d : DeleteReq) (planned : PlannedOp) (cells_then : ℕ) (reply : Reply) (p : Plan) → store ≡ m.store → IsPlanOf store (DeleteOp d) planned.plan
     → planned.reply ≡ op_reply (reads store) (look store (changes (reads store) (DeleteOp d))).current (DeleteOp d)
-    → p ≡ record { effect = WriteEffect planned.plan cells_then; reply = answer m planned.reply } → Does m p (single kept_store (tenant m) (DeleteOp d))
-delete_does m store d planned cells_then p same plan told is =
+    → reply ≡ answer m planned.reply → p ≡ record { effect = WriteEffect planned.plan cells_then; reply = reply } → Does m p (single kept_store (tenant m) (DeleteOp d))
+delete_does m store d planned cells_then reply p same plan told spoken is =
     let here = subst (λ (s : StoreState). IsPlanOf s (DeleteOp d) planned.plan) same plan in
     let told_here = subst (λ (s : StoreState). planned.reply ≡ op_reply (reads s) (look s (changes (reads s) (DeleteOp d))).current (DeleteOp d)) same told in
-    does_as m p _ _ is (op_does m (DeleteOp d) planned.plan cells_then planned.reply here.changes told_here)
+    does_as m p _ _ is (op_does m (DeleteOp d) planned.plan cells_then reply here.changes (spoken ∙ ap (answer m) told_here))

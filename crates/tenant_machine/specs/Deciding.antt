@@ -1,5 +1,5 @@
 -- How a step is decided: the words of single parts.
-use Rattle.std.specs.Prelude.{◌≡◌, ◌&&◌, ℤ, [], ◌∷◌, Option}
+use Rattle.std.specs.Prelude.{◌≡◌, ◌&&◌, ℤ, [], ◌∷◌, nat_lt, Option, true, if◌then◌else◌}
 use Rattle.etcd_types.specs.declared.step.Step.{Step}
 use Rattle.etcd_types.specs.declared.refusal.Refusal.{Refusal}
 use Rattle.etcd_types.specs.declared.refusal.Refusal.TheVariants.{NoSpace}
@@ -7,14 +7,16 @@ use Rattle.etcd_types.specs.declared.reply.Header.{Header}
 use Rattle.etcd_types.specs.declared.reply.OpReply.{OpReply}
 use Rattle.etcd_types.specs.declared.reply.OpReply.TheVariants.{Range, Put, Delete}
 use Rattle.etcd_types.specs.declared.reply.Reply.{Reply}
+use Rattle.etcd_types.specs.declared.reply.Reply.TheVariants.{Refused, Txn}
 use Rattle.etcd_model.specs.declared.state.State.{State}
 use Rattle.etcd_model.specs.Fields.{refused_if}
 use Rattle.etcd_model.specs.Operations.{first_refusal}
 use Rattle.etcd_model.specs.Stepping.{early, look_up, may_add, decided, within_quota, with_header}
 use Rattle.etcd_model.specs.Store.{Store, kept_store}
-use Rattle.etcd_model.specs.Tenant.{Outcome}
-use Rattle.tenant_machine.specs.Held.{MachineState}
-use Rattle.tenant_machine.specs.Plans.{Plan, after_effect}
+use Rattle.etcd_model.specs.Tenant.{Outcome, used}
+use Rattle.txn_plan.specs.declared.planning.PlannedTxn.{PlannedTxn}
+use Rattle.tenant_machine.specs.Held.{MachineState, tenant}
+use Rattle.tenant_machine.specs.Plans.{Plan, after_effect, written}
 
 -- what refuses a step before anything is looked up: its fields, then numbers that are used up, then the alarm
 abbrev pub gate : State Store → Step → Option Refusal
@@ -29,14 +31,21 @@ pub record Does (m : MachineState) (p : Plan) (o : Outcome Store) : Type 0 where
   pub reply : p.reply ≡ o.reply
   pub state : after_effect m p.effect ≡ o.state
 
+abbrev pub header_at : MachineState → ℤ → Header
+header_at m revision = record { cluster = m.cluster; revision = revision }
+
+-- what comes of a transaction that is planned: its changes, or where it puts and they pass the quota, the alarm
+abbrev pub txn_outcome : MachineState → PlannedTxn → Outcome Store
+txn_outcome m planned =
+    let after = record (tenant m) { store = written m.store planned.plan } in
+    if planned.adds && nat_lt m.quota (used kept_store after) then record { state = record (tenant m) { alarm = true }; reply = Refused NoSpace }
+    else record { state = after; reply = Txn (header_at m planned.revision) planned.succeeded planned.responses }
+
 -- the revision that an operation is answered with
 abbrev pub revision_of : OpReply → ℤ
 revision_of (Range revision count kvs more) = revision
 revision_of (Put revision prev_kv) = revision
 revision_of (Delete revision deleted prev_kvs) = revision
-
-abbrev pub header_at : MachineState → ℤ → Header
-header_at m revision = record { cluster = m.cluster; revision = revision }
 
 -- an operation's answer, as that of its step
 abbrev pub answer : MachineState → OpReply → Reply

@@ -1,20 +1,23 @@
 //! Plans of what reads or changes the store.
-ghost use Rattle.std.specs.Prelude.{◌≡◌, ◌<◌, ◌≤◌, ◌*◌, pos, true, IfOk};
+ghost use Rattle.std.specs.Prelude.{◌≡◌, ◌<◌, ◌≤◌, ◌*◌, pos, true, false, None, IfOk};
 ghost use Rattle.etcd_types.specs.Limits.{last_revision};
-ghost use Rattle.etcd_types.specs.declared.step.Step.TheVariants.{Range, Put, Delete, Compact};
+ghost use Rattle.etcd_types.specs.declared.step.Step.TheVariants.{Range, Put, Delete, Txn, Compact};
 ghost use Rattle.etcd_types.specs.declared.refusal.Refusal.TheVariants.{NoSpace};
 ghost use Rattle.etcd_types.specs.declared.reply.Reply.TheVariants.{Refused};
+ghost use Rattle.etcd_model.specs.Fields.{is_empty, txn_fields};
+ghost use Rattle.etcd_model.specs.Stepping.{writes};
 ghost use Rattle.etcd_model.specs.Store as kept;
 ghost use Rattle.revision_store.specs.Stored.{IsPlanFor};
-ghost use Rattle.tenant_machine.specs.Deciding.{Does, answer, header_at, past_gate};
+ghost use Rattle.tenant_machine.specs.Deciding.{Does, answer, header_at, past_gate, txn_outcome};
 ghost use Rattle.tenant_machine.specs.Held.{tenant};
 ghost use Rattle.tenant_machine.specs.Plans.{Fits, written};
 
 use crate::machine::Machine;
 use crate::planned::{Effect, Planned};
-use etcd_types::{DeleteReq, Header, Mem, OpReply, PutReq, RangeReq, Refusal, Reply};
-use revision_store::PlannedOp;
+use etcd_types::{DeleteReq, Header, Mem, OpReply, PutReq, RangeReq, Refusal, Reply, TxnReq};
+use revision_store::{Plan, PlannedOp};
 use std::alloc::Global;
+use txn_plan::PlannedTxn;
 
 impl Machine {
     pub(crate) fn plan_range(&self, alloc: Global, request: &RangeReq) -> Mem<Planned>
@@ -37,7 +40,7 @@ impl Machine {
             return Ok(Planned::refused(Refusal::LeaseNotFound));
         }
         Ok(match self.store.plan_put(alloc, request)? {
-            Ok(planned) => self.within_quota(planned),
+            Ok(PlannedOp { plan, reply }) => self.within_quota(plan, self.answer(reply)),
             Err(refusal) => Planned::refused(refusal),
         })
     }
@@ -48,8 +51,8 @@ impl Machine {
         ensures does { IfOk result (λ p. Does self.now p (past_gate (tenant self.now) (Delete request.now))) }
         ensures fits { IfOk result (λ p. Fits self.now p) }
     {
-        let planned = self.store.plan_delete(alloc, request)?;
-        Ok(self.writing(planned, self.quota.used))
+        let PlannedOp { plan, reply } = self.store.plan_delete(alloc, request)?;
+        Ok(self.writing(plan, self.answer(reply), self.quota.used))
     }
 
     pub(crate) fn plan_compaction(&self, revision: i64) -> Planned
@@ -65,18 +68,62 @@ impl Machine {
         }
     }
 
-    /// An operation that adds, unless more cells were in use then than the quota has: that raises the alarm.
-    fn within_quota(&self, planned: PlannedOp) -> Planned
+    /// A transaction. One that changes nothing writes no revision.
+    pub(crate) fn plan_txn(&self, alloc: Global, request: &TxnReq) -> Mem<Planned>
+        requires fields { txn_fields request.now ≡ None }
+        requires revisions { writes (Txn request.now) ≡ true → self.now.store.kept.current < last_revision }
+        ensures does { IfOk result (λ p. Does self.now p (past_gate (tenant self.now) (Txn request.now))) }
+        ensures fits { IfOk result (λ p. Fits self.now p) }
+    {
+        Ok(match txn_plan::plan(alloc, &self.store, request)? {
+            Ok(planned) => self.transaction(planned),
+            Err(refusal) => Planned::refused(refusal),
+        })
+    }
+
+    /// What comes of a transaction that is not refused. The quota is asked where the branch that is taken has a put:
+    /// deletes take the room that was held for them.
+    fn transaction(&self, planned: PlannedTxn) -> Planned
         requires plan { IsPlanFor self.now.store planned.plan }
-        requires revisions { self.now.store.kept.current < last_revision }
-        ensures admitted { kept.cells (written self.now.store planned.plan) ≤ self.now.quota → result ≡ record { effect = Effect.Write planned.plan (kept.cells (written self.now.store planned.plan)); reply = answer self.now planned.reply } }
-        ensures refused { self.now.quota < kept.cells (written self.now.store planned.plan) → result ≡ record { effect = Effect.Alarm true; reply = Refused NoSpace } }
+        requires adds { planned.adds ≡ true → self.now.store.kept.current < last_revision }
+        requires writes { is_empty planned.plan ≡ false → self.now.store.kept.current < last_revision }
+        requires keeps { planned.adds ≡ false → kept.cells (written self.now.store planned.plan) ≡ kept.cells self.now.store.kept }
+        ensures does { Does self.now result (txn_outcome self.now planned) }
         ensures fits { Fits self.now result }
     {
-        let growth = self.store.growth(&planned.plan);
+        let PlannedTxn {
+            plan,
+            succeeded,
+            adds,
+            revision,
+            responses,
+        } = planned;
+        let reply = Reply::Txn {
+            header: self.header_at(revision),
+            succeeded,
+            responses,
+        };
+        if adds {
+            self.within_quota(plan, reply)
+        } else if plan.is_empty() {
+            Planned::told(reply)
+        } else {
+            self.writing(plan, reply, self.quota.used)
+        }
+    }
+
+    /// Writes of which one at least adds, unless more cells were in use then than the quota has: that raises the alarm.
+    fn within_quota(&self, plan: Plan, reply: Reply) -> Planned
+        requires plan { IsPlanFor self.now.store plan }
+        requires revisions { self.now.store.kept.current < last_revision }
+        ensures admitted { kept.cells (written self.now.store plan) ≤ self.now.quota → result ≡ record { effect = Effect.Write plan (kept.cells (written self.now.store plan)); reply = reply } }
+        ensures refused { self.now.quota < kept.cells (written self.now.store plan) → result ≡ record { effect = Effect.Alarm true; reply = Refused NoSpace } }
+        ensures fits { Fits self.now result }
+    {
+        let growth = self.store.growth(&plan);
         let used = self.quota.used.saturating_add(growth);
         if self.quota.admit(used) {
-            self.writing(planned, used)
+            self.writing(plan, reply, used)
         } else {
             Planned {
                 effect: Effect::Alarm(true),
@@ -85,21 +132,20 @@ impl Machine {
         }
     }
 
-    /// An operation after which so many cells are in use.
-    fn writing(&self, planned: PlannedOp, used: u64) -> Planned
-        requires plan { IsPlanFor self.now.store planned.plan }
+    /// Writes after which so many cells are in use.
+    fn writing(&self, plan: Plan, reply: Reply, used: u64) -> Planned
+        requires plan { IsPlanFor self.now.store plan }
         requires revisions { self.now.store.kept.current < last_revision }
-        requires used { used ≡ kept.cells (written self.now.store planned.plan) }
+        requires used { used ≡ kept.cells (written self.now.store plan) }
         requires within { used ≤ 64 * self.now.store.reserved }
-        ensures planned { result ≡ record { effect = Effect.Write planned.plan used; reply = answer self.now planned.reply } }
+        ensures planned { result ≡ record { effect = Effect.Write plan used; reply = reply } }
         ensures fits { Fits self.now result }
     {
         // What the invariant says of the cells in use is known from here on.
         let _ = &self.quota;
-        let PlannedOp { plan, reply } = planned;
         Planned {
             effect: Effect::Write { plan, used },
-            reply: self.answer(reply),
+            reply,
         }
     }
 

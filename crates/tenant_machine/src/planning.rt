@@ -13,6 +13,7 @@ use etcd_types::limits::LAST_REVISION;
 use etcd_types::{Mem, Refusal, Step};
 use request_checks::{fields, is_offered};
 use std::alloc::Global;
+use txn_plan::{adds_any, writes_any};
 
 impl Machine {
     /// What is offered is decided, and nothing else.
@@ -58,6 +59,7 @@ impl Machine {
             Step::Range(request) => self.plan_range(alloc, request),
             Step::Put(request) => self.plan_put(alloc, request),
             Step::Delete(request) => self.plan_delete(alloc, request),
+            Step::Txn(request) => self.plan_txn(alloc, request),
             Step::Compact(revision) => Ok(self.plan_compaction(*revision)),
             Step::Alarm(request) => Ok(self.plan_alarm(request)),
             Step::Status => Ok(self.plan_status()),
@@ -67,18 +69,30 @@ impl Machine {
     }
 }
 
-/// Whether a step may write a revision.
+/// Whether a step may write a revision: a put, a delete, or a transaction with either in any branch.
 fn writes(step: &Step) -> bool
     requires { is_offered step.now ≡ true }
     ensures { result ≡ writes step.now }
 {
-    matches!(step, Step::Put(_) | Step::Delete(_))
+    match step {
+        Step::Put(_) | Step::Delete(_) => true,
+        Step::Txn(request) => {
+            writes_any(request.success.as_slice()) || writes_any(request.failure.as_slice())
+        }
+        _ => false,
+    }
 }
 
-/// Whether a step may take space.
+/// Whether a step may take space: a put, or a transaction with one in any branch.
 fn may_add(step: &Step) -> bool
     requires { is_offered step.now ≡ true }
     ensures { result ≡ may_add step.now }
 {
-    matches!(step, Step::Put(_))
+    match step {
+        Step::Put(_) => true,
+        Step::Txn(request) => {
+            adds_any(request.success.as_slice()) || adds_any(request.failure.as_slice())
+        }
+        _ => false,
+    }
 }

@@ -35,20 +35,52 @@ impl Random {
     }
 
     fn write_call(&mut self, text: &mut String, revision: u64) -> Mem<()> {
-        match self.below(20) {
-            0..=9 => self.write_put(text),
-            10..=12 => self.write_delete(text),
-            13..=15 => self.write_range(text, revision),
+        match self.below(24) {
+            0..=9 => self.write_put(text, "kv/put "),
+            10..=12 => self.write_delete(text, "kv/deleterange "),
+            13..=15 => self.write_range(text, "kv/range ", revision),
             16 | 17 => self.write_compaction(text, revision),
             18 => text.push_str(
                 "maintenance/alarm {\"action\":\"DEACTIVATE\",\"alarm\":\"NOSPACE\"",
             ),
-            _ => text.push_str("maintenance/status {"),
+            19 => text.push_str("maintenance/status {"),
+            _ => self.write_txn(text, revision),
         }
     }
 
-    fn write_put(&mut self, text: &mut String) -> Mem<()> {
-        text.push_str("kv/put {\"key\":")?;
+    /// A transaction whose branch depends on whether a key is there.
+    fn write_txn(&mut self, text: &mut String, revision: u64) -> Mem<()> {
+        text.push_str("kv/txn {\"compare\":[{\"target\":\"VERSION\",\"key\":")?;
+        self.write_key(text)?;
+        text.push_str("}],\"success\":[")?;
+        self.write_branch(text, revision)?;
+        text.push_str("],\"failure\":[")?;
+        self.write_branch(text, revision)?;
+        text.push(']')
+    }
+
+    fn write_branch(&mut self, text: &mut String, revision: u64) -> Mem<()> {
+        for place in 0..self.below(4) {
+            if place > 0 {
+                text.push(',')?;
+            }
+            self.write_operation(text, revision)?;
+            text.push_str("}}")?;
+        }
+        Ok(())
+    }
+
+    fn write_operation(&mut self, text: &mut String, revision: u64) -> Mem<()> {
+        match self.below(4) {
+            0 | 1 => self.write_put(text, "{\"request_put\":"),
+            2 => self.write_delete(text, "{\"request_delete_range\":"),
+            _ => self.write_range(text, "{\"request_range\":", revision),
+        }
+    }
+
+    fn write_put(&mut self, text: &mut String, front: &str) -> Mem<()> {
+        text.push_str(front)?;
+        text.push_str("{\"key\":")?;
         self.write_key(text)?;
         text.push_str(",\"value\":\"")?;
         for _ in 0..self.below(24) {
@@ -58,28 +90,32 @@ impl Random {
         self.write_prev_kv(text)
     }
 
-    fn write_delete(&mut self, text: &mut String) -> Mem<()> {
-        text.push_str("kv/deleterange {\"key\":")?;
-        if self.below(40) == 0 {
-            text.push_str(INTERVAL)?;
-        } else {
-            self.write_key(text)?;
-        }
+    fn write_delete(&mut self, text: &mut String, front: &str) -> Mem<()> {
+        text.push_str(front)?;
+        self.write_interval(text, 40)?;
         self.write_prev_kv(text)
     }
 
-    fn write_range(&mut self, text: &mut String, revision: u64) -> Mem<()> {
-        text.push_str("kv/range {\"key\":")?;
-        if self.below(8) == 0 {
-            text.push_str(INTERVAL)?;
-        } else {
-            self.write_key(text)?;
-        }
+    fn write_range(&mut self, text: &mut String, front: &str, revision: u64) -> Mem<()> {
+        text.push_str(front)?;
+        self.write_interval(text, 8)?;
         if self.below(2) == 0 {
             let at = self.near(revision);
             write!(text, ",\"revision\":\"{at}\"")?;
         }
         Ok(())
+    }
+
+    /// A key, or once in so many times all keys.
+    fn write_interval(&mut self, text: &mut String, times: u64) -> Mem<()>
+        requires { 0 < times }
+    {
+        text.push_str("{\"key\":")?;
+        if self.below(times) == 0 {
+            text.push_str(INTERVAL)
+        } else {
+            self.write_key(text)
+        }
     }
 
     fn write_compaction(&mut self, text: &mut String, revision: u64) -> Mem<()> {

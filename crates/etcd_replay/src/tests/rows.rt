@@ -6,7 +6,7 @@ pub(super) struct Row {
     pub(super) answers: &'static str,
 }
 
-pub(super) const ROWS: [Row; 13] = [
+pub(super) const ROWS: [Row; 17] = [
     // first_put
     Row {
         script: r#"add one 7 1024 1
@@ -226,6 +226,52 @@ call POST /t/one/v3/kv/put {"key":"Zm9v"}
 501 {"code":12,"error":"etcd_host: not offered","message":"etcd_host: not offered"}
 200 {"header":{"cluster_id":"7","member_id":"1","raft_term":"1","revision":"1"}}
 200 {"header":{"cluster_id":"7","member_id":"1","raft_term":"1","revision":"2"}}
+"#,
+    },
+    // compare_with_no_row
+    Row {
+        script: r#"add one 7 1024 1
+call POST /t/one/v3/kv/txn {"compare":[{"key":"Zm9v","target":"VALUE","value":""}]}
+call POST /t/one/v3/kv/txn {"compare":[{"key":"Zm9v","target":"VERSION","version":"0"}]}
+"#,
+        answers: r#"ok
+200 {"header":{"cluster_id":"7","member_id":"1","raft_term":"1","revision":"1"}}
+200 {"header":{"cluster_id":"7","member_id":"1","raft_term":"1","revision":"1"},"succeeded":true}
+"#,
+    },
+    // txn_reads_its_writes
+    Row {
+        script: r#"add one 7 1024 1
+call POST /t/one/v3/kv/txn {"success":[{"request_put":{"key":"YQ==","value":"MQ=="}},{"request_range":{"key":"YQ=="}},{"request_delete_range":{"key":"Yg=="}}]}
+call POST /t/one/v3/kv/txn {"success":[{"request_put":{"key":"YQ=="}},{"request_delete_range":{"key":"YQ==","range_end":"Yg=="}}]}
+"#,
+        answers: r#"ok
+200 {"header":{"cluster_id":"7","member_id":"1","raft_term":"1","revision":"2"},"responses":[{"response_put":{"header":{"revision":"2"}}},{"response_range":{"count":"1","header":{"revision":"2"},"kvs":[{"create_revision":"2","key":"YQ==","mod_revision":"2","value":"MQ==","version":"1"}]}},{"response_delete_range":{"header":{"revision":"2"}}}],"succeeded":true}
+400 {"code":3,"error":"etcdserver: duplicate key given in txn request","message":"etcdserver: duplicate key given in txn request"}
+"#,
+    },
+    // txn_future_revision
+    Row {
+        script: r#"add one 7 1024 1
+call POST /t/one/v3/kv/txn {"success":[{"request_put":{"key":"YQ==","value":"MQ=="}},{"request_range":{"key":"YQ==","revision":"2"}}]}
+call POST /t/one/v3/kv/range {"key":"YQ=="}
+"#,
+        answers: r#"ok
+400 {"code":11,"error":"etcdserver: mvcc: required revision is a future revision","message":"etcdserver: mvcc: required revision is a future revision"}
+200 {"header":{"cluster_id":"7","member_id":"1","raft_term":"1","revision":"1"}}
+"#,
+    },
+    // txn_bad_branches
+    Row {
+        script: r#"add one 7 1024 1
+call POST /t/one/v3/kv/txn {"failure":[{"request_put":{"key":"YQ=="}},{"request_put":{"key":"YQ=="}}]}
+call POST /t/one/v3/kv/txn {"success":[{"request_txn":5}]}
+call POST /t/one/v3/kv/txn {"success":[{}]}
+"#,
+        answers: r#"ok
+400 {"code":3,"error":"etcdserver: duplicate key given in txn request","message":"etcdserver: duplicate key given in txn request"}
+501 {"code":12,"error":"etcd_host: not offered","message":"etcd_host: not offered"}
+400 {"code":3,"error":"etcd_host: the body can't be read","message":"etcd_host: the body can't be read"}
 "#,
     },
 ];

@@ -7,3 +7,6 @@ use Rattle.tenant_machine.proofs.machine.Machine.decide.Goals as goal
 
 pub returns-in-Put-clause-does : goal.returns-in-Put-clause-does
 returns-in-Put-clause-does c = subst (λ (s : Step). IfOk c.plan_put.result (λ p. Does c.args.self.now p (past_gate (tenant c.args.self.now) s))) (sym c.in-Put.is) c.plan_put.ensures.does
+
+pub returns-in-Txn-clause-does : goal.returns-in-Txn-clause-does
+returns-in-Txn-clause-does c = subst (λ (s : Step). IfOk c.plan_txn.result (λ p. Does c.args.self.now p (past_gate (tenant c.args.self.now) s))) (sym c.in-Txn.is) c.plan_txn.ensures.does

@@ -11,10 +11,10 @@ returns-clause-does c =
     let same = ap (λ (m : MachineState). m.store) c.self.view_is in
     let bits : to_z w64 (of_z w64 q.lease) ≡ q.lease = search rules in
     let none : q.lease ≡ pos 0 = sym bits ∙ ap (to_z w64) c.if-request-ne0.false in
-    let says : IsPutAnswer c.self.inside.store q c.in_ok-planned.field-0 = record { refusal = c.in_ok-planned.ensures.refusal; plan = c.in_ok-planned.ensures.plan; reply = c.in_ok-planned.ensures.reply } in
+    let says : IsPutAnswer c.self.inside.store q c.in_ok-plan.field-0 = record { refusal = c.in_ok-plan.ensures.refusal; plan = c.in_ok-plan.ensures.plan; reply = c.in_ok-plan.ensures.reply } in
     elim c.match-branch-2.branch [
       | in-Ok w ↦
-          put_planned_does m c.self.inside.store q c.in_ok-planned.field-0 same none says w.in-Ok.planned c.match-branch-2.result w.in-Ok.is
+          put_planned_does m c.self.inside.store q c.in_ok-plan.field-0 same none says w.in-Ok.field-0 w.answer.result c.match-branch-2.result w.in-Ok.is w.answer.ensures
           (λ within. w.result-is ∙ w.within_quota.ensures.admitted within) (λ past. w.result-is ∙ w.within_quota.ensures.refused past)
-      | in-Err w ↦ put_refused_does m c.self.inside.store q c.in_ok-planned.field-0 same none says w.in-Err.refusal c.match-branch-2.result w.in-Err.is (w.result-is ∙ w.refused-in-Err.ensures)
+      | in-Err w ↦ put_refused_does m c.self.inside.store q c.in_ok-plan.field-0 same none says w.in-Err.refusal c.match-branch-2.result w.in-Err.is (w.result-is ∙ w.refused-in-Err.ensures)
     ]

@@ -1,0 +1,36 @@
+use Rattle.std.proofs.Common.{◌∙◌, ap, subst}
+use Rattle.etcd_model.specs.Store.{IsStore}
+use Rattle.txn_plan.specs.Planned.{IsTxn}
+use Rattle.tenant_machine.specs.Held.{MachineState}
+use Rattle.tenant_machine.proofs.DecidingOps.{does_as}
+use Rattle.tenant_machine.proofs.DecidingTxns.{IsTxnAnswer, adding_writes, changing_writes, is_txn, txn_planned_does, txn_refused_does, without_put_keeps}
+use Rattle.tenant_machine.proofs.machine.Machine.plan_txn.Goals.{In-Ok, in-Ok, in-Err}
+use Rattle.tenant_machine.proofs.machine.Machine.plan_txn.Goals as goal
+
+-- what is planned is the transaction
+planned_here : (c : In-Ok) → IsTxn c.args.self.now.store c.args.request.now c.in-Ok.planned
+planned_here c =
+    let says : IsTxnAnswer c.self.inside.store c.args.request.now c.in_ok-planned.field-0 = record { refusal = c.in_ok-planned.ensures.refusal; planned = c.in_ok-planned.ensures.planned } in
+    is_txn c.args.self.now c.self.inside.store c.args.request.now c.in_ok-planned.field-0 (ap (λ (m : MachineState). m.store) c.self.view_is) says c.in-Ok.planned c.in-Ok.is
+
+pub transaction-requires-clause-adds : goal.transaction-requires-clause-adds
+transaction-requires-clause-adds c = λ one. c.requires.revisions (adding_writes c.args.self.now.store c.args.request.now c.in-Ok.planned (planned_here c) one)
+
+pub transaction-requires-clause-writes : goal.transaction-requires-clause-writes
+transaction-requires-clause-writes c = λ some. c.requires.revisions (changing_writes c.args.self.now.store c.args.request.now c.in-Ok.planned (planned_here c) some)
+
+pub transaction-requires-clause-keeps : goal.transaction-requires-clause-keeps
+transaction-requires-clause-keeps c = λ none.
+    let sound : IsStore c.args.self.now.store.kept = subst (λ (m : MachineState). IsStore m.store.kept) c.self.view_is c.self.invariant.sound in
+    without_put_keeps c.args.self.now.store c.args.request.now c.in-Ok.planned (planned_here c) sound none
+
+pub returns-clause-does : goal.returns-clause-does
+returns-clause-does c =
+    let m = c.args.self.now in
+    let q = c.args.request.now in
+    let same = ap (λ (m : MachineState). m.store) c.self.view_is in
+    let says : IsTxnAnswer c.self.inside.store q c.in_ok-planned.field-0 = record { refusal = c.in_ok-planned.ensures.refusal; planned = c.in_ok-planned.ensures.planned } in
+    elim c.match-branch-2.branch [
+      | in-Ok w ↦ txn_planned_does m c.self.inside.store q c.in_ok-planned.field-0 same says w.in-Ok.planned c.match-branch-2.result w.in-Ok.is (does_as m _ _ _ w.result-is w.transaction.ensures.does)
+      | in-Err w ↦ txn_refused_does m c.self.inside.store q c.in_ok-planned.field-0 same says w.in-Err.refusal c.match-branch-2.result w.in-Err.is (w.result-is ∙ w.refused.ensures)
+    ]
