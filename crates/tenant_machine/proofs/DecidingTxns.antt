@@ -2,6 +2,7 @@
 use Rattle.std.proofs.Common.{◌≡◌, List, [], ◌∷◌, ◌++◌, Bool, true, false, refl, ap, sym, subst, ◌∙◌, inl, inr, if◌then◌else◌}
 use Rattle.std.specs.Prelude.{◌||◌, ◌&&◌, Some, None, Result, Ok, Err, IfOk, MatchResult, nat_lt}
 use Rattle.std.specs.List.{list_any}
+use Rattle.std.proofs.Math.Bool.{or-true}
 use Rattle.std.proofs.lemmas.Bool.{true≢false}
 use Rattle.std.proofs.lemmas.List.{append-nil}
 use Rattle.std.proofs.lemmas.List.Folds.{list_any-append}
@@ -57,12 +58,9 @@ branch_writes R q one = list_any-append writes_op q.success q.failure ∙ either
   where
     either : (b : Bool) → list_any writes_op (if b then q.success else q.failure) ≡ true → (list_any writes_op q.success || list_any writes_op q.failure) ≡ true
     either true one = ap (λ (b : Bool). b || list_any writes_op q.failure) one
-    either false one = ap (λ (b : Bool). list_any writes_op q.success || b) one ∙ or_true (list_any writes_op q.success)
-      where
-        or_true : (b : Bool) → (b || true) ≡ true
-        or_true true = refl
-        or_true false = refl
+    either false one = ap (λ (b : Bool). list_any writes_op q.success || b) one ∙ or-true (list_any writes_op q.success)
 
+-- a plan with no changes is empty
 no_changes : (store : StoreState) (plan : List Write) → changes_of store plan ≡ [] → is_empty plan ≡ true
 no_changes store [] none = refl
 no_changes store (w ∷ ws) none = absurd (cc)

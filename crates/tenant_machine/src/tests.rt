@@ -6,11 +6,13 @@ ghost use Rattle.std.specs.Prelude.{◌≡◌, ◌+◌, ◌≤◌};
 ghost use Rattle.cell_arena.specs.Table.{segments_for};
 
 mod alarm_rule;
+mod branches;
 mod scripts;
 mod told;
 
 use crate::{Machine, segments_for};
 use alarm_rule::{Case, OF_ANOTHER_MEMBER, OF_THIS_MEMBER};
+use branches::{branches_at_a_full_quota, branches_under_the_alarm};
 use cell_arena::Segments;
 use etcd_types::{AlarmKind, AlarmReq, CopyOf, Header, Mem, Reply, Step};
 use scripts::{
@@ -168,6 +170,28 @@ fn quota_is_exact(rt: HostRuntime) -> Mem<()> {
 fn alarm_stays_on_until_it_is_taken_off(rt: HostRuntime) -> Mem<()> {
     let alloc = rt.alloc();
     assert_told(&rt, alloc, opened(alloc, 8)?, quota_and_alarm(alloc)?)
+}
+
+#[test]
+fn alarm_refuses_a_put_in_either_branch(rt: HostRuntime) -> Mem<()> {
+    let alloc = rt.alloc();
+    assert_told(
+        &rt,
+        alloc,
+        opened(alloc, 64)?,
+        branches_under_the_alarm(alloc)?,
+    )
+}
+
+#[test]
+fn quota_is_asked_of_the_branch_taken(rt: HostRuntime) -> Mem<()> {
+    let alloc = rt.alloc();
+    assert_told(
+        &rt,
+        alloc,
+        opened(alloc, 4)?,
+        branches_at_a_full_quota(alloc)?,
+    )
 }
 
 #[test]

@@ -12,7 +12,7 @@ pub(super) struct Line {
     pub(super) told: &'static str,
 }
 
-fn answered(step: Step, told: &'static str) -> Line {
+pub(super) fn answered(step: Step, told: &'static str) -> Line {
     Line { step, told }
 }
 
@@ -24,7 +24,7 @@ pub(super) fn put_step(alloc: Global, key: &str, value: &[u8]) -> Mem<Step> {
     Ok(Step::Put(put_request(alloc, key, value)?))
 }
 
-fn put_request(alloc: Global, key: &str, value: &[u8]) -> Mem<PutReq> {
+pub(super) fn put_request(alloc: Global, key: &str, value: &[u8]) -> Mem<PutReq> {
     Ok(PutReq {
         key: List::from_slice(alloc, key.as_bytes())?,
         value: List::from_slice(alloc, value)?,
@@ -35,17 +35,20 @@ fn put_request(alloc: Global, key: &str, value: &[u8]) -> Mem<PutReq> {
     })
 }
 
-fn put(alloc: Global, told: &'static str) -> Mem<Line> {
+pub(super) fn put(alloc: Global, told: &'static str) -> Mem<Line> {
     Ok(answered(put_step(alloc, "foo", bar())?, told))
 }
 
-fn delete(alloc: Global, key: &str, told: &'static str) -> Mem<Line> {
-    let request = DeleteReq {
+pub(super) fn delete_request(alloc: Global, key: &str) -> Mem<DeleteReq> {
+    Ok(DeleteReq {
         key: List::from_slice(alloc, key.as_bytes())?,
         range_end: List::new(alloc),
         prev_kv: false,
-    };
-    Ok(answered(Step::Delete(request), told))
+    })
+}
+
+fn delete(alloc: Global, key: &str, told: &'static str) -> Mem<Line> {
+    Ok(answered(Step::Delete(delete_request(alloc, key)?), told))
 }
 
 fn range_at(alloc: Global, revision: i64, told: &'static str) -> Mem<Line> {
@@ -71,7 +74,7 @@ fn compact(revision: i64, told: &'static str) -> Line {
     answered(Step::Compact(revision), told)
 }
 
-fn status(told: &'static str) -> Line {
+pub(super) fn status(told: &'static str) -> Line {
     answered(Step::Status, told)
 }
 
@@ -88,7 +91,7 @@ pub(super) fn activate(alarm: AlarmKind) -> AlarmReq {
     alarm_request(AlarmAction::Activate, alarm)
 }
 
-fn alarm(action: AlarmAction, alarm: AlarmKind, told: &'static str) -> Line {
+pub(super) fn alarm(action: AlarmAction, alarm: AlarmKind, told: &'static str) -> Line {
     answered(Step::Alarm(alarm_request(action, alarm)), told)
 }
 

@@ -2,8 +2,8 @@
 use etcd_types::{Header, Mem, Reply};
 use std::alloc::Global;
 
-/// The revision, and then what the answer says: how many keys, whether the alarm is listed, or the bytes of the quota
-/// and those in use. A refusal is its name.
+/// The revision, and then what the answer says: how many keys, which branch is taken and how many answers it has, whether
+/// the alarm is listed, or the bytes of the quota and those in use. A refusal is its name.
 pub(super) fn text_of(alloc: Global, reply: &Reply) -> Mem<String> {
     match reply {
         Reply::Range { header, count, .. } => numbered(alloc, header, *count),
@@ -13,6 +13,11 @@ pub(super) fn text_of(alloc: Global, reply: &Reply) -> Mem<String> {
             deleted,
             ..
         } => numbered(alloc, header, *deleted),
+        Reply::Txn {
+            header,
+            succeeded,
+            responses,
+        } => branch(alloc, header, *succeeded, responses.as_slice().len()),
         Reply::Compacted(header) => revision(alloc, header),
         Reply::Alarms { header, no_space } => alarms(alloc, header, *no_space),
         Reply::Status {
@@ -34,6 +39,12 @@ fn revision(alloc: Global, header: &Header) -> Mem<String> {
 fn numbered(alloc: Global, header: &Header, count: u64) -> Mem<String> {
     let revision = header.revision;
     format!(in alloc; "{revision}: {count}")
+}
+
+fn branch(alloc: Global, header: &Header, succeeded: bool, answers: usize) -> Mem<String> {
+    let revision = header.revision;
+    let taken = if succeeded { "success" } else { "failure" };
+    format!(in alloc; "{revision}: {taken} {answers}")
 }
 
 fn alarms(alloc: Global, header: &Header, no_space: bool) -> Mem<String> {
