@@ -1,6 +1,6 @@
 -- Chains over writes.
 use Rattle.std.proofs.Common.{◌≡◌, ◌≢◌, ℕ, zero, suc, true, false, ◌+◌, ◌-◌, ◌^◌, ◌<◌, List, ◌++◌, length, Option, Some, None, refl, sym, ap, ◌∙◌, inl, inr, arith, subst, ◌⊎◌}
-use Rattle.std.proofs.lemmas.Bool.{cases_eq}
+use Rattle.std.proofs.lemmas.Bool.{cases_eq, true≢false}
 use Rattle.cell_arena.specs.declared.cell.Cell.{Cell}
 use Rattle.cell_arena.specs.declared.cell.Cell.TheVariants.{Free, Head, Rest}
 use Rattle.cell_arena.specs.declared.cell.HeadCell.{HeadCell}
@@ -12,12 +12,9 @@ pub bytes_next : (at : ℕ → Cell) (m n : ℕ) (link next : Option ℕ) (bytes
 bytes_next at m n link next bytes is read =
     ap (chain_bytes at (suc m)) is ∙ ap (λ (c : Cell). bytes_of c ++ chain_bytes at m (link_of c)) read
 
-not_rest : (at : ℕ → Cell) (k : ℕ) → is_rest (at k) ≡ false → is_rest (at k) ≡ true → ⊥
-not_rest at k isnt is = cc
-
 -- a cell that is no Rest is linked by none
 pub unlinked : (at : ℕ → Cell) (k : ℕ) → IsLinked at → is_rest (at k) ≡ false → IsUnlinked at k
-unlinked at k linked isnt i names = not_rest at k isnt (linked.rests i k names)
+unlinked at k linked isnt i names = true≢false (sym (linked.rests i k names) ∙ isnt)
 
 -- a write of an unlinked cell leaves each chain that doesn't begin there
 pub chain_kept : (old new : ℕ → Cell) (k : ℕ) (cell : Cell) → Writes old new k cell → IsUnlinked old k → (m : ℕ) (link : Option ℕ) → link ≢ Some k → IsChain old m link → IsChain new m link × (chain_bytes new m link ≡ chain_bytes old m link)

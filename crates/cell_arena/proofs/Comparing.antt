@@ -1,7 +1,6 @@
 -- Byte order of a text in pieces.
 use Rattle.std.proofs.Common.{◌≡◌, ◌≢◌, ℕ, ◌+◌, ◌-◌, ◌*◌, ◌<◌, ◌≤◌, min, List, [], ◌∷◌, ◌++◌, length, take, drop, refl, sym, ap, ◌∙◌, inl, inr, ◌⊎◌, arith}
-use Rattle.std.proofs.lemmas.Bool.{cases_lt}
-use Rattle.std.proofs.lemmas.List.{length-take, length-drop, take_min, take_rest, drop_all}
+use Rattle.std.proofs.lemmas.List.{length-take, length-drop, take_min, drop_min, take_rest}
 use Rattle.std.specs.Ordering.{nat_cmp, ordering_then}
 use Rattle.std.specs.Cmp.{nat_cmp_is}
 use Rattle.std.specs.Cmp.Lexicographic.{slice_cmp}
@@ -26,13 +25,6 @@ cmp_append (x ∷ xs) ys [] = refl
 cmp_append (x ∷ xs) ys (y ∷ text) =
     ap (ordering_then (nat_cmp x y)) (cmp_append xs ys text)
     ∙ sym (then_assoc (nat_cmp x y) (slice_cmp nat_cmp xs (take (length xs) text)) (slice_cmp nat_cmp ys (drop (length xs) text)))
-
-drop_min : (n : ℕ) (text : List ℕ) → drop (min n (length text)) text ≡ drop n text
-drop_min n text =
-    elim (cases_lt n (length text)) [
-      | inl less ↦ let e : min n (length text) ≡ n = omega arith in ap (λ k. drop k text) e
-      | inr past ↦ drop_all (min n (length text)) text (omega arith) ∙ sym (drop_all n text past)
-    ]
 
 -- the part that is left, by its first piece and the rest
 part_cut : (chain piece rest text : List ℕ) (skip left n m : ℕ) → chain ≡ piece ++ rest → length piece ≡ 48 → skip < 48 → n ≡ min left (48 - skip) → m ≡ min n (length text) → slice_cmp nat_cmp (take left (drop skip chain)) text ≡ ordering_then (slice_cmp nat_cmp (take n (drop skip piece)) (take m text)) (slice_cmp nat_cmp (take (left - n) rest) (drop m text))

@@ -4,27 +4,15 @@ use Rattle.std.proofs.lemmas.List.{append-nil, append_assoc, length-take, length
 use Rattle.std.proofs.lemmas.Bool.{cases_lt}
 
 pub take_both : (n : ℕ) (xs ys : List ℕ) → take n (xs ++ ys) ≡ take n xs ++ take (n - length xs) ys
-take_both zero xs ys = ap (λ k. take k ys) (sym none)
-  where
-    none : zero - length xs ≡ 0
-    none = omega arith
-take_both (suc n) [] ys = ap (λ k. take k ys) (sym whole)
-  where
-    whole : suc n - zero ≡ suc n
-    whole = omega arith
+take_both zero xs ys = let none : 0 ≡ zero - length xs = omega arith in ap (λ k. take k ys) none
+take_both (suc n) [] ys = let whole : suc n ≡ suc n - zero = omega arith in ap (λ k. take k ys) whole
 take_both (suc n) (x ∷ xs) ys =
     let less : suc n - suc (length xs) ≡ n - length xs = omega arith in
     ap (λ zs. x ∷ zs) (take_both n xs ys) ∙ ap (λ k. x ∷ (take n xs ++ take k ys)) (sym less)
 
 pub drop_both : (n : ℕ) (xs ys : List ℕ) → drop n (xs ++ ys) ≡ drop n xs ++ drop (n - length xs) ys
-drop_both zero xs ys = ap (λ k. xs ++ drop k ys) (sym none)
-  where
-    none : zero - length xs ≡ 0
-    none = omega arith
-drop_both (suc n) [] ys = ap (λ k. drop k ys) (sym whole)
-  where
-    whole : suc n - zero ≡ suc n
-    whole = omega arith
+drop_both zero xs ys = let none : 0 ≡ zero - length xs = omega arith in ap (λ k. xs ++ drop k ys) none
+drop_both (suc n) [] ys = let whole : suc n ≡ suc n - zero = omega arith in ap (λ k. drop k ys) whole
 drop_both (suc n) (x ∷ xs) ys =
     let less : suc n - suc (length xs) ≡ n - length xs = omega arith in
     drop_both n xs ys ∙ ap (λ k. drop n xs ++ drop k ys) (sym less)

@@ -2,7 +2,7 @@
 use Rattle.std.proofs.Common.{◌≡◌, ◌≢◌, ℕ, zero, suc, Bool, true, false, ◌+◌, ◌-◌, ◌<◌, ◌≤◌, List, [], ◌∷◌, ◌++◌, length, get_or, set, take, Option, Some, None, count_by, cond, refl, sym, ap, ◌∙◌, inl, inr, arith, add-one, subst}
 use Rattle.std.proofs.lemmas.List.{take_more_set, take_all, length_push, get_or_push, get_or_append_left, get_or-set_same, get_or-set_other, length-set, get_or_past, get_or_default}
 use Rattle.std.proofs.lemmas.List.Sums.{sum_by-set, sum_by-cons, sum_by_push, count_by-le-length}
-use Rattle.std.proofs.lemmas.Bool.{cases_lt, cases_eq}
+use Rattle.std.proofs.lemmas.Bool.{cases_lt, cases_eq, true≢false}
 use Rattle.cell_arena.specs.declared.cell.Cell.{Cell}
 use Rattle.cell_arena.specs.declared.cell.Cell.TheVariants.{Free, Head, Rest}
 use Rattle.std.specs.Vec.{with_item}
@@ -33,11 +33,8 @@ kept_before old new bound k n cell written long (suc m) link less p =
 pub kept_used : (old new : ℕ → Cell) (bound k : ℕ) (cell : Cell) → Writes old new k cell → is_free (old k) ≡ false → (m : ℕ) (link : Option ℕ) → IsFreeList old bound m link → IsFreeList new bound m link
 kept_used old new bound k cell written used zero link p = p
 kept_used old new bound k cell written used (suc m) link p =
-    let other : p.0 ≢ k = λ same. true_not_false (sym (ap is_free p.4) ∙ ap (λ i. is_free (old i)) same ∙ used) in
+    let other : p.0 ≢ k = λ same. true≢false (sym (ap is_free p.4) ∙ ap (λ i. is_free (old i)) same ∙ used) in
     (p.0, p.1, p.2, p.3, written.others p.0 other ∙ p.4, kept_used old new bound k cell written used m p.1 p.5)
-  where
-    true_not_false : true ≡ false → ⊥
-    true_not_false e = cc
 
 -- a cell that is not free is within
 pub within : (cells : List Cell) (k : ℕ) → is_free (cell_at cells k) ≡ false → k < length cells

@@ -99,14 +99,26 @@ length-chain_bytes at zero link p = refl
 length-chain_bytes at (suc m) link p =
     ap length (bytes_next at m p.0 link p.2 p.1 p.3 p.4) ∙ length-append p.1 (chain_bytes at m p.2) ∙ omega (arith, p.5, length-chain_bytes at m p.2 p.6)
 
+-- a head's chain has all of its cells
+pub head_size : (at : ℕ → Cell) (k : ℕ) (kind : Kind) (head : HeadCell) → IsLinked at → at k ≡ Head kind head → length (chain_bytes at (head_pieces head) head.first) ≡ head_pieces head * 48
+head_size at k kind head linked read = length-chain_bytes at (head_pieces head) head.first (linked.heads k kind head read)
+
+-- so a key is as long as its head says
+pub key_size : (at : ℕ → Cell) (k : ℕ) (kind : Kind) (head : HeadCell) → IsLinked at → at k ≡ Head kind head → length (take head.key_len (chain_bytes at (head_pieces head) head.first)) ≡ head.key_len
+key_size at k kind head linked read = length-take head.key_len (chain_bytes at (head_pieces head) head.first) ∙ omega (arith, head_size at k kind head linked read)
+
+-- and so is a value
+pub value_size : (at : ℕ → Cell) (k : ℕ) (kind : Kind) (head : HeadCell) → IsLinked at → at k ≡ Head kind head
+    → length (take head.value_len (drop head.key_len (chain_bytes at (head_pieces head) head.first))) ≡ head.value_len
+value_size at k kind head linked read =
+    let bytes = chain_bytes at (head_pieces head) head.first in
+    length-take head.value_len (drop head.key_len bytes) ∙ omega (arith, head_size at k kind head linked read, length-drop head.key_len bytes)
+
 -- a record costs its cells
 pub cost_is : (at : ℕ → Cell) (k : ℕ) (kind : Kind) (head : HeadCell) → IsLinked at → at k ≡ Head kind head → cost (record_with kind head (chain_bytes at (head_pieces head) head.first)) ≡ 1 + head_pieces head
 cost_is at k kind head linked read =
     let bytes = chain_bytes at (head_pieces head) head.first in
-    let size : length bytes ≡ head_pieces head * 48 = length-chain_bytes at (head_pieces head) head.first (linked.heads k kind head read) in
-    let a : length (take head.key_len bytes) ≡ head.key_len = length-take head.key_len bytes ∙ omega arith in
-    let b : length (take head.value_len (drop head.key_len bytes)) ≡ head.value_len = length-take head.value_len (drop head.key_len bytes) ∙ omega (arith, length-drop head.key_len bytes) in
-    ap (λ n. 1 + (n + length (take head.value_len (drop head.key_len bytes)) + 47) / 48) a ∙ ap (λ n. 1 + (head.key_len + n + 47) / 48) b
+    ap (λ n. 1 + (n + length (take head.value_len (drop head.key_len bytes)) + 47) / 48) (key_size at k kind head linked read) ∙ ap (λ n. 1 + (head.key_len + n + 47) / 48) (value_size at k kind head linked read)
 
 is_head_from : (at : ℕ → Cell) (c : Cell) → IsSome (record_of at c) → is_head c ≡ true
 is_head_from at (Free next) some = absurd (cc)
@@ -183,21 +195,6 @@ used_fits t table = omega (arith, table.used, table.drawn)
 
 pub some_at : (at : ℕ → Cell) (k : ℕ) (kind : Kind) (head : HeadCell) (P : Record → Type 0) → at k ≡ Head kind head → IfSome (record_at at k) P → P (record_with kind head (chain_bytes at (head_pieces head) head.first))
 some_at at k kind head P read p = subst (λ c. IfSome (record_of at c) P) read p
-
--- a key is as long as its head says
-pub key_size : (at : ℕ → Cell) (k : ℕ) (kind : Kind) (head : HeadCell) → IsLinked at → at k ≡ Head kind head → length (take head.key_len (chain_bytes at (head_pieces head) head.first)) ≡ head.key_len
-key_size at k kind head linked read =
-    let bytes = chain_bytes at (head_pieces head) head.first in
-    let size : length bytes ≡ head_pieces head * 48 = length-chain_bytes at (head_pieces head) head.first (linked.heads k kind head read) in
-    length-take head.key_len bytes ∙ omega arith
-
--- and so is a value
-pub value_size : (at : ℕ → Cell) (k : ℕ) (kind : Kind) (head : HeadCell) → IsLinked at → at k ≡ Head kind head
-    → length (take head.value_len (drop head.key_len (chain_bytes at (head_pieces head) head.first))) ≡ head.value_len
-value_size at k kind head linked read =
-    let bytes = chain_bytes at (head_pieces head) head.first in
-    let size : length bytes ≡ head_pieces head * 48 = length-chain_bytes at (head_pieces head) head.first (linked.heads k kind head read) in
-    length-take head.value_len (drop head.key_len bytes) ∙ omega (arith, size, length-drop head.key_len bytes)
 
 -- the other way: what holds of a record that is seen
 pub if_seen : (t : Table) (seen : Held) (k : ℕ) (P Q : Record → Type 0) → held_of t ≡ seen → ((r : Record) → P r → Q r) → IfSome (get seen.records k) P → IfSome (record_at (table_at t) k) Q

@@ -1,6 +1,7 @@
 -- A chain while it is filled, from its last cell on.
 use Rattle.std.proofs.Common.{◌≡◌, ◌≢◌, ℕ, zero, suc, true, false, ◌+◌, ◌-◌, ◌*◌, ◌/◌, ◌<◌, ◌≤◌, ◌^◌, List, ◌++◌, length, take, drop, Option, Some, None, refl, sym, ap, ◌∙◌, inl, inr, arith, subst}
-use Rattle.std.proofs.lemmas.Bool.{cases_eq}
+use Rattle.std.proofs.lemmas.Bool.{cases_eq, true≢false}
+use Rattle.std.proofs.lemmas.Option.{same_Some}
 use Rattle.std.proofs.lemmas.List.{length-append, take-take, drop-take, take_at, drop_at, drop_all}
 use Rattle.cell_arena.specs.declared.cell.Cell.{Cell}
 use Rattle.cell_arena.specs.declared.cell.Cell.TheVariants.{Free, Head, Rest}
@@ -25,6 +26,10 @@ free_no_rest (Free next) e = refl
 free_no_rest (Head kind head) e = refl
 free_no_rest (Rest bytes next) e = absurd (cc)
 
+-- so it begins with no free cell
+pub begins_not_free : (at : ℕ → Cell) (m : ℕ) (link : Option ℕ) (k : ℕ) → IsChain at m link → is_free (at k) ≡ true → link ≢ Some k
+begins_not_free at m link k chain free same = true≢false (sym (begins at m link k chain same) ∙ free_no_rest (at k) free)
+
 -- a free cell stands for nothing
 pub free_is_none : (at : ℕ → Cell) (c : Cell) → is_free c ≡ true → record_of at c ≡ None
 free_is_none at (Free next) e = refl
@@ -38,14 +43,11 @@ free_unlinked at k linked was = unlinked at k linked (free_no_rest (at k) was)
 pub may_store : (at : ℕ → Cell) (k m : ℕ) (cell : Cell) → is_free (at k) ≡ true → IsChain at m (link_of cell) → IsLoose at (link_of cell) → ((kind : Kind) (head : HeadCell) → cell ≡ Head kind head → (head_pieces head ≡ m) × (head.key_len + head.value_len < 2 ^ 31)) → MayWrite at k cell
 may_store at k m cell was chain loose head = record {
   rest = λ n names. begins at m (link_of cell) n chain names;
-  apart = λ same. not_both (ap is_rest refl ∙ begins at m (link_of cell) k chain same) (free_no_rest (at k) was);
+  apart = begins_not_free at m (link_of cell) k chain was;
   alone = λ n i names other there. loose n names i there;
   short = λ q h is. (head q h is).1;
   chain = λ q h is. subst (λ n. IsChain at n h.first) (sym (head q h is).0) (subst (λ l. IsChain at m l) (ap link_of is) chain);
 }
-  where
-    not_both : is_rest (at k) ≡ true → is_rest (at k) ≡ false → ⊥
-    not_both a b = cc
 
 -- one more cell is filled
 pub stored_more : (old now then' : Table) (left : ℕ) (link : Option ℕ) (count k : ℕ) (piece text : List ℕ) → 0 < left → IsStoring old now left link count text → length piece ≡ 48 → take (length text - (left - 1) * 48) piece ≡ take 48 (drop ((left - 1) * 48) text) → is_free (table_at now k) ≡ true → Writes (table_at now) (table_at then') k (Rest piece link) → IsTable then' → then'.used ≡ now.used + 1 → then'.reserved ≡ now.reserved → length then'.slots.items ≡ length now.slots.items → IsStoring old then' (left - 1) (Some k) count text
@@ -66,7 +68,7 @@ stored_more old now then' left link count k piece text some was size holds free 
       table = table;
       linked = linked_written at new k cell written was.linked loose may;
       chain = subst (λ n. IsChain new n (Some k)) more chain;
-      loose = λ n is. subst (λ j. IsUnlinked new j) (same n is) (unlinked_still at new k cell written was.linked loose may);
+      loose = λ n is. subst (λ j. IsUnlinked new j) (same_Some k n is) (unlinked_still at new k cell written was.linked loose may);
       used = omega (arith, was.used, more_used);
       holds = subst (λ n. take (length text - (left - 1) * 48) (chain_bytes new n (Some k)) ≡ drop ((left - 1) * 48) text) more
           (ap (take (length text - (left - 1) * 48)) (bytes_next new (count - left) k (Some k) link piece refl written.here)
@@ -76,9 +78,6 @@ stored_more old now then' left link count k piece text some was size holds free 
       size = long ∙ was.size;
     }
   where
-    same : (n : ℕ) → Some k ≡ Some n → k ≡ n
-    same n e = cc
-
     same_stored : SameRecords (table_at now) (table_at then')
     same_stored q =
         elim (cases_eq q k) [
@@ -106,16 +105,13 @@ value_of bytes key value holds =
 pub head_stands : (old new : ℕ → Cell) (k : ℕ) (kind : Kind) (head : HeadCell) (key value : List ℕ) → Writes old new k (Head kind head) → IsLinked old → is_free (old k) ≡ true → IsChain old (head_pieces head) head.first → IsLoose old head.first → head.key_len ≡ length key → head.value_len ≡ length value → take (length (key ++ value)) (chain_bytes old (head_pieces head) head.first) ≡ key ++ value → record_at new k ≡ Some (record { kind = kind; fields = head.fields; key = key; value = value; older = head.older })
 head_stands old new k kind head key value written linked was chain loose long_key long_value holds =
     let free = free_unlinked old k linked was in
-    let apart : head.first ≢ Some k = λ same. not_both (begins old (head_pieces head) head.first k chain same) (free_no_rest (old k) was) in
+    let apart = begins_not_free old (head_pieces head) head.first k chain was in
     let kept = chain_kept old new k (Head kind head) written free (head_pieces head) head.first apart chain in
     let bytes = chain_bytes old (head_pieces head) head.first in
     let a : take head.key_len bytes ≡ key = ap (λ n. take n bytes) long_key ∙ key_of bytes key value holds in
     let b : take head.value_len (drop head.key_len bytes) ≡ value = ap (λ n. take n (drop head.key_len bytes)) long_value ∙ ap (λ n. take (length value) (drop n bytes)) long_key ∙ value_of bytes key value holds in
     ap (record_of new) written.here ∙ ap (λ bs. Some (record_with kind head bs)) kept.1 ∙ with_parts a b
   where
-    not_both : is_rest (old k) ≡ true → is_rest (old k) ≡ false → ⊥
-    not_both a b = cc
-
     with_parts : {x y : List ℕ} → x ≡ key → y ≡ value → ◌≡◌ {A = Option Record} (Some (record { kind = kind; fields = head.fields; key = x; value = y; older = head.older })) (Some (record { kind = kind; fields = head.fields; key = key; value = value; older = head.older }))
     with_parts a b = λ i. Some (record { kind = kind; fields = head.fields; key = a i; value = b i; older = head.older })
 

@@ -12,8 +12,8 @@ use Rattle.cell_arena.specs.declared.table.Table.{Table}
 use Rattle.cell_arena.specs.Chain.{is_free, cell_at, slot_at, Writes, IsListed, IsFreeList}
 use Rattle.cell_arena.proofs.FreeList.{within, read_is, others_free}
 use Rattle.cell_arena.specs.Order.{IsOrder, count_of, place_of, swapped}
-use Rattle.cell_arena.specs.Table.{hidden, slot_cells, at_slots, table_at, free_of, used_of, busy_of, IsTable}
-use Rattle.cell_arena.proofs.Zones.{swapped_cases, place_other, parts, at_set, at_is, hidden_used, hidden_free, free_hidden, table_changed}
+use Rattle.cell_arena.specs.Table.{hidden, slot_cells, at_slots, table_at, free_of, used_of, busy_of, IsSlot, IsTable}
+use Rattle.cell_arena.proofs.Zones.{swapped_cases, swapped_first, place_other, parts, at_set, at_is, hidden_used, hidden_free, free_hidden, table_changed}
 
 -- the first ready slot has one free cell fewer, and still some
 pub put_kept : (t : Table) (s : ℕ) (old new : Slot) → IsTable t → 0 < t.ready → s < length t.slots.items → place_of t.order s ≡ 0 → get_or t.slots.items s old ≡ old → IsListed new → new.free + 1 ≡ old.free → length new.cells.items ≡ length old.cells.items → 0 < new.free → IsTable (record { slots = with_item t.slots s new; order = t.order; ready = t.ready; drawn = t.drawn; reserved = t.reserved; used = t.used + 1; alloc = t.alloc })
@@ -204,6 +204,13 @@ some_used t s c was less read in_use =
     let slot = was.slots s c less read in
     omega (arith, was.held, get_or-le-sum_by used_of t.slots.items s c less, ap used_of read, slot.whole in_use, slot.used in_use)
 
+-- a slot with a free cell is ready
+ready_place : (ready drawn place : ℕ) (c : Slot) → IsSlot ready drawn place c → 0 < c.free → place < ready
+ready_place ready drawn place c slot some = elim (cases_lt place ready) [
+  | inl low ↦ low
+  | inr past ↦ absurd (omega (arith, some, slot.full past))
+]
+
 -- one more free cell in a slot that had some
 pub free_kept : (t : Table) (s p : ℕ) (old new : Slot) → IsTable t → p < 64 → is_free (table_at t (s * 64 + p)) ≡ false → get_or t.slots.items s old ≡ old → old.free ≢ 63 → IsListed new → new.free ≡ old.free + 1 → length new.cells.items ≡ length old.cells.items → new.free ≢ 1 → IsTable (record { slots = with_item t.slots s new; order = t.order; ready = t.ready; drawn = t.drawn; reserved = t.reserved; used = t.used - 1; alloc = t.alloc })
 free_kept t s p old new was small used read not_last listed more size not_first =
@@ -212,7 +219,7 @@ free_kept t s p old new was small used read not_last listed more size not_first 
     let in_use = used_drawn t s p old was small used read in
     let had = slot.used in_use in
     let whole = slot.whole in_use in
-    let some : place_of t.order s < t.ready = by_zone (cases_lt (place_of t.order s) t.ready) (λ h. slot.full h) in
+    let some = ready_place t.ready t.drawn (place_of t.order s) old slot (omega (arith, more, not_first)) in
     let total : 0 < t.used = some_used t s old was less read in_use in
     table_changed t s old new t.order t.ready t.drawn (t.used - 1) was less read was.order refl was.ready was.drawn
     (record {
@@ -225,10 +232,6 @@ free_kept t s p old new was small used read not_last listed more size not_first 
     })
     (record { a = λ q l n h. h; b = λ q l n h. h; d = λ q l n h. h; e = λ q l n h. h })
     (omega (arith, had, whole, size)) (omega arith) (omega (arith, had, whole, size))
-  where
-    by_zone : (place_of t.order s < t.ready) ⊎ (t.ready ≤ place_of t.order s) → (t.ready ≤ place_of t.order s → old.free ≡ 0) → place_of t.order s < t.ready
-    by_zone (inl h) full = h
-    by_zone (inr h) full = absurd (not_first (omega (arith, full h)))
 
 -- the first free cell of a full slot
 pub free_opened : (t : Table) (s p : ℕ) (old new : Slot) (o : Order) → IsTable t → p < 64 → is_free (table_at t (s * 64 + p)) ≡ false → get_or t.slots.items s old ≡ old → IsListed new → new.free ≡ old.free + 1 → length new.cells.items ≡ length old.cells.items → new.free ≡ 1 → IsOrder o → count_of o ≡ count_of t.order → ((q : ℕ) → q < count_of t.order → place_of o q ≡ swapped (place_of t.order s) t.ready (place_of t.order q)) → IsTable (record { slots = with_item t.slots s new; order = o; ready = t.ready + 1; drawn = t.drawn; reserved = t.reserved; used = t.used - 1; alloc = t.alloc })
@@ -238,7 +241,7 @@ free_opened t s p old new o was small used read listed more size first order cou
     let in_use = used_drawn t s p old was small used read in
     let total : 0 < t.used = some_used t s old was less read in_use in
     let full : t.ready ≤ place_of t.order s = by_zone (cases_lt (place_of t.order s) t.ready) (λ h. slot.spare h) in
-    let goes : place_of o s ≡ t.ready = places s (omega (arith, was.size)) ∙ there (place_of t.order s) t.ready in
+    let goes : place_of o s ≡ t.ready = places s (omega (arith, was.size)) ∙ swapped_first (place_of t.order s) t.ready in
     table_changed t s old new o (t.ready + 1) t.drawn (t.used - 1) was less read order count (omega arith) was.drawn
     (record {
       listed = listed;
@@ -256,13 +259,6 @@ free_opened t s p old new o was small used read listed more size first order cou
     })
     (omega (arith, slot.whole in_use, size)) (omega arith) (omega (arith, slot.whole in_use, size))
   where
-    there : (i j : ℕ) → swapped i j i ≡ j
-    there i j = elim (swapped_cases i j i) [
-      | inl first ↦ first.1
-      | inr (inl second) ↦ absurd (second.0 refl)
-      | inr (inr neither) ↦ absurd (neither.0 refl)
-    ]
-
     by_zone : (place_of t.order s < t.ready) ⊎ (t.ready ≤ place_of t.order s) → (place_of t.order s < t.ready → 0 < old.free) → t.ready ≤ place_of t.order s
     by_zone (inl h) spare = absurd (omega (arith, spare h))
     by_zone (inr h) spare = h
@@ -278,10 +274,10 @@ free_opened t s p old new o was small used read listed more size first order cou
         ]
 
 -- a swap from the place that was read
-pub place_read : (t : Table) (s at : ℕ) (o : Order) → IsTable t → s < length t.slots.items → at ≡ get_or t.order.place.items s at → ((q : ℕ) → q < count_of t.order → place_of o q ≡ swapped at t.ready (place_of t.order q)) → (q : ℕ) → q < count_of t.order → place_of o q ≡ swapped (place_of t.order s) t.ready (place_of t.order q)
-place_read t s at o was less read places q within =
+pub place_read : (t : Table) (s at to : ℕ) (o : Order) → IsTable t → s < length t.slots.items → at ≡ get_or t.order.place.items s at → ((q : ℕ) → q < count_of t.order → place_of o q ≡ swapped at to (place_of t.order q)) → (q : ℕ) → q < count_of t.order → place_of o q ≡ swapped (place_of t.order s) to (place_of t.order q)
+place_read t s at to o was less read places q within =
     let is : at ≡ place_of t.order s = read ∙ get_or_default t.order.place.items s at 0 (omega (arith, was.order.size, was.size)) in
-    places q within ∙ ap (λ i. swapped i t.ready (place_of t.order q)) is
+    places q within ∙ ap (λ i. swapped i to (place_of t.order q)) is
 
 -- a place that moves twice
 moved : (at p m p' ready drawn : ℕ) → at < ready → ready ≤ drawn → p ≢ at → m ≡ swapped at (ready - 1) p → p' ≡ swapped (ready - 1) (drawn - 1) m → (p' < ready - 1 → p < ready) × (ready - 1 ≤ p' → ready ≤ p) × (p' < drawn - 1 → p < drawn) × (drawn - 1 ≤ p' → drawn ≤ p)
@@ -323,11 +319,7 @@ emptied_written t s p old new was small used read last bare =
 
 pub emptied_ready : (t : Table) (s p : ℕ) (old : Slot) → IsTable t → p < 64 → is_free (table_at t (s * 64 + p)) ≡ false → get_or t.slots.items s old ≡ old → old.free ≡ 63 → place_of t.order s < t.ready
 emptied_ready t s p old was small used read last =
-    by_zone (cases_lt (place_of t.order s) t.ready) (λ h. (was.slots s old (used_within t s p small used) read).full h)
-  where
-    by_zone : (place_of t.order s < t.ready) ⊎ (t.ready ≤ place_of t.order s) → (t.ready ≤ place_of t.order s → old.free ≡ 0) → place_of t.order s < t.ready
-    by_zone (inl h) full = h
-    by_zone (inr h) full = absurd (omega (arith, full h, last))
+    ready_place t.ready t.drawn (place_of t.order s) old (was.slots s old (used_within t s p small used) read) (omega (arith, last))
 
 pub emptied : (t : Table) (s p : ℕ) (old new : Slot) (mid o : Order) → IsTable t → p < 64 → is_free (table_at t (s * 64 + p)) ≡ false → get_or t.slots.items s old ≡ old → old.free ≡ 63 → IsListed new → length new.cells.items ≡ 0 → new.free ≡ 0 → count_of mid ≡ count_of t.order → ((q : ℕ) → q < count_of t.order → place_of mid q ≡ swapped (place_of t.order s) (t.ready - 1) (place_of t.order q)) → IsOrder o → count_of o ≡ count_of mid → ((q : ℕ) → q < count_of mid → place_of o q ≡ swapped (t.ready - 1) (t.drawn - 1) (place_of mid q)) → IsTable (record { slots = with_item t.slots s new; order = o; ready = t.ready - 1; drawn = t.drawn - 1; reserved = t.reserved; used = t.used - 1; alloc = t.alloc })
 emptied t s p old new mid o was small used read last listed bare none count_mid places_mid order count places =
@@ -337,7 +329,7 @@ emptied t s p old new mid o was small used read last listed bare none count_mid 
     let whole = slot.whole in_use in
     let some : 0 < t.used = some_used t s old was less read in_use in
     let at = emptied_ready t s p old was small used read last in
-    let goes : place_of o s ≡ t.drawn - 1 = places s (omega (arith, count_mid, was.size)) ∙ ap (swapped (t.ready - 1) (t.drawn - 1)) (places_mid s (omega (arith, was.size)) ∙ first_to (place_of t.order s) (t.ready - 1)) ∙ first_to (t.ready - 1) (t.drawn - 1) in
+    let goes : place_of o s ≡ t.drawn - 1 = places s (omega (arith, count_mid, was.size)) ∙ ap (swapped (t.ready - 1) (t.drawn - 1)) (places_mid s (omega (arith, was.size)) ∙ swapped_first (place_of t.order s) (t.ready - 1)) ∙ swapped_first (t.ready - 1) (t.drawn - 1) in
     table_changed t s old new o (t.ready - 1) (t.drawn - 1) (t.used - 1) was less read order (count ∙ count_mid) (omega (arith, was.ready)) (omega (arith, was.drawn))
     (record {
       listed = listed;
@@ -355,25 +347,12 @@ emptied t s p old new mid o was small used read last listed bare none count_mid 
     })
     (omega (arith, whole, bare, none, last)) (omega (arith, none, last)) (omega (arith, whole, bare, none, last, at, was.ready))
   where
-    first_to : (i j : ℕ) → swapped i j i ≡ j
-    first_to i j = elim (swapped_cases i j i) [
-      | inl first ↦ first.1
-      | inr (inl second) ↦ absurd (second.0 refl)
-      | inr (inr neither) ↦ absurd (neither.0 refl)
-    ]
-
     zone : place_of t.order s < t.ready → s < length t.slots.items → (q : ℕ) → q < length t.slots.items → q ≢ s → (place_of o q < t.ready - 1 → place_of t.order q < t.ready) × (t.ready - 1 ≤ place_of o q → t.ready ≤ place_of t.order q) × (place_of o q < t.drawn - 1 → place_of t.order q < t.drawn) × (t.drawn - 1 ≤ place_of o q → t.drawn ≤ place_of t.order q)
     zone at less q l n =
         let apart : place_of t.order q ≢ place_of t.order s = place_other t.order q s was.order (omega (arith, was.size)) (omega (arith, was.size)) n in
         let via : place_of mid q ≡ swapped (place_of t.order s) (t.ready - 1) (place_of t.order q) = places_mid q (omega (arith, was.size)) in
         let to : place_of o q ≡ swapped (t.ready - 1) (t.drawn - 1) (place_of mid q) = places q (omega (arith, count_mid, was.size)) in
         moved (place_of t.order s) (place_of t.order q) (place_of mid q) (place_of o q) t.ready t.drawn at was.ready apart via to
-
--- the first of two moves, from the place that was read
-pub mid_read : (t : Table) (s at : ℕ) (o : Order) → IsTable t → s < length t.slots.items → at ≡ get_or t.order.place.items s at → ((q : ℕ) → q < count_of t.order → place_of o q ≡ swapped at (t.ready - 1) (place_of t.order q)) → (q : ℕ) → q < count_of t.order → place_of o q ≡ swapped (place_of t.order s) (t.ready - 1) (place_of t.order q)
-mid_read t s at o was less read places q within =
-    let is : at ≡ place_of t.order s = read ∙ get_or_default t.order.place.items s at 0 (omega (arith, was.order.size, was.size)) in
-    places q within ∙ ap (λ i. swapped i (t.ready - 1) (place_of t.order q)) is
 
 -- no cells
 pub none_listed : (c : Slot) → c.cells.items ≡ [] → c.first ≡ None → c.free ≡ 0 → IsListed c

@@ -1,12 +1,13 @@
 -- Chains that are copied, and turned the other way round.
-use Rattle.std.proofs.Common.{◌≡◌, ◌≢◌, ℕ, zero, suc, true, false, ◌-◌, ◌*◌, ◌<◌, ◌≤◌, List, [], ◌++◌, length, take, Option, Some, None, refl, sym, ap, ◌∙◌, inl, inr, arith, subst}
+use Rattle.std.proofs.Common.{◌≡◌, ◌≢◌, ℕ, zero, suc, true, ◌-◌, ◌*◌, ◌<◌, ◌≤◌, List, [], ◌++◌, length, take, Option, Some, None, refl, sym, ap, ◌∙◌, inl, inr, arith, subst}
 use Rattle.std.proofs.lemmas.Bool.{cases_eq}
+use Rattle.std.proofs.lemmas.Option.{same_Some}
 use Rattle.std.proofs.lemmas.List.{append_assoc, append-nil, take_at, take-take, length-append, length-take}
 use Rattle.cell_arena.specs.declared.cell.Cell.{Cell}
 use Rattle.cell_arena.specs.declared.cell.Cell.TheVariants.{Rest}
-use Rattle.cell_arena.specs.Chain.{is_free, is_rest, link_of, bytes_of, Writes, IsChain, chain_bytes, turned_bytes, IsUnlinked, IsLoose, IsLinked, record_of, record_at, SameRecords}
+use Rattle.cell_arena.specs.Chain.{is_free, link_of, bytes_of, Writes, IsChain, chain_bytes, turned_bytes, IsUnlinked, IsLoose, IsLinked, record_of, record_at, SameRecords}
 use Rattle.cell_arena.proofs.Chains.{MayWrite, bytes_next, chain_bytes_first, chain_kept, record_kept, linked_written, unlinked_still}
-use Rattle.cell_arena.proofs.Storing.{begins, free_no_rest, free_unlinked, free_is_none, may_store}
+use Rattle.cell_arena.proofs.Storing.{begins, begins_not_free, free_unlinked, free_is_none, may_store}
 
 -- what the first cell of a chain adds at the end
 turned_next : (at : ℕ → Cell) (m n : ℕ) (link next : Option ℕ) (bytes : List ℕ) → link ≡ Some n → at n ≡ Rest bytes next → turned_bytes at (suc m) link ≡ turned_bytes at m next ++ bytes
@@ -46,17 +47,11 @@ copying_none at left back source linked none chain = record {
 }
 
 module _ (old new : ℕ → Cell) (done left k s : ℕ) (back source next : Option ℕ) (piece bytes : List ℕ) (was : IsCopying old done left back source bytes) (some : 0 < left) (is : source ≡ Some s) (read : old s ≡ Rest piece next) (size : length piece ≡ 48) (rest : IsChain old (left - 1) next) (free : is_free (old k) ≡ true) (written : Writes old new k (Rest piece back)) where
-  not_both : is_rest (old k) ≡ true → is_rest (old k) ≡ false → ⊥
-  not_both a b = cc
-
   apart_next : next ≢ Some k
-  apart_next same = not_both (begins old (left - 1) next k rest same) (free_no_rest (old k) free)
+  apart_next = begins_not_free old (left - 1) next k rest free
 
   copy_may : MayWrite old k (Rest piece back)
   copy_may = may_store old k done (Rest piece back) free was.copied was.loose (λ kind head is. absurd (cc))
-
-  copy_same : (n : ℕ) → Some k ≡ Some n → k ≡ n
-  copy_same n e = cc
 
   -- one more cell is copied
   pub copied_more : IsCopying new (suc done) (left - 1) (Some k) next bytes
@@ -68,7 +63,7 @@ module _ (old new : ℕ → Cell) (done left k s : ℕ) (back source next : Opti
       record {
         linked = linked_written old new k (Rest piece back) written was.linked loose copy_may;
         copied = (k, piece, back, refl, written.here, size, front.0);
-        loose = λ n e. subst (λ j. IsUnlinked new j) (copy_same n e) (unlinked_still old new k (Rest piece back) written was.linked loose copy_may);
+        loose = λ n e. subst (λ j. IsUnlinked new j) (same_Some k n e) (unlinked_still old new k (Rest piece back) written was.linked loose copy_may);
         rest = tail.0;
         holds =
             ap (λ xs. xs ++ chain_bytes new (left - 1) next) (turned_next new done k (Some k) back piece refl written.here)
@@ -123,9 +118,6 @@ module _ (old new : ℕ → Cell) (done left k : ℕ) (next back rest : Option �
     chain = λ kind head e. absurd (cc);
   }
 
-  turn_same : (n : ℕ) → Some k ≡ Some n → k ≡ n
-  turn_same n e = cc
-
   loose_after : IsLoose new rest
   loose_after n e i names =
       elim (cases_eq i k) [
@@ -143,7 +135,7 @@ module _ (old new : ℕ → Cell) (done left k : ℕ) (next back rest : Option �
         linked = linked_written old new k (Rest piece next) written was.linked turn_loose turn_may;
         turned = (k, piece, next, refl, written.here, size, front.0);
         behind = tail.0;
-        loose = λ n e. subst (λ j. IsUnlinked new j) (turn_same n e) (unlinked_still old new k (Rest piece next) written was.linked turn_loose turn_may);
+        loose = λ n e. subst (λ j. IsUnlinked new j) (same_Some k n e) (unlinked_still old new k (Rest piece next) written was.linked turn_loose turn_may);
         loose_rest = loose_after;
         apart = λ n e names. apart_rest (names ∙ sym e);
         holds =

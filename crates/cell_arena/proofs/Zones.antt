@@ -25,6 +25,9 @@ swapped_cases i j p =
       ])
     ]
 
+pub swapped_first : (i j : ℕ) → swapped i j i ≡ j
+swapped_first i j = ap (λ b. cond b j (cond (i == j) i i)) (eq-eqb i i refl)
+
 -- two numbers have two places
 pub place_other : (o : Order) (q s : ℕ) → IsOrder o → q < count_of o → s < count_of o → q ≢ s → place_of o q ≢ place_of o s
 place_other o q s is less less' other same = other (sym (is.there q less) ∙ ap (λ p. get_or o.order.items p 0) same ∙ is.there s less')

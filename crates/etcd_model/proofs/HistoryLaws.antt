@@ -4,7 +4,7 @@ use Rattle.std.specs.Prelude.{ℤ, Bool, true, false, cond, ◌&&◌, fold, filt
 use Rattle.std.specs.List.{All}
 use Rattle.std.specs.Str.{bytes_eq}
 use Rattle.std.proofs.lemmas.Bool.{and_parts, le-leb, leb-true}
-use Rattle.std.proofs.lemmas.List.{append-nil}
+use Rattle.std.proofs.lemmas.List.{append-nil, length_push}
 use Rattle.std.proofs.lemmas.List.Elements.{filter-append, filter_passes, All-nil, All-head, All-tail, All-append, All-map}
 use Rattle.std.proofs.lemmas.List.Folds.{fold-map}
 use Rattle.std.proofs.lemmas.List.Sums.{fold-append}
@@ -82,9 +82,6 @@ past-after H cs key =
 
 -- ---- the rule of versions
 
-length_push : (es : List Entry) (f : Entry) → length (es ++ f ∷ []) ≡ length es + 1
-length_push es f = omega (arith, length-append es (f ∷ []))
-
 latest_push : (e : Entry) (es : List Entry) (f : Entry) → latest e (es ++ f ∷ []) ≡ f
 latest_push e [] f = refl
 latest_push e (g ∷ es) f = latest_push g es f
@@ -118,6 +115,11 @@ kv-after H cs key =
     ∙ fold-append next_by None (past H key (current H)) (map (entry_at (current H + 1)) (changes_of key cs))
     ∙ ap (λ row. fold next_by row (map (entry_at (current H + 1)) (changes_of key cs))) (sym (kv_by_changes H key (current H)))
     ∙ fold-map next_by (entry_at (current H + 1)) (kv H key (current H)) (changes_of key cs)
+
+-- at the current revision, also where there is no change and so no revision
+pub kv-current_after : (H : History) (cs : List Change) (key : List ℕ) → kv (after H cs) key (current (after H cs)) ≡ fold (next_row (current H + 1)) (kv H key (current H)) (changes_of key cs)
+kv-current_after H [] key = refl
+kv-current_after H (c ∷ cs) key = ap (kv (after H (c ∷ cs)) key) (current-after H c cs) ∙ kv-after H (c ∷ cs) key
 
 -- ---- what a row shows
 

@@ -37,7 +37,7 @@ use Rattle.etcd_model.specs.Leases.{attached, finish, run_out}
 use Rattle.etcd_model.specs.Stepping.{outcome, pending}
 use Rattle.etcd_model.specs.Machine.{State, history, machine, opening, state_after, reads_of}
 use Rattle.etcd_model.proofs.RowLaws.{by_key, filter-none, later_key, all_rows}
-use Rattle.etcd_model.proofs.HistoryLaws.{changes_of, next_row, current-after, kv-after, kv-key}
+use Rattle.etcd_model.proofs.HistoryLaws.{changes_of, next_row, kv-current_after, kv-key}
 use Rattle.etcd_model.proofs.PutLaws.{rows_ascend, rows-interval, ChangesOnce, one_change}
 use Rattle.etcd_model.proofs.GrowthLaws.{after_step, first_none, store_stays}
 
@@ -159,11 +159,6 @@ module _ (look : Look) (key : List ℕ) (shows : Shows look key) where
 -- ---- the reads of a history
 
 module _ (H : History) (key : List ℕ) where
-  -- the row of the key with some changes pending
-  row-pending : (pending : List Change) → (reads_of (after H pending)).row key ≡ fold (next_row (current H + 1)) (kv H key (current H)) (changes_of key pending)
-  row-pending [] = refl
-  row-pending (c ∷ cs) = ap (kv (after H (c ∷ cs)) key) (current-after H c cs) ∙ kv-after H (c ∷ cs) key
-
   apart_rows : (rs : List KeyValue) → All (λ row. bytes_eq row.key key ≡ false) rs → changes_of key (deletes_of rs) ≡ []
   apart_rows rs all = no_delete key rs (list_any_none (λ (row : KeyValue). bytes_eq row.key key) rs all)
 
@@ -189,7 +184,7 @@ module _ (H : History) (key : List ℕ) where
 
   pub shows : Shows (λ pending. reads_of (after H pending)) key
   shows = record {
-    gone = λ pending k e. row-pending pending ∙ ap (fold (next_row (current H + 1)) (kv H key (current H))) e;
+    gone = λ pending k e. kv-current_after H pending key ∙ ap (fold (next_row (current H + 1)) (kv H key (current H))) e;
     ascend = λ pending first end. rows_ascend (after H pending) (is_in first end) (current (after H pending));
     not_live = λ pending first end. not_live (after H pending) (is_in first end) (current (after H pending));
     not_inside = λ pending first end. not_inside (after H pending) (is_in first end) (current (after H pending));
@@ -221,7 +216,7 @@ all_none : (rs : List (Option Refusal)) → first_refusal rs ≡ None → AllByR
 all_none [] h = tt
 all_none (r ∷ rs) h = let parts = first_none r rs h in (parts.0, all_none rs parts.1)
 
-not_refused : (b : Bool) (r : Refusal) → refused_if b r ≡ None → b ≡ false
+pub not_refused : (b : Bool) (r : Refusal) → refused_if b r ≡ None → b ≡ false
 not_refused true r h = cc
 not_refused false r h = refl
 

@@ -8,15 +8,12 @@ use Rattle.std.specs.Cmp.{IsTotalOrder}
 use Rattle.std.specs.Cmp.Lexicographic.{nat_list_cmp_total}
 use Rattle.std.specs.FinMap.{slice_cmp-IsAntisymmetric, nat_cmp-IsAntisymmetric}
 use Rattle.std.specs.Str.{bytes_eq}
+use Rattle.std.proofs.Math.Bool.{or-false, or_self_left}
 use Rattle.std.proofs.lemmas.Map.Text.{is_eq-slice_cmp}
 use Rattle.std.specs.declared.cmp.Ordering.{Ordering}
 use Rattle.std.specs.declared.cmp.Ordering.TheVariants.{Less, Equal, Greater}
 use Rattle.std.specs.Ordering.{is_eq}
 use Rattle.etcd_model.specs.Order.{beside, put_in, in_order, key_cmp}
-
-or_twice : (a c : Bool) → (a || c) ≡ (a || (a || c))
-or_twice true c = refl
-or_twice false c = refl
 
 or_swap : (a b c : Bool) → (b || (a || c)) ≡ (a || (b || c))
 or_swap true true c = refl
@@ -28,10 +25,6 @@ or_shift true true c = refl
 or_shift true false c = refl
 or_shift false true c = refl
 or_shift false false c = refl
-
-or_false : (a : Bool) → (a || false) ≡ a
-or_false true = refl
-or_false false = refl
 
 module _ {X : Type 0} (cmp : X → X → Ordering) where
   -- ---- it ascends
@@ -80,7 +73,7 @@ module _ {X : Type 0} (cmp : X → X → Ordering) where
     any-put_in x (y ∷ ys) =
         elim (cmp x y) as (λ r. cmp x y ≡ r → list_any test (beside r x y ys (put_in cmp ys x)) ≡ (test x || (test y || list_any test ys))) [
           | Less ↦ λ e. refl
-          | Equal ↦ λ e. or_twice (test x) (list_any test ys) ∙ ap (λ b. test x || (b || list_any test ys)) (sym (tied x y e))
+          | Equal ↦ λ e. sym (or_self_left (test x) (list_any test ys)) ∙ ap (λ b. test x || (b || list_any test ys)) (sym (tied x y e))
           | Greater ↦ λ e. ap (λ b. test y || b) (any-put_in x ys) ∙ or_swap (test x) (test y) (list_any test ys)
         ] refl
 
@@ -89,7 +82,7 @@ module _ {X : Type 0} (cmp : X → X → Ordering) where
     any_fold (x ∷ xs) ys = any_fold xs (put_in cmp ys x) ∙ ap (λ b. list_any test xs || b) (any-put_in x ys) ∙ or_shift (list_any test xs) (test x) (list_any test ys)
 
     pub any-in_order : (xs : List X) → list_any test (in_order cmp xs) ≡ list_any test xs
-    any-in_order xs = any_fold xs [] ∙ or_false (list_any test xs)
+    any-in_order xs = any_fold xs [] ∙ or-false (list_any test xs)
 
 -- ---- keys
 

@@ -24,6 +24,20 @@ pub record IsLeft (m new : Cells) (e : Entry) (b : ℕ) : Type 0 where
   pub link : ((e.older ≡ from.older) × ((d : ℕ) (f : Entry) → from.older ≡ Some d → m d ≡ Some f → (h : Entry) × (new d ≡ Some h) × (h.change ≡ f.change)))
       ⊎ ((e.older ≡ None) × ((c : ℕ) (y : Entry) → new c ≡ Some y → y.change.key ≡ e.change.key → e.change.revision ≤ y.change.revision))
 
+-- a record that is there as before is left, where what it links to is there with its change
+untouched : (m new : Cells) → IsChained m → (b : ℕ) (e : Entry) → m b ≡ Some e → ((x : ℕ) (y : Entry) → IsBefore m x y e → (h : Entry) × (new x ≡ Some h) × (h.change ≡ y.change)) → IsLeft m new e b
+untouched m new chained b e at there = record {
+  from = e;
+  at = at;
+  same = refl;
+  link = inl (
+    refl,
+    λ x y link has.
+        let p = chained.linked b x e at link in
+        there x y (subst (λ (z : Entry). IsBefore m x z e) (one_entry (m x) p.0 y p.1.at has) p.1),
+  );
+}
+
 pub chained_left : (m new : Cells) → IsChained m → ((b : ℕ) (e : Entry) → new b ≡ Some e → IsLeft m new e b) → IsChained new
 chained_left m new chained left = record {
   linked = λ c d e at older.
@@ -99,20 +113,8 @@ module _ (m : Cells) (revision head : ℕ) (chained : IsChained m) (n : IsNewest
         omega (arith, above, below, revisions) in
         record {
           chained = chained_left m left chained (λ b e has.
-              let k = drops.kept b e has in
-              record {
-                from = e;
-                at = k.0;
-                same = refl;
-                link = inl (
-                  refl,
-                  λ x y link there.
-                      let p = chained.linked b x e k.0 link in
-                      let same_y : p.0 ≡ y = one_entry (m x) p.0 y p.1.at there in
-                      let key_y : y.change.key ≡ e.change.key = ap (λ (z : Entry). z.change.key) (sym same_y) ∙ p.1.key in
-                      (y, drops.stays x y there (λ key. absurd (none b e has (sym key_y ∙ key ∙ sym keys))), refl),
-                );
-              });
+              untouched m left chained b e (drops.kept b e has).0 (λ x y linked_to.
+              (y, drops.stays x y linked_to.at (λ key. absurd (none b e has (sym linked_to.key ∙ key ∙ sym keys))), refl)));
           compacted = record {
             stays = λ c e has key kept.
                 let gone = cut.first_gone in
@@ -206,23 +208,12 @@ module _ (m : Cells) (revision head : ℕ) (chained : IsChained m) (n : IsNewest
         }
         | inr p ↦
             let k = drops.kept b e p.1 in
-            record {
-              from = e;
-              at = k.0;
-              same = refl;
-              link = inl (
-                refl,
-                λ x y link there.
-                    let q = chained.linked b x e k.0 link in
-                    let same_y : q.0 ≡ y = one_entry (m x) q.0 y q.1.at there in
-                    let before_e : IsBefore m x y e = subst (λ (z : Entry). IsBefore m x z e) same_y q.1 in
-                    still x y (drops.stays x y there (λ key.
-                    let key_e : e.change.key ≡ n.0.change.key = sym before_e.key ∙ key ∙ key0 in
-                    let later = after_last b e p.0 k.0 key_e (k.1 (key_e ∙ sym key0)) in
-                    let le = before_e.next l cut.last_kept.0 cut.last_kept.1 (cut.last_kept.2 ∙ sym key_e) later in
-                    omega (arith, le, before.earlier))),
-              );
-            }
+            untouched m (linked left l None) chained b e k.0 (λ x y linked_to.
+            still x y (drops.stays x y linked_to.at (λ key.
+            let key_e : e.change.key ≡ n.0.change.key = sym linked_to.key ∙ key ∙ key0 in
+            let later = after_last b e p.0 k.0 key_e (k.1 (key_e ∙ sym key0)) in
+            let le = linked_to.next l cut.last_kept.0 cut.last_kept.1 (cut.last_kept.2 ∙ sym key_e) later in
+            omega (arith, le, before.earlier))))
       ]
 
       -- the newest is left

@@ -1,6 +1,6 @@
 -- Where a compaction cuts a chain.
-use Rattle.std.proofs.Common.{◌≡◌, ℕ, ◌<◌, ◌≤◌, List, Bool, true, false, Option, Some, None, is_some, MatchOption, sym, ap, ◌∙◌, refl, subst, arith, inl, inr, ◌⊎◌}
-use Rattle.std.proofs.lemmas.Bool.{cases_eq, cases_lt}
+use Rattle.std.proofs.Common.{◌≡◌, ℕ, ◌<◌, ◌≤◌, List, true, false, Option, Some, None, is_some, MatchOption, sym, ap, ◌∙◌, refl, subst, arith, inl, inr, ◌⊎◌}
+use Rattle.std.proofs.lemmas.Bool.{cases_Bool, cases_eq, cases_lt}
 use Rattle.key_index.specs.Entries.{Cells, Entry, IsChained, IsBefore, IsNewest}
 use Rattle.key_index.specs.Compaction.{IsKept, CutsAt}
 use Rattle.key_index.proofs.Links.{one_entry, revision_at}
@@ -11,10 +11,6 @@ pub record IsWalking (m : Cells) (key : List ℕ) (revision head : ℕ) (last ne
   pub above : MatchOption next ((b : ℕ) (g : Entry) → m b ≡ Some g → g.change.key ≡ key → revision < g.change.revision)
       (λ c. (e : Entry) × (m c ≡ Some e) × (e.change.key ≡ key) × ((b : ℕ) (g : Entry) → m b ≡ Some g → g.change.key ≡ key → e.change.revision < g.change.revision → revision < g.change.revision))
   pub linked : MatchOption last (next ≡ Some head) (λ c. (e : Entry) × (m c ≡ Some e) × (e.change.key ≡ key) × (e.older ≡ next))
-
-true_or_false : (b : Bool) → (b ≡ true) ⊎ (b ≡ false)
-true_or_false true = inl refl
-true_or_false false = inr refl
 
 pub walk_start : (m : Cells) (revision head : ℕ) (n : IsNewest m head) → IsWalking m n.0.change.key revision head None (Some head)
 walk_start m revision head n = record {
@@ -114,7 +110,7 @@ module _ (m : Cells) (key : List ℕ) (revision head : ℕ) (chained : IsChained
       | inl eq ↦
           let r = stays (inl eq) in
           subst (λ (o : Option ℕ). CutsAt m key revision head o r1) (sym r.0) (cut_after r1 (sym r.1) le (inl (omega (arith, eq))))
-      | inr differs ↦ elim (true_or_false (is_some w.above.0.change.row)) [
+      | inr differs ↦ elim (cases_Bool (is_some w.above.0.change.row)) [
         | inl put ↦
             let r = stays (inr put) in
             subst (λ (o : Option ℕ). CutsAt m key revision head o r1) (sym r.0) (cut_after r1 (sym r.1) le (inr (

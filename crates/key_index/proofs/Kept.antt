@@ -1,13 +1,11 @@
 -- What is kept of records is what the definition keeps of a list.
-use Rattle.std.proofs.Common.{◌≡◌, ℕ, zero, suc, ◌<◌, ◌≤◌, List, [], ◌∷◌, length, Some, Bool, true, false, is_some, refl, sym, ap, ◌∙◌, subst, arith, inl, inr, ◌⊎◌}
-use Rattle.std.specs.Prelude.{not, ◌&&◌, ◌||◌, nat_le, slice_index_or}
+use Rattle.std.proofs.Common.{◌≡◌, ℕ, zero, suc, ◌<◌, ◌≤◌, List, [], ◌∷◌, length, Some, Bool, true, is_some, sym, ap, ◌∙◌, subst, arith, inl, inr}
+use Rattle.std.specs.Prelude.{not, ◌&&◌, nat_le, slice_index_or}
 use Rattle.std.specs.List.{list_any, AllByRecursion}
 use Rattle.std.specs.Str.{bytes_eq}
-use Rattle.std.proofs.lemmas.Bool.{cases_lt}
-use Rattle.std.proofs.lemmas.Bool.Decides.{nat_tests}
+use Rattle.std.proofs.lemmas.Bool.{cases_Bool, cases_lt, le-leb, leb-true, and_parts, and_from, or_left, or_right, or_cases, not_from_false, not_from_true, true≢false}
 use Rattle.std.proofs.lemmas.Slice.Eq.{bytes_eq-Decides}
 use Rattle.etcd_model.specs.Changes.{Recorded, is_up_to, keeps}
-use Rattle.model_laws.proofs.LastLaws.{true_or_false}
 use Rattle.key_index.specs.Entries.{Cells, Entry, change_at}
 use Rattle.key_index.specs.Compaction.{IsKept, HasLater, KeptAsDefined}
 use Rattle.key_index.proofs.Compacted.{entry_some}
@@ -21,50 +19,19 @@ any_at p (y ∷ ys) (suc k) x lt is px = let rest = any_at p ys k x (omega (arit
 -- and the one that it finds is one of them
 found : (p : Recorded → Bool) (P : Recorded → Type 0) (xs : List Recorded) → AllByRecursion P xs → list_any p xs ≡ true → (y : Recorded) × (p y ≡ true) × P y
 found p P [] all any = let bad : ⊥ = cc in absurd bad
-found p P (x ∷ xs) all any = elim (true_or_false (p x)) [
+found p P (x ∷ xs) all any = elim (cases_Bool (p x)) [
   | inl here ↦ (x, here, all.0)
   | inr other ↦ found p P xs all.1 (let rest : list_any p xs ≡ true = grind (arith, other, any) in rest)
 ]
-
-pub le_true : (a b : ℕ) → a ≤ b → nat_le a b ≡ true
-le_true a b le = grind (arith, nat_tests)
-
-pub true_le : (a b : ℕ) → nat_le a b ≡ true → a ≤ b
-true_le a b is = grind (arith, nat_tests)
-
-pub both : (a b : Bool) → a ≡ true → b ≡ true → (a && b) ≡ true
-both a b p q = grind (arith, p, q)
-
-pub each : (a b : Bool) → (a && b) ≡ true → (a ≡ true) × (b ≡ true)
-each true b h = (refl, h)
-each false b h = let bad : ⊥ = cc in absurd bad
-
-either_first : (a b : Bool) → a ≡ true → (a || b) ≡ true
-either_first a b p = grind (arith, p)
-
-either_second : (a b : Bool) → b ≡ true → (a || b) ≡ true
-either_second true b p = refl
-either_second false b p = p
-
-split : (a b : Bool) → (a || b) ≡ true → (a ≡ true) ⊎ (b ≡ true)
-split true b h = inl refl
-split false b h = inr h
-
-not_true : (b : Bool) → b ≡ false → not b ≡ true
-not_true b h = ap not h
-
-not_both : (b : Bool) → not b ≡ true → b ≡ true → ⊥
-not_both true h p = cc
-not_both false h p = cc
 
 module _ (cells : Cells) (revision : ℕ) (x : Recorded) (later : List Recorded) (has : HasLater cells x later) where
   -- another change of the key up to the revision would be later, and not of a record
   none_later : ((b : ℕ) (g : Entry) → cells b ≡ Some g → g.change.key ≡ x.key → g.change.revision ≤ revision → g.change.revision ≤ x.revision) → list_any (is_up_to x.key revision) later ≡ true → ⊥
   none_later none any =
       let f = found (is_up_to x.key revision) (λ y. y.key ≡ x.key → (x.revision < y.revision) × ((c : ℕ) × (change_at cells c ≡ Some y))) later has.only any in
-      let tests = each (bytes_eq f.0.key x.key) (nat_le f.0.revision revision) f.1 in
+      let tests = and_parts (bytes_eq f.0.key x.key) (nat_le f.0.revision revision) f.1 in
       let key : f.0.key ≡ x.key = (bytes_eq-Decides f.0.key x.key).0 tests.0 in
-      let up_to : f.0.revision ≤ revision = true_le f.0.revision revision tests.1 in
+      let up_to : f.0.revision ≤ revision = leb-true f.0.revision revision tests.1 in
       let there = f.2 key in
       let e = entry_some cells there.1.0 f.0 there.1.1 in
       let is : e.0.change.revision ≡ f.0.revision = ap (λ (y : Recorded). y.revision) e.2 in
@@ -74,26 +41,26 @@ module _ (cells : Cells) (revision : ℕ) (x : Recorded) (later : List Recorded)
   some_later : (b : ℕ) (g : Entry) → cells b ≡ Some g → g.change.key ≡ x.key → g.change.revision ≤ revision → x.revision < g.change.revision → list_any (is_up_to x.key revision) later ≡ true
   some_later b g at key low after =
       let c = has.there b g at key after in
-      any_at (is_up_to x.key revision) later c.0 g.change c.1 c.2 (both (bytes_eq g.change.key x.key) (nat_le g.change.revision revision) ((bytes_eq-Decides g.change.key x.key).1 key) (le_true g.change.revision revision low))
+      any_at (is_up_to x.key revision) later c.0 g.change c.1 c.2 (and_from (bytes_eq g.change.key x.key) (nat_le g.change.revision revision) ((bytes_eq-Decides g.change.key x.key).1 key) (le-leb g.change.revision revision low))
 
   to_keeps : IsKept cells revision x → keeps revision x later ≡ true
   to_keeps kept = elim kept [
-    | inl from ↦ either_first (nat_le revision x.revision) (is_some x.row && not (list_any (is_up_to x.key revision) later)) (le_true revision x.revision from)
-    | inr p ↦ elim (true_or_false (list_any (is_up_to x.key revision) later)) [
+    | inl from ↦ or_left (nat_le revision x.revision) (is_some x.row && not (list_any (is_up_to x.key revision) later)) (le-leb revision x.revision from)
+    | inr p ↦ elim (cases_Bool (list_any (is_up_to x.key revision) later)) [
       | inl any ↦ absurd (none_later p.1 any)
-      | inr none ↦ either_second (nat_le revision x.revision) (is_some x.row && not (list_any (is_up_to x.key revision) later)) (both (is_some x.row) (not (list_any (is_up_to x.key revision) later)) p.0 (not_true (list_any (is_up_to x.key revision) later) none))
+      | inr none ↦ or_right (nat_le revision x.revision) (is_some x.row && not (list_any (is_up_to x.key revision) later)) (and_from (is_some x.row) (not (list_any (is_up_to x.key revision) later)) p.0 (not_from_false (list_any (is_up_to x.key revision) later) none))
     ]
   ]
 
   from_keeps : keeps revision x later ≡ true → IsKept cells revision x
-  from_keeps is = elim (split (nat_le revision x.revision) (is_some x.row && not (list_any (is_up_to x.key revision) later)) is) [
-    | inl from ↦ inl (true_le revision x.revision from)
+  from_keeps is = elim (or_cases (nat_le revision x.revision) (is_some x.row && not (list_any (is_up_to x.key revision) later)) is) [
+    | inl from ↦ inl (leb-true revision x.revision from)
     | inr p ↦
-        let q = each (is_some x.row) (not (list_any (is_up_to x.key revision) later)) p in
+        let q = and_parts (is_some x.row) (not (list_any (is_up_to x.key revision) later)) p in
         inr (
           q.0,
           λ b g at key low. elim (cases_lt x.revision g.change.revision) [
-            | inl after ↦ absurd (not_both (list_any (is_up_to x.key revision) later) q.1 (some_later b g at key low after))
+            | inl after ↦ absurd (true≢false (sym q.1 ∙ not_from_true (list_any (is_up_to x.key revision) later) (some_later b g at key low after)))
             | inr ge ↦ ge
           ],
         )

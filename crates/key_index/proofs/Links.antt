@@ -5,12 +5,12 @@ use Rattle.std.specs.Option.{is_some}
 use Rattle.std.specs.Ordering.{ordering_reverse}
 use Rattle.std.proofs.lemmas.Cmp.{nat_list_cmp_total}
 use Rattle.std.proofs.lemmas.Bool.{cases_lt}
-use Rattle.std.proofs.lemmas.Map.Lookups.{exact_bytes}
 use Rattle.std.proofs.lemmas.Bool.{cases_eq}
 use Rattle.std.proofs.lemmas.Bool.Decides.{nat_tests}
 use Rattle.std.proofs.lemmas.List.{get_or_default}
 use Rattle.std.proofs.lemmas.Cmp.{tied_itself}
 use Rattle.etcd_model.specs.Order.{key_cmp}
+use Rattle.etcd_model.proofs.OrderLaws.{tied_keys}
 use Rattle.key_index.specs.Entries.{Cells, Entry, without, IsChained, IsOf, IsNewest}
 use Rattle.key_index.specs.Index.{IsIndexOf, IsSpread, IsGapFor, IsAt}
 
@@ -30,10 +30,6 @@ greater_from_less a b p = nat_list_cmp_total.antisymm b a ∙ ap ordering_revers
 
 pub less_from_greater : (a b : List ℕ) → key_cmp a b ≡ Greater → key_cmp b a ≡ Less
 less_from_greater a b p = nat_list_cmp_total.antisymm b a ∙ ap ordering_reverse p
-
--- keys that compare equal are one
-pub same_key : (a b : List ℕ) → key_cmp a b ≡ Equal → a ≡ b
-same_key a b p = exact_bytes a b p
 
 -- a key is not less than itself
 pub not_less : (a b : List ℕ) → a ≡ b → key_cmp a b ≡ Less → ⊥
@@ -92,7 +88,7 @@ pub at_equal : (cells : Cells) (heads key : List ℕ) (m : ℕ) (o : Ordering) �
 at_equal cells heads key m o index lt cmp equal =
     let newest = index.some m lt in
     let says : o ≡ key_cmp newest.0.change.key key = at_entry _ (λ x. o ≡ key_cmp x.change.key key) newest.0 newest.1 cmp in
-    (newest.0, newest.1, same_key newest.0.change.key key (sym says ∙ equal))
+    (newest.0, newest.1, tied_keys newest.0.change.key key (sym says ∙ equal))
 
 -- a link leads to an earlier revision
 pub falls_along : (cells : Cells) → IsChained cells → (c d : ℕ) (e : Entry) → cells c ≡ Some e → IfSome (cells c) (λ e. Some d ≡ e.older) → revision_at cells d < revision_at cells c

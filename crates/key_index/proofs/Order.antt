@@ -3,6 +3,7 @@ use Rattle.std.proofs.Common.{◌≡◌, ℕ, suc, ◌+◌, ◌≤◌, List, [],
 use Rattle.std.specs.Prelude.{nat_le, sum_by, option_map}
 use Rattle.std.specs.List.{AllByRecursion, Contains, cons_option}
 use Rattle.std.specs.Str.{bytes_eq}
+use Rattle.std.proofs.lemmas.Bool.{le-leb, leb-true, and_parts, and_from}
 use Rattle.std.proofs.lemmas.Slice.Eq.{bytes_eq-Decides}
 use Rattle.std.proofs.lemmas.List.Sums.{sum_by-cons}
 use Rattle.etcd_model.specs.Changes.{Recorded, is_up_to, last}
@@ -14,7 +15,6 @@ use Rattle.key_index.specs.Compaction.{held, cost_of, times}
 use Rattle.key_index.specs.Order.{AreAll, changes_in, IsInOrder}
 use Rattle.key_index.proofs.Links.{not_less, one_entry}
 use Rattle.key_index.proofs.Compacted.{change_some}
-use Rattle.key_index.proofs.Kept.{both, each, le_true, true_le}
 use Rattle.key_index.proofs.Times.{times_cases, times_rest, times_here, times_once, few_of}
 
 -- ---- what is in a list
@@ -95,11 +95,11 @@ heads_few cells heads order index all = few_of heads order
 
 up_to : (x : Recorded) (key : List ℕ) (r : ℕ) → is_up_to key r x ≡ true → (x.key ≡ key) × (x.revision ≤ r)
 up_to x key r h =
-    let q = each (bytes_eq x.key key) (nat_le x.revision r) h in
-    ((bytes_eq-Decides x.key key).0 q.0, true_le x.revision r q.1)
+    let q = and_parts (bytes_eq x.key key) (nat_le x.revision r) h in
+    ((bytes_eq-Decides x.key key).0 q.0, leb-true x.revision r q.1)
 
 is_it_up_to : (x : Recorded) (key : List ℕ) (r : ℕ) → x.key ≡ key → x.revision ≤ r → is_up_to key r x ≡ true
-is_it_up_to x key r same le = both (bytes_eq x.key key) (nat_le x.revision r) ((bytes_eq-Decides x.key key).1 same) (le_true x.revision r le)
+is_it_up_to x key r same le = and_from (bytes_eq x.key key) (nat_le x.revision r) ((bytes_eq-Decides x.key key).1 same) (le-leb x.revision r le)
 
 -- the last change of a key among the records is its last among their changes in order
 pub last_in_order : (cells : Cells) (order key : List ℕ) (r c : ℕ) (e : Entry) → IsChained cells → AreAll cells order → IsInOrder cells order → IsLast cells key r c → cells c ≡ Some e → last key r (changes_in cells order) ≡ Some e.change

@@ -2,10 +2,10 @@
 use Rattle.std.proofs.Common.{◌≡◌, ℕ, ◌+◌, ◌<◌, ◌≤◌, List, [], ◌∷◌, Option, Some, is_some, true, sym, ap, ◌∙◌, refl, subst, arith, inl, inr, ◌⊎◌}
 use Rattle.std.specs.Prelude.{sum_by}
 use Rattle.std.specs.List.{All, AllByRecursion}
-use Rattle.std.proofs.lemmas.Bool.{cases_lt}
+use Rattle.std.proofs.lemmas.Bool.{cases_Bool, cases_lt}
 use Rattle.std.proofs.lemmas.List.Elements.{All-head, All-tail, filter_passes}
 use Rattle.etcd_model.specs.Changes.{Recorded, Rises, keeps, kept}
-use Rattle.model_laws.proofs.LastLaws.{true_or_false, some_or_none}
+use Rattle.model_laws.proofs.LastLaws.{some_or_none}
 use Rattle.model_laws.proofs.LastIsLaws.{all_in}
 use Rattle.model_laws.proofs.KeptLaws.{kept_true, kept_false, kept_rises}
 use Rattle.key_index.specs.Entries.{Cells, Entry, IsChained, change_at}
@@ -109,7 +109,7 @@ module _ (old new : Cells) (r : ℕ) (chained : IsChained old) (compacted : IsCo
   kept_step c cs e at last rest =
       let defined = kept_as_defined old r e.change (changes_in old cs) (has_later old c cs e at last chained) in
       let before : kept r (changes_in old (c ∷ cs)) ≡ kept r (e.change ∷ changes_in old cs) = ap (kept r) (changes_some old c e cs at) in
-      elim (true_or_false (keeps r e.change (changes_in old cs))) [
+      elim (cases_Bool (keeps r e.change (changes_in old cs))) [
         | inl keep ↦
             let f = entry_some new c e.change (compacted.stays c e at (defined.1 keep)) in
             changes_some new c f.0 cs f.1

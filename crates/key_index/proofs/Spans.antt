@@ -1,11 +1,12 @@
 -- The places of the keys of an interval.
 use Rattle.std.proofs.Common.{◌≡◌, ℕ, ◌+◌, ◌<◌, ◌≤◌, List, [], ◌∷◌, length, get_or, Some, Bool, true, false, refl, sym, ap, ◌∙◌, arith, subst, inl, inr}
-use Rattle.std.specs.Prelude.{not, ◌&&◌, ◌||◌}
+use Rattle.std.specs.Prelude.{not, ◌||◌}
 use Rattle.std.specs.declared.cmp.Ordering.{Ordering}
 use Rattle.std.specs.declared.cmp.Ordering.TheVariants.{Less, Equal, Greater}
 use Rattle.std.specs.Ordering.{ordering_reverse, is_lt, is_le}
 use Rattle.std.specs.Str.{bytes_eq}
-use Rattle.std.proofs.lemmas.Bool.{cases_lt, cases_order}
+use Rattle.std.proofs.lemmas.Bool.{cases_lt, cases_order, and_parts, and_from}
+use Rattle.std.proofs.lemmas.List.{nil_from_length}
 use Rattle.std.proofs.lemmas.Cmp.{nat_list_cmp_total, tied_itself}
 use Rattle.std.proofs.lemmas.Slice.Eq.{bytes_eq-Decides}
 use Rattle.etcd_model.specs.Order.{key_cmp, key_lt, key_le}
@@ -26,10 +27,6 @@ not_below_itself : (a b : List ℕ) → a ≡ b → key_lt a b ≡ false
 not_below_itself a b same =
     let tied : key_cmp a a ≡ Equal = tied_itself nat_list_cmp_total a in
     ap is_lt (subst (λ (k : List ℕ). key_cmp a k ≡ Equal) same tied)
-
-no_bytes : (xs : List ℕ) → length xs ≡ 0 → xs ≡ []
-no_bytes [] none = refl
-no_bytes (x ∷ xs) none = absurd (omega (arith, none))
 
 module _ (m : Cells) (heads : List ℕ) where
   pub from_at : (key : List ℕ) (i : ℕ) → IsSpread m heads → IsAt m heads key i → IsFrom m heads key i
@@ -74,13 +71,6 @@ module _ (m : Cells) (heads : List ℕ) where
     from = λ j e le lt has. ap (λ (b : Bool). b || key_lt e.change.key end) other ∙ from.from j e le lt has;
   }
 
-  both_true : (a b : Bool) → (a && b) ≡ true → (a ≡ true) × (b ≡ true)
-  both_true true b h = (refl, h)
-  both_true false b h = let bad : ⊥ = cc in absurd bad
-
-  true_both : (a b : Bool) → a ≡ true → b ≡ true → (a && b) ≡ true
-  true_both a b p q = ap (λ (x : Bool). x && b) p ∙ q
-
   -- with an end, from the first key on and before the end
   pub span_between : (key end : List ℕ) (from to top : ℕ) → 0 < length end → IsFrom m heads key from → IsEnd m heads end to → from ≤ top → to ≤ top → top ≤ length heads → (to < from → top ≡ from) → (from ≤ to → top ≡ to) → IsSpan m heads key end from top
   span_between key [] from to top some f t ordered over within less more = absurd (omega (arith, some))
@@ -88,9 +78,9 @@ module _ (m : Cells) (heads : List ℕ) where
     ordered = ordered;
     in_range = within;
     exact = λ i e lt has. (
-      λ inside. true_both _ _ (le_not_lt key e.change.key ∙ ap not (f.from i e inside.0 lt has)) (t.below i e (before i inside.0 inside.1) has),
+      λ inside. and_from _ _ (le_not_lt key e.change.key ∙ ap not (f.from i e inside.0 lt has)) (t.below i e (before i inside.0 inside.1) has),
       λ member.
-          let parts = both_true (key_le key e.change.key) (bytes_eq (b ∷ bs) (0 ∷ []) || key_lt e.change.key (b ∷ bs)) member in
+          let parts = and_parts (key_le key e.change.key) (bytes_eq (b ∷ bs) (0 ∷ []) || key_lt e.change.key (b ∷ bs)) member in
           let at_least : from ≤ i = elim (cases_lt i from) [
             | inl below ↦
                 let not_there : key_le key e.change.key ≡ false = le_not_lt key e.change.key ∙ ap not (f.below i e below has) in
@@ -117,7 +107,7 @@ module _ (m : Cells) (heads : List ℕ) where
   pub span_at : (key end : List ℕ) (i : ℕ) → length end ≡ 0 → IsSpread m heads → IsAt m heads key i → IsSpan m heads key end i (i + 1)
   span_at key end i empty spread at =
       let f = at.of_key.0 in
-      subst (λ (xs : List ℕ). IsSpan m heads key xs i (i + 1)) (sym (no_bytes end empty)) (record {
+      subst (λ (xs : List ℕ). IsSpan m heads key xs i (i + 1)) (sym (nil_from_length end empty)) (record {
         ordered = omega arith;
         in_range = omega (arith, at.in_range);
         exact = λ j e lt has. (
@@ -141,7 +131,7 @@ module _ (m : Cells) (heads : List ℕ) where
   -- and where there is no such key none
   pub span_gap : (key end : List ℕ) (i : ℕ) → length end ≡ 0 → IsGapFor m heads key i → IsSpan m heads key end i i
   span_gap key end i empty gap =
-      subst (λ (xs : List ℕ). IsSpan m heads key xs i i) (sym (no_bytes end empty)) (record {
+      subst (λ (xs : List ℕ). IsSpan m heads key xs i i) (sym (nil_from_length end empty)) (record {
         ordered = omega arith;
         in_range = gap.in_range;
         exact = λ j e lt has. (

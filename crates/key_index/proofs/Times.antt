@@ -1,9 +1,8 @@
 -- How often a cell stands in a list.
 use Rattle.std.proofs.Common.{◌≡◌, ◌≢◌, ℕ, suc, ◌+◌, ◌<◌, ◌≤◌, List, [], ◌∷◌, ◌++◌, length, get_or, Bool, true, false, if◌then◌else◌, ◌==◌, sym, ap, ◌∙◌, refl, subst, arith, inl, inr, ◌⊎◌}
 use Rattle.std.specs.Prelude.{sum_by, filter}
-use Rattle.std.proofs.lemmas.Bool.{cases_eq}
+use Rattle.std.proofs.lemmas.Bool.{cases_Bool, cases_eq}
 use Rattle.std.proofs.lemmas.List.Sums.{sum_by-cons}
-use Rattle.model_laws.proofs.LastLaws.{true_or_false}
 use Rattle.key_index.specs.Compaction.{times}
 use Rattle.key_index.proofs.Links.{if_same, if_other}
 
@@ -67,7 +66,7 @@ pub times_filter : (p : ℕ → Bool) (c : ℕ) (xs : List ℕ) → p c ≡ true
 times_filter p c [] passes = refl
 times_filter p c (x ∷ xs) passes =
     let rest = times_filter p c xs passes in
-    elim (true_or_false (p x)) [
+    elim (cases_Bool (p x)) [
       | inl here ↦
           let is = ap (times c) (filter_yes p x xs here) in
           elim (cases_eq x c) [

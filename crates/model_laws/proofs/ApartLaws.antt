@@ -1,10 +1,9 @@
 -- Each recorded change of a key is alone at its revision.
-use Rattle.std.proofs.Common.{◌≡◌, ℕ, ◌<◌, ◌≤◌, List, [], ◌∷◌, ◌++◌, length, refl, ap, ◌∙◌, sym, arith, subst, append_assoc, map, inl, inr}
+use Rattle.std.proofs.Common.{◌≡◌, ℕ, ◌<◌, List, [], ◌∷◌, ◌++◌, refl, ap, ◌∙◌, sym, arith, subst, append_assoc, map, inl, inr}
 use Rattle.std.specs.Prelude.{Bool, true, false, cond, ◌&&◌, ◌||◌, filter, Option, Some, None, nat_le, nat_eq, option_map, if◌then◌else◌}
 use Rattle.std.specs.List.{AllByRecursion}
 use Rattle.std.specs.Str.{bytes_eq}
-use Rattle.std.specs.Cmp.Lexicographic.{bytes_decides}
-use Rattle.std.proofs.lemmas.Bool.{true≢false}
+use Rattle.std.proofs.lemmas.Bool.{cases_Bool}
 use Rattle.std.proofs.lemmas.Bool.Decides.{nat_tests}
 use Rattle.etcd_model.specs.declared.state.Change.{Change}
 use Rattle.etcd_model.specs.History.{key_of}
@@ -13,16 +12,15 @@ use Rattle.etcd_model.specs.Changes.{Recorded, entry_at, entry_of, change_of, ch
 use Rattle.etcd_model.proofs.HistoryLaws.{changes_of as own_changes}
 use Rattle.model_laws.specs.Once.{IsOnce}
 use Rattle.model_laws.specs.Apart.{is_same_place, AreApart, is_at, is_last_up_to, ChangesApart, KeptApart, RecordedApart, KeptByLast}
-use Rattle.model_laws.proofs.LastLaws.{true_or_false}
 use Rattle.model_laws.proofs.KeptLaws.{all_kept, kept_true, kept_false}
-use Rattle.model_laws.proofs.RecordedLaws.{all_append, all_weaker, changes_are_entries}
-use Rattle.model_laws.proofs.HistoryKeptLaws.{same_place, Apart, key_of-entry, is_put-change, entries_apart, alike}
+use Rattle.model_laws.proofs.RecordedLaws.{all_append, all_weaker, changes_are_entries, key_of-change_by}
+use Rattle.model_laws.proofs.HistoryKeptLaws.{same_place, Apart, no_more, fewer, is_put-change, entries_apart, alike}
 use Rattle.model_laws.proofs.OnceStoreLaws.{keys_apart, recorded_where_once}
 
 -- ---- of entries and of recorded changes
 
 place : (x y : Recorded) → same_place (entry_of x) (entry_of y) ≡ is_same_place x y
-place x y = ap (λ k. bytes_eq k (key_of (change_of x)) && nat_eq y.revision x.revision) (key_of-entry y.key y.row) ∙ ap (λ k. bytes_eq y.key k && nat_eq y.revision x.revision) (key_of-entry x.key x.row)
+place x y = ap (λ k. bytes_eq k (key_of (change_of x)) && nat_eq y.revision x.revision) (key_of-change_by y.key y.row) ∙ ap (λ k. bytes_eq y.key k && nat_eq y.revision x.revision) (key_of-change_by x.key x.row)
 
 from_place : (x : Recorded) (ys : List Recorded) → AllByRecursion (λ f. same_place (entry_of x) f ≡ false) (map entry_of ys) → AllByRecursion (λ y. is_same_place x y ≡ false) ys
 from_place x [] h = tt
@@ -42,7 +40,7 @@ changes_apart H once = from_entries (changes_of H) (subst Apart (sym (changes_ar
 pub kept_apart : KeptApart
 kept_apart c [] apart = tt
 kept_apart c (x ∷ xs) apart =
-    elim (true_or_false (keeps c x xs)) [
+    elim (cases_Bool (keeps c x xs)) [
       | inl keep ↦ subst AreApart (sym (kept_true c x xs keep)) (all_kept (λ y. is_same_place x y ≡ false) c xs apart.0, kept_apart c xs apart.1)
       | inr lost ↦ subst AreApart (sym (kept_false c x xs lost)) (kept_apart c xs apart.1)
     ]
@@ -68,17 +66,9 @@ other_keys n xs x (c ∷ cs) h = (ap (λ b. b && nat_eq n x.revision) h.0, other
 once_apart : (n : ℕ) (xs : List Recorded) (cs : List Change) → IsOnce cs → AreApart (map (λ c. recorded xs (entry_at n c)) cs)
 once_apart n xs [] once = tt
 once_apart n xs (c ∷ cs) once = (
-  other_keys n xs (recorded xs (entry_at n c)) cs (keys_apart (key_of c) cs (no_more (bytes_eq (key_of c) (key_of c)) ((bytes_decides (key_of c) (key_of c)).1 refl) (once (key_of c)))),
-  once_apart n xs cs (λ key. fewer key (bytes_eq (key_of c) key) (once key)),
+  other_keys n xs (recorded xs (entry_at n c)) cs (keys_apart (key_of c) cs (no_more c cs (once (key_of c)))),
+  once_apart n xs cs (λ key. fewer (bytes_eq (key_of c) key) c (own_changes key cs) (once key)),
 )
-  where
-    no_more : (b : Bool) → b ≡ true → length (cond b (c ∷ own_changes (key_of c) cs) (own_changes (key_of c) cs)) ≤ 1 → length (own_changes (key_of c) cs) ≤ 0
-    no_more true t h = omega (arith, h)
-    no_more false t h = absurd (true≢false (sym t))
-
-    fewer : (key : List ℕ) (b : Bool) → length (cond b (c ∷ own_changes key cs) (own_changes key cs)) ≤ 1 → length (own_changes key cs) ≤ 1
-    fewer key true h = omega (arith, h)
-    fewer key false h = h
 
 pub recorded_apart : RecordedApart
 recorded_apart n xs cs apart below once =

@@ -8,8 +8,7 @@ use Rattle.std.proofs.lemmas.Bool.{true≢false, or_parts}
 use Rattle.std.proofs.lemmas.Bool.Decides.{nat_tests, Decides-int_eq}
 use Rattle.etcd_types.specs.declared.step.Step.{Step}
 use Rattle.etcd_types.specs.declared.step.Step.TheVariants.{Put, Delete, Txn, Compact, Grant, Revoke, KeepAlive, Tick}
-use Rattle.etcd_types.specs.declared.refusal.Refusal.TheVariants.{UsedUp}
-use Rattle.etcd_types.specs.Limits.{last_moment, last_revision, last_lease_id}
+use Rattle.etcd_types.specs.Limits.{last_moment, last_lease_id}
 use Rattle.etcd_model.specs.declared.state.Lease.{Lease}
 use Rattle.etcd_model.specs.declared.state.History.{History}
 use Rattle.etcd_model.specs.declared.state.State.{State}
@@ -17,16 +16,13 @@ use Rattle.etcd_model.specs.Order.{beside, put_in}
 use Rattle.etcd_model.specs.Operations.{has_lease}
 use Rattle.etcd_model.specs.Tenant.{used}
 use Rattle.etcd_model.specs.Leases.{lease_at, step_past, free_id, finish, run_out}
-use Rattle.etcd_model.specs.Fields.{fields, refused_if}
-use Rattle.etcd_model.specs.Stepping.{counter_after, early, outcome, used_up, kept_alive}
-use Rattle.etcd_model.specs.History.{current}
+use Rattle.etcd_model.specs.Stepping.{counter_after, early, outcome, kept_alive}
 use Rattle.etcd_model.specs.Machine as machine
 use Rattle.etcd_model.specs.Held.{by_id}
-use Rattle.etcd_model.proofs.GrowthLaws.{first_none}
 use Rattle.model_laws.specs.Leases.{FreeIdWithin, GrantAddsOne, RenewAddsNone, FinishTakesOne}
 use Rattle.model_laws.specs.Runs.{FitsCounter, OpeningFitsCounter, StepFitsCounter}
 use Rattle.model_laws.specs.Space.{FinishFreesACell}
-use Rattle.model_laws.proofs.HeldLaws.{after_early, after_machine}
+use Rattle.model_laws.proofs.HeldLaws.{after_early, none_used_up, after_machine}
 use Rattle.model_laws.proofs.SpaceLaws.{finish_takes_none}
 use Rattle.model_laws.proofs.LeaseLaws.{same_id, one_of_id}
 use Rattle.model_laws.proofs.RunLaws.{quiet_outcome}
@@ -92,11 +88,6 @@ counter_ends : (ls : List Lease) (S : State History) → (fold (λ T l. finish m
 counter_ends [] S = refl
 counter_ends (l ∷ ls) S = counter_ends ls (finish machine.history S l.id)
 
-not_used_up : (b c : Bool) → refused_if (b || c) UsedUp ≡ None → c ≡ false
-not_used_up true c e = let bad : ⊥ = cc in absurd bad
-not_used_up false true e = let bad : ⊥ = cc in absurd bad
-not_used_up false false e = refl
-
 counter_grant : (bound : ℕ) (S : State History) (id : ℤ) → used machine.history S ≤ bound → FitsCounter bound S → (nat_le last_lease_id S.counter && int_eq id (pos 0)) ≡ false → (1 ≤ counter_after S.counter S.leases id) × (counter_after S.counter S.leases id ≤ last_lease_id + bound)
 counter_grant bound S id space fits free = chosen (int_eq id (pos 0)) free
   where
@@ -113,8 +104,7 @@ counter_outcome bound S (Delete d) space fits e = record { least = fits.least; m
 counter_outcome bound S (Txn t) space fits e = record { least = fits.least; most = fits.most }
 counter_outcome bound S (Compact r) space fits e = record { least = fits.least; most = fits.most }
 counter_outcome bound S (Grant g) space fits e =
-    let free = (first_none (used_up machine.history S (Grant g)) [] (first_none (fields (Grant g)) (used_up machine.history S (Grant g) ∷ []) e).1).0 in
-    let new = counter_grant bound S g.id space fits (not_used_up (nat_le last_revision (current S.store) && false) (nat_le last_lease_id S.counter && int_eq g.id (pos 0)) free) in
+    let new = counter_grant bound S g.id space fits (none_used_up S (Grant g) e).1 in
     record { least = new.0; most = new.1 }
 counter_outcome bound S (Revoke id) space fits e = record { least = fits.least; most = fits.most }
 counter_outcome bound S (KeepAlive id) space fits e = counter_alive bound S id (lease_at S.leases id) fits

@@ -1,9 +1,9 @@
 -- What is kept of a history answers as the history does, and follows it.
 use Rattle.std.proofs.Common.{◌≡◌, ℕ, ◌+◌, ◌<◌, ◌≤◌, List, [], ◌∷◌, ◌++◌, refl, ap, ◌∙◌, sym, arith, subst, map, inl, inr}
 use Rattle.std.proofs.Math.Path.{fun_ext}
-use Rattle.std.specs.Prelude.{Bool, true, false, cond, ◌&&◌, fold, filter, sum_by, Option, Some, None, max, min, nat_lt, if◌then◌else◌}
+use Rattle.std.specs.Prelude.{Bool, true, false, cond, ◌&&◌, ◌||◌, fold, filter, sum_by, Option, Some, None, max, min, nat_le, nat_lt, if◌then◌else◌}
 use Rattle.std.specs.List.{AllByRecursion}
-use Rattle.std.proofs.lemmas.Bool.{lt-leb, cases_lt}
+use Rattle.std.proofs.lemmas.Bool.{cases_Bool, lt-leb, cases_lt, or_parts}
 use Rattle.std.proofs.lemmas.Bool.Decides.{nat_tests}
 use Rattle.std.proofs.lemmas.List.Sums.{sum_by-cons}
 use Rattle.etcd_types.specs.declared.step.Step.{Step}
@@ -11,7 +11,8 @@ use Rattle.etcd_types.specs.declared.step.Step.TheVariants.{Put, Delete, Txn, Co
 use Rattle.etcd_types.specs.declared.key_value.KeyValue.{KeyValue}
 use Rattle.etcd_types.specs.declared.txn.Op.TheVariants.{Put as PutOp, Delete as DeleteOp}
 use Rattle.etcd_types.specs.declared.refusal.Refusal.{Refusal}
-use Rattle.etcd_types.specs.Limits.{last_moment}
+use Rattle.etcd_types.specs.declared.refusal.Refusal.TheVariants.{UsedUp}
+use Rattle.etcd_types.specs.Limits.{last_moment, last_revision, last_lease_id}
 use Rattle.etcd_model.specs.declared.state.Lease.{Lease}
 use Rattle.etcd_model.specs.declared.state.Watch.{Watch as Watching}
 use Rattle.etcd_model.specs.History as history
@@ -30,7 +31,7 @@ use Rattle.etcd_model.specs.Operations.{branch, first_refusal}
 use Rattle.etcd_model.specs.Leases.{attached, finish, run_out}
 use Rattle.etcd_model.specs.Fields.{fields}
 use Rattle.etcd_model.specs.Stepping as stepping
-use Rattle.etcd_model.specs.Stepping.{early, look_up, outcome, pending, decided}
+use Rattle.etcd_model.specs.Stepping.{early, look_up, used_up, writes, chooses_id, outcome, pending, decided}
 use Rattle.etcd_model.specs.Machine as machine
 use Rattle.etcd_model.specs.Machine.{opening}
 use Rattle.etcd_model.specs.Changes.{Recorded, ChangesOnce, entry_at, entry_of, change_of, changes_of, recorded, record_revision, live, rows, keeps, kept, Rises}
@@ -39,9 +40,8 @@ use Rattle.etcd_model.specs.Store.{Store, kept_store}
 use Rattle.etcd_model.specs.Held.{keep, IsHistory}
 use Rattle.etcd_model.proofs.HistoryLaws.{current-after}
 use Rattle.etcd_model.proofs.GrowthLaws.{after_before_space, store_stays, first_none}
-use Rattle.etcd_model.proofs.OnceLaws.{outcome_once, ChangesOnce-opening}
+use Rattle.etcd_model.proofs.OnceLaws.{not_refused, outcome_once, ChangesOnce-opening}
 use Rattle.model_laws.specs.Holding.{KeepAfter, KeepCompact, KeepReads, KeepLook, KeepAhead, KeepRowAt, KeepCells, OpeningIsHistory, StepIsHistory, StepOverKept}
-use Rattle.model_laws.proofs.LastLaws.{true_or_false}
 use Rattle.model_laws.proofs.KeptLaws.{kept_append, kept_kept, kept_true, kept_false, live_kept}
 use Rattle.model_laws.proofs.RecordedLaws.{all_push, all_weaker, changes_are_entries, changes_after, changes_rise, changes_up_to_current, changes_own_their_rows, live_of_changes, rows_of_changes}
 use Rattle.model_laws.proofs.HistoryKeptLaws.{rows_kept, recorded_kept, kept_of_changes}
@@ -103,7 +103,7 @@ keep_reads H le =
 
 ahead_kept : (w : Watching) (c : ℕ) (xs : List Recorded) → c ≤ w.next → filter (is_ahead w) (map entry_of (kept c xs)) ≡ filter (is_ahead w) (map entry_of xs)
 ahead_kept w c [] le = refl
-ahead_kept w c (x ∷ xs) le = elim (true_or_false (keeps c x xs)) [
+ahead_kept w c (x ∷ xs) le = elim (cases_Bool (keeps c x xs)) [
   | inl keep ↦ ap (λ ys. filter (is_ahead w) (map entry_of ys)) (kept_true c x xs keep) ∙ ap (λ es. cond (is_ahead w (entry_of x)) (entry_of x ∷ es) es) (ahead_kept w c xs le)
   | inr lost ↦
       ap (λ ys. filter (is_ahead w) (map entry_of ys)) (kept_false c x xs lost) ∙ ahead_kept w c xs le
@@ -158,11 +158,14 @@ keep_row_at H le = (carries H le).row_at
 pub opening_is_history : OpeningIsHistory
 opening_is_history cluster quota first = record { compacted = omega arith; once = ChangesOnce-opening cluster quota first }
 
+pub none_refused : (S : State History) (step : Step) → first_refusal (early machine.history S step ∷ look_up machine.history S step ∷ []) ≡ None → (early machine.history S step ≡ None) × (look_up machine.history S step ≡ None)
+none_refused S step e = let parts = first_none (early machine.history S step) (look_up machine.history S step ∷ []) e in (parts.0, (first_none (look_up machine.history S step) [] parts.1).0)
+
 -- what a step does that is not refused
 pub after_early : (P : State History → Type 0) (S : State History) (step : Step) → P S → (early machine.history S step ≡ None → look_up machine.history S step ≡ None → P (outcome machine.history S step).state) → P (machine.before_space S step).state
 after_early P S step same done =
     plain (first_refusal (early machine.history S step ∷ look_up machine.history S step ∷ []))
-    (λ e. let parts = first_none (early machine.history S step) (look_up machine.history S step ∷ []) e in done parts.0 (first_none (look_up machine.history S step) [] parts.1).0)
+    (λ e. let parts = none_refused S step e in done parts.0 parts.1)
   where
     plain : (r : Option Refusal) → (r ≡ None → P (outcome machine.history S step).state) → P (decided machine.history S step r).state
     plain None allowed = allowed refl
@@ -170,6 +173,14 @@ after_early P S step same done =
 
 pub after_allowed : (P : State History → Type 0) (S : State History) (step : Step) → P S → (fields step ≡ None → look_up machine.history S step ≡ None → P (outcome machine.history S step).state) → P (machine.before_space S step).state
 after_allowed P S step same done = after_early P S step same (λ e l. done (first_none (fields step) _ e).0 l)
+
+-- a step that is not refused writes before the last revision, and chooses an ID before the last lease ID
+pub none_used_up : (S : State History) (step : Step) → early machine.history S step ≡ None → ((nat_le last_revision (current S.store) && writes step) ≡ false) × ((nat_le last_lease_id S.counter && chooses_id step) ≡ false)
+none_used_up S step e =
+    let revisions = nat_le last_revision (current S.store) && writes step in
+    let ids = nat_le last_lease_id S.counter && chooses_id step in
+    let rest = (first_none (fields step) (used_up machine.history S step ∷ []) e).1 in
+    or_parts revisions ids (not_refused (revisions || ids) UsedUp (first_none (used_up machine.history S step) [] rest).0)
 
 ends_up : (ls : List Lease) (S : State History) → S.store.compacted ≤ current S.store → (fold (λ T l. finish machine.history T l.id) S ls).store.compacted ≤ current (fold (λ T l. finish machine.history T l.id) S ls).store
 ends_up [] S le = le

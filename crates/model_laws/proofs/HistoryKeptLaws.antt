@@ -4,7 +4,8 @@ use Rattle.std.specs.Prelude.{Bool, true, false, not, cond, ◌&&◌, ◌||◌, 
 use Rattle.std.specs.Str.{bytes_eq}
 use Rattle.std.specs.List.{AllByRecursion, list_any, All}
 use Rattle.std.specs.Cmp.Lexicographic.{bytes_decides}
-use Rattle.std.proofs.lemmas.Bool.{and_parts, le-leb, cases_lt, and_right, true≢false}
+use Rattle.std.proofs.Math.Bool.{and-true}
+use Rattle.std.proofs.lemmas.Bool.{cases_Bool, and_parts, le-leb, cases_lt, and_right}
 use Rattle.std.proofs.lemmas.Bool.Decides.{nat_tests}
 use Rattle.std.proofs.lemmas.List.Elements.{All-head, All-tail}
 use Rattle.etcd_types.specs.declared.key_value.KeyValue.{KeyValue}
@@ -14,11 +15,12 @@ use Rattle.etcd_model.specs.declared.state.Entry.{Entry}
 use Rattle.etcd_model.specs.History.{key_of, is_put, entries_after, last_change}
 use Rattle.etcd_model.specs.Kept.{is_last_put, is_kept}
 use Rattle.etcd_model.specs.Changes.{Recorded, OwnRow, entry_at, entry_of, change_of, change_by, changes_of, next_row, last_by, is_up_to, last, keeps, kept, or_before}
+use Rattle.etcd_model.proofs.HistoryLaws.{changes_of as changes_of_key}
 use Rattle.model_laws.specs.Keeping.{KeptOfChanges, RowsOfKept, RecordedOverKept}
-use Rattle.model_laws.proofs.LastLaws.{true_or_false, some_or_none, none_any, any_none, all_last, last_passes}
+use Rattle.model_laws.proofs.LastLaws.{some_or_none, none_any, any_none, all_last, last_passes}
 use Rattle.model_laws.proofs.KeptLaws.{same_key, all_kept, live_kept, last_here}
 use Rattle.model_laws.proofs.RowLaws.{same_rows}
-use Rattle.model_laws.proofs.RecordedLaws.{all_append, all_weaker, changes_are_entries, last_of_changes}
+use Rattle.model_laws.proofs.RecordedLaws.{all_append, all_weaker, changes_are_entries, key_of-change_by, last_of_changes}
 
 -- ---- the rows, and what is recorded next
 
@@ -37,9 +39,19 @@ abbrev pub Apart : List Entry → Type 0
 Apart [] = Unit {0}
 Apart (e ∷ es) = AllByRecursion (λ f. same_place e f ≡ false) es × Apart es
 
-other_key : (n : ℕ) (c : Change) (cs : List Change) → length (filter (λ d. bytes_eq (key_of d) (key_of c)) cs) ≤ 0 → AllByRecursion (λ f. same_place (entry_at n c) f ≡ false) (map (entry_at n) cs)
+-- where a key changes once at most, its first change is its last
+pub no_more : (c : Change) (cs : List Change) → length (changes_of_key (key_of c) (c ∷ cs)) ≤ 1 → length (changes_of_key (key_of c) cs) ≤ 0
+no_more c cs once =
+    let own = (bytes_decides (key_of c) (key_of c)).1 refl in
+    omega (arith, subst (λ b. length (cond b (c ∷ changes_of_key (key_of c) cs) (changes_of_key (key_of c) cs)) ≤ 1) own once)
+
+pub fewer : {X : Type 0} (b : Bool) (x : X) (xs : List X) → length (cond b (x ∷ xs) xs) ≤ 1 → length xs ≤ 1
+fewer true x xs once = omega (arith, once)
+fewer false x xs once = once
+
+other_key : (n : ℕ) (c : Change) (cs : List Change) → length (changes_of_key (key_of c) cs) ≤ 0 → AllByRecursion (λ f. same_place (entry_at n c) f ≡ false) (map (entry_at n) cs)
 other_key n c [] h = tt
-other_key n c (d ∷ ds) h = elim (bytes_eq (key_of d) (key_of c)) as (λ b. bytes_eq (key_of d) (key_of c) ≡ b → length (cond b (d ∷ filter (λ z. bytes_eq (key_of z) (key_of c)) ds) (filter (λ z. bytes_eq (key_of z) (key_of c)) ds)) ≤ 0 → AllByRecursion (λ f. same_place (entry_at n c) f ≡ false) (map (entry_at n) (d ∷ ds))) [
+other_key n c (d ∷ ds) h = elim (bytes_eq (key_of d) (key_of c)) as (λ b. bytes_eq (key_of d) (key_of c) ≡ b → length (cond b (d ∷ changes_of_key (key_of c) ds) (changes_of_key (key_of c) ds)) ≤ 0 → AllByRecursion (λ f. same_place (entry_at n c) f ≡ false) (map (entry_at n) (d ∷ ds))) [
   | true ↦ λ t few. absurd (omega (arith, few))
   | false ↦ λ t few. (ap (λ b. b && nat_eq n n) t, other_key n c ds few)
 ] refl h
@@ -50,23 +62,12 @@ later_place n c es later = all_weaker (λ (f : Entry). n < f.revision) (λ (f : 
     not_same : (n : ℕ) (key : List ℕ) (f : Entry) → n < f.revision → (bytes_eq (key_of f.change) key && nat_eq f.revision n) ≡ false
     not_same n key f h = grind (arith, nat_tests)
 
-apart_at : (n : ℕ) (cs : List Change) (es : List Entry) → ((key : List ℕ) → length (filter (λ c. bytes_eq (key_of c) key) cs) ≤ 1) → AllByRecursion (λ f. n < f.revision) es → Apart es → Apart (map (entry_at n) cs ++ es)
+apart_at : (n : ℕ) (cs : List Change) (es : List Entry) → ((key : List ℕ) → length (changes_of_key key cs) ≤ 1) → AllByRecursion (λ f. n < f.revision) es → Apart es → Apart (map (entry_at n) cs ++ es)
 apart_at n [] es once later apart = apart
-apart_at n (c ∷ cs) es once later apart =
-    let here : bytes_eq (key_of c) (key_of c) ≡ true = (bytes_decides (key_of c) (key_of c)).1 refl in
-    let few : length (filter (λ d. bytes_eq (key_of d) (key_of c)) cs) ≤ 0 =
-    no_more (bytes_eq (key_of c) (key_of c)) here (once (key_of c)) in (
-      all_append (λ (f : Entry). same_place (entry_at n c) f ≡ false) (map (entry_at n) cs) es (other_key n c cs few) (later_place n c es later),
-      apart_at n cs es (λ key. fewer key (bytes_eq (key_of c) key) (once key)) later apart,
-    )
-  where
-    no_more : (b : Bool) → b ≡ true → length (cond b (c ∷ filter (λ d. bytes_eq (key_of d) (key_of c)) cs) (filter (λ d. bytes_eq (key_of d) (key_of c)) cs)) ≤ 1 → length (filter (λ d. bytes_eq (key_of d) (key_of c)) cs) ≤ 0
-    no_more true t h = omega (arith, h)
-    no_more false t h = absurd (true≢false (sym t))
-
-    fewer : (key : List ℕ) (b : Bool) → length (cond b (c ∷ filter (λ d. bytes_eq (key_of d) key) cs) (filter (λ d. bytes_eq (key_of d) key) cs)) ≤ 1 → length (filter (λ d. bytes_eq (key_of d) key) cs) ≤ 1
-    fewer key true h = omega (arith, h)
-    fewer key false h = h
+apart_at n (c ∷ cs) es once later apart = (
+  all_append (λ (f : Entry). same_place (entry_at n c) f ≡ false) (map (entry_at n) cs) es (other_key n c cs (no_more c cs (once (key_of c)))) (later_place n c es later),
+  apart_at n cs es (λ key. fewer (bytes_eq (key_of c) key) c (changes_of_key key cs) (once key)) later apart,
+)
 
 above_at : (m n : ℕ) (cs : List Change) → m < n → AllByRecursion (λ f. m < f.revision) (map (entry_at n) cs)
 above_at m n [] h = tt
@@ -76,18 +77,14 @@ above : (m n : ℕ) (revisions : List (List Change)) → m ≤ n → AllByRecurs
 above m n [] h = tt
 above m n (cs ∷ more) h = all_append (λ (f : Entry). m < f.revision) (map (entry_at (n + 1)) cs) (entries_after (n + 1) more) (above_at m (n + 1) cs (omega (arith, h))) (above m (n + 1) more (omega (arith, h)))
 
-pub entries_apart : (n : ℕ) (revisions : List (List Change)) → ((key : List ℕ) → All (λ cs. length (filter (λ c. bytes_eq (key_of c) key) cs) ≤ 1) revisions) → Apart (entries_after n revisions)
+pub entries_apart : (n : ℕ) (revisions : List (List Change)) → ((key : List ℕ) → All (λ cs. length (changes_of_key key cs) ≤ 1) revisions) → Apart (entries_after n revisions)
 entries_apart n [] once = tt
 entries_apart n (cs ∷ more) once =
-    apart_at (n + 1) cs (entries_after (n + 1) more) (λ key. All-head (λ ds. length (filter (λ c. bytes_eq (key_of c) key) ds) ≤ 1) cs more (once key))
+    apart_at (n + 1) cs (entries_after (n + 1) more) (λ key. All-head (λ ds. length (changes_of_key key ds) ≤ 1) cs more (once key))
     (above (n + 1) (n + 1) more (omega arith))
-    (entries_apart (n + 1) more (λ key. All-tail (λ ds. length (filter (λ c. bytes_eq (key_of c) key) ds) ≤ 1) cs more (once key)))
+    (entries_apart (n + 1) more (λ key. All-tail (λ ds. length (changes_of_key key ds) ≤ 1) cs more (once key)))
 
 -- ---- kept, by the changes that follow and by the last change of the key
-
-pub key_of-entry : (key : List ℕ) (row : Option KeyValue) → key_of (change_by key row) ≡ key
-key_of-entry key None = refl
-key_of-entry key (Some row) = refl
 
 pub is_put-change : (key : List ℕ) (row : Option KeyValue) → is_put (change_by key row) ≡ is_some row
 is_put-change key None = refl
@@ -115,7 +112,7 @@ Alike c all x ys = keeps c x ys ≡ (nat_le c x.revision || is_last_put (entry_o
 
 different : (x y : Recorded) → same_place (entry_of x) (entry_of y) ≡ false → y.key ≡ x.key → nat_eq y.revision x.revision ≡ false
 different x y apart is =
-    let keys : bytes_eq (key_of (change_of y)) (key_of (change_of x)) ≡ true = (bytes_decides _ _).1 (key_of-entry y.key y.row ∙ is ∙ sym (key_of-entry x.key x.row)) in
+    let keys : bytes_eq (key_of (change_of y)) (key_of (change_of x)) ≡ true = (bytes_decides _ _).1 (key_of-change_by y.key y.row ∙ is ∙ sym (key_of-change_by x.key x.row)) in
     sym (ap (λ b. b && nat_eq y.revision x.revision) keys) ∙ apart
 
 pub alike : (c : ℕ) (zs : List Recorded) (x : Recorded) (ys : List Recorded) → AllByRecursion (λ f. same_place (entry_of x) f ≡ false) (map entry_of ys) → Alike c (zs ++ x ∷ ys) x ys
@@ -126,7 +123,7 @@ alike c zs x ys apart = elim (cases_lt x.revision c) [
         let never : list_any (is_up_to x.key c) ys ≡ false = none_any (is_up_to x.key c) ys none in
         let low : x.revision ≤ c = omega (arith, below) in
         ap (λ b. nat_le c x.revision || (is_some x.row && not b)) never
-        ∙ ap (λ b. nat_le c x.revision || b) (and_true (is_some x.row) ∙ sym (own_put x))
+        ∙ ap (λ b. nat_le c x.revision || b) (and-true (is_some x.row) ∙ sym (own_put x))
         ∙ sym (ap (λ o. nat_le c x.revision || is_last_put (entry_of x) (option_map entry_of o)) (last_itself c zs x ys low never))
     | inr some ↦
         let y = some.0 in
@@ -139,10 +136,6 @@ alike c zs x ys apart = elim (cases_lt x.revision c) [
   ]
 ]
   where
-    and_true : (b : Bool) → (b && true) ≡ b
-    and_true true = refl
-    and_true false = refl
-
     nat_eq_itself : (n : ℕ) → nat_eq n n ≡ true
     nat_eq_itself n = grind (arith, nat_tests)
 
@@ -150,7 +143,7 @@ alike c zs x ys apart = elim (cases_lt x.revision c) [
     own_put x = ap (λ b. b && is_put (change_of x)) (nat_eq_itself x.revision) ∙ is_put-change x.key x.row
 
     some_any : (p : Recorded → Bool) (ws : List Recorded) (y : Recorded) → last_by p ws ≡ Some y → list_any p ws ≡ true
-    some_any p ws y is = elim (true_or_false (list_any p ws)) [
+    some_any p ws y is = elim (cases_Bool (list_any p ws)) [
       | inl there ↦ there
       | inr not_there ↦ let none : last_by p ws ≡ None = any_none p ws not_there in let bad : ⊥ = cc in absurd bad
     ]
@@ -165,7 +158,7 @@ kept_rest H zs (x ∷ ys) is apart =
     alike c zs x ys apart.0
     ∙ ap (λ (all : List Recorded). nat_le c x.revision || is_last_put (entry_of x) (option_map entry_of (last x.key c all))) (sym is)
     ∙ ap (λ o. nat_le c x.revision || is_last_put (entry_of x) o) (last_of_changes H x.key c)
-    ∙ ap (λ k. nat_le c x.revision || is_last_put (entry_of x) (last_change H k c)) (sym (key_of-entry x.key x.row)) in
+    ∙ ap (λ k. nat_le c x.revision || is_last_put (entry_of x) (last_change H k c)) (sym (key_of-change_by x.key x.row)) in
     out (keeps c x ys) ∙ ap (λ b. cond b (entry_of x ∷ map entry_of (kept c ys)) (map entry_of (kept c ys))) same ∙ ap (λ es. cond (is_kept H (entry_of x)) (entry_of x ∷ es) es) rest
   where
     out : (b : Bool) → map entry_of (if b then x ∷ kept H.compacted ys else kept H.compacted ys) ≡ cond b (entry_of x ∷ map entry_of (kept H.compacted ys)) (map entry_of (kept H.compacted ys))

@@ -5,11 +5,11 @@ use Rattle.std.specs.List.{list_any, AllByRecursion}
 use Rattle.std.specs.Str.{bytes_eq}
 use Rattle.std.specs.Cmp.Lexicographic.{bytes_decides}
 use Rattle.std.proofs.lemmas.Bool.Decides.{nat_tests}
-use Rattle.std.proofs.lemmas.Bool.{cases_lt}
+use Rattle.std.proofs.lemmas.Bool.{cases_Bool, cases_lt}
 use Rattle.etcd_types.specs.declared.key_value.KeyValue.{KeyValue}
 use Rattle.etcd_model.specs.Changes.{Recorded, last_by, is_up_to, last, live, keeps, kept, since, Rises, or_before}
 use Rattle.model_laws.specs.Keeping.{KeptOfAppended, KeptOfKept, LiveOfKept, SinceOfKept, KeptRises}
-use Rattle.model_laws.proofs.LastLaws.{true_or_false, some_or_none, none_any, all_last}
+use Rattle.model_laws.proofs.LastLaws.{some_or_none, none_any, all_last}
 
 pub since_kept : SinceOfKept
 since_kept c n [] le = refl
@@ -114,8 +114,8 @@ lost_more key c r x xs y le all l = record {
   last = last_there key r x y xs l.last;
   delete = l.delete;
   below = l.below;
-  none = elim (true_or_false (keeps c x xs)) [
-    | inl keep ↦ elim (true_or_false (is_up_to key r x)) [
+  none = elim (cases_Bool (keeps c x xs)) [
+    | inl keep ↦ elim (cases_Bool (is_up_to key r x)) [
       | inl of ↦
           let eq = same_key x.key key (up_to_key key r x of) in
           let before : x.revision ≤ y.revision = all_last (is_up_to key r) (λ z. x.revision ≤ z.revision) xs y all l.last in
@@ -135,10 +135,10 @@ lost_more key c r x xs y le all l = record {
 last_kept : (key : List ℕ) (c r : ℕ) (xs : List Recorded) → c ≤ r → Rises xs → LastKept key c r xs
 last_kept key c r [] le rises = inl refl
 last_kept key c r (x ∷ xs) le rises = elim (last_kept key c r xs le rises.1) [
-  | inl same_last ↦ elim (true_or_false (keeps c x xs)) [
+  | inl same_last ↦ elim (cases_Bool (keeps c x xs)) [
     | inl keep ↦ inl (ap (last key r) (kept_true c x xs keep) ∙ ap (λ o. or_before o (if is_up_to key r x then Some x else None)) same_last)
     | inr lost ↦ elim (some_or_none (last key r xs)) [
-      | inl none ↦ elim (true_or_false (is_up_to key r x)) [
+      | inl none ↦ elim (cases_Bool (is_up_to key r x)) [
         | inl of ↦
             let eq = same_key x.key key (up_to_key key r x of) in
             let any = subst (λ (k : List ℕ). list_any (is_up_to k r) xs ≡ false) (sym eq) (none_any (is_up_to key r) xs none) in
@@ -172,14 +172,14 @@ live_kept key c r xs le rises = elim (last_kept key c r xs le rises) [
 
 pub all_kept : (P : Recorded → Type 0) (c : ℕ) (xs : List Recorded) → AllByRecursion P xs → AllByRecursion P (kept c xs)
 all_kept P c [] all = tt
-all_kept P c (x ∷ xs) all = elim (true_or_false (keeps c x xs)) [
+all_kept P c (x ∷ xs) all = elim (cases_Bool (keeps c x xs)) [
   | inl keep ↦ subst (AllByRecursion P) (sym (kept_true c x xs keep)) (all.0, all_kept P c xs all.1)
   | inr lost ↦ subst (AllByRecursion P) (sym (kept_false c x xs lost)) (all_kept P c xs all.1)
 ]
 
 pub kept_rises : KeptRises
 kept_rises c [] rises = tt
-kept_rises c (x ∷ xs) rises = elim (true_or_false (keeps c x xs)) [
+kept_rises c (x ∷ xs) rises = elim (cases_Bool (keeps c x xs)) [
   | inl keep ↦ subst Rises (sym (kept_true c x xs keep)) (all_kept (λ y. x.revision ≤ y.revision) c xs rises.0, kept_rises c xs rises.1)
   | inr lost ↦ subst Rises (sym (kept_false c x xs lost)) (kept_rises c xs rises.1)
 ]

@@ -2,6 +2,7 @@
 use Rattle.std.proofs.Common.{◌≡◌, List, [], ◌∷◌, ◌++◌, Bool, true, false, Option, Some, None, if◌then◌else◌, sym, ap, ◌∙◌, refl, subst, arith, inl, inr, ◌⊎◌, map}
 use Rattle.std.specs.Prelude.{option_map, filter, cond}
 use Rattle.std.specs.List.{list_any, AllByRecursion, last_or}
+use Rattle.std.proofs.lemmas.Bool.{cases_Bool}
 use Rattle.std.proofs.lemmas.Option.{cond_some}
 use Rattle.etcd_model.specs.Changes.{or_before, last_by}
 
@@ -21,11 +22,7 @@ pub some_or_none : {X : Type 0} (o : Option X) → (o ≡ None) ⊎ ((y : X) × 
 some_or_none None = inl refl
 some_or_none (Some y) = inr (y, refl)
 
-pub true_or_false : (b : Bool) → (b ≡ true) ⊎ (b ≡ false)
-true_or_false true = inl refl
-true_or_false false = inr refl
-
-or_before-none : {X : Type 0} (o : Option X) → or_before o None ≡ o
+pub or_before-none : {X : Type 0} (o : Option X) → or_before o None ≡ o
 or_before-none None = refl
 or_before-none (Some x) = refl
 
@@ -58,7 +55,7 @@ none_any p (x ∷ xs) is =
 
 pub any_none : {X : Type 0} (p : X → Bool) (xs : List X) → list_any p xs ≡ false → last_by p xs ≡ None
 any_none p [] h = refl
-any_none p (x ∷ xs) h = elim (true_or_false (p x)) [
+any_none p (x ∷ xs) h = elim (cases_Bool (p x)) [
   | inl here ↦ let bad : ⊥ = grind arith in absurd bad
   | inr other ↦ let rest : list_any p xs ≡ false = grind arith in let none : last_by p xs ≡ None = any_none p xs rest in rw (none, other) refl
 ]

@@ -1,13 +1,13 @@
 -- The ID that is chosen for a lease, and the order in which leases end.
 use Rattle.std.proofs.Common.{◌≡◌, ℕ, ◌+◌, ◌<◌, ◌≤◌, List, [], ◌∷◌, length, refl, ap, ◌∙◌, sym, arith, subst, inl, inr}
-use Rattle.std.specs.Prelude.{ℤ, pos, Bool, true, false, not, cond, ◌||◌, fold, filter, nat_le, if◌then◌else◌}
+use Rattle.std.specs.Prelude.{ℤ, pos, Bool, true, false, not, cond, fold, filter, nat_le, if◌then◌else◌}
 use Rattle.std.specs.List.{AllByRecursion}
 use Rattle.std.specs.List.Sorted.{IsStrictlySortedBy}
 use Rattle.std.specs.Cmp.{IsTotalOrder}
 use Rattle.std.specs.Ordering.{int_cmp, int_eq, nat_cmp, is_eq, ordering_then}
 use Rattle.std.specs.declared.cmp.Ordering.{Ordering}
 use Rattle.std.specs.declared.cmp.Ordering.TheVariants.{Less, Equal, Greater}
-use Rattle.std.proofs.lemmas.Bool.{or_from, false_from_ne_true, true≢false, cases_lt}
+use Rattle.std.proofs.lemmas.Bool.{or_from, or_left, or_right, false_from_ne_true, true≢false, cases_lt}
 use Rattle.std.proofs.lemmas.Bool.Decides.{nat_tests, Decides-int_eq}
 use Rattle.std.proofs.lemmas.Cmp.{on_total, then_total, int_cmp_total, nat_cmp_total, tied_itself}
 use Rattle.std.proofs.lemmas.List.Kept.{IsStrictlySortedBy-filter}
@@ -86,13 +86,6 @@ least n (l ∷ ls) h = elim (int_eq l.id (pos n)) as (λ b. int_eq l.id (pos n) 
         taken = λ k low high. or_right (int_eq l.id (pos k)) (has_lease ls (pos k)) (r.taken k low high);
       }
 ] refl
-  where
-    or_left : (a b : Bool) → a ≡ true → (a || b) ≡ true
-    or_left a b e = ap (λ c. c || b) e
-
-    or_right : (a b : Bool) → b ≡ true → (a || b) ≡ true
-    or_right true b e = refl
-    or_right false b e = e
 
 pub free_id_is_least : FreeIdIsLeast
 free_id_is_least counter leases h = let r = least counter leases h in (r.from, r.free, r.taken)

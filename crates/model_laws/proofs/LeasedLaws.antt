@@ -4,7 +4,7 @@ use Rattle.std.specs.Prelude.{ℤ, pos, Bool, true, false, not, cond, ◌&&◌, 
 use Rattle.std.specs.List.{AllByRecursion, list_any}
 use Rattle.std.specs.Ordering.{int_eq, is_eq}
 use Rattle.std.specs.Str.{bytes_eq}
-use Rattle.std.proofs.lemmas.Bool.{true≢false, or_parts, false_from_ne_true}
+use Rattle.std.proofs.lemmas.Bool.{true≢false, or_parts, or_from, or_right, false_from_ne_true}
 use Rattle.std.proofs.lemmas.Bool.Decides.{nat_tests}
 use Rattle.std.proofs.lemmas.List.{append-nil}
 use Rattle.std.proofs.lemmas.List.Elements.{recursion_from_All}
@@ -45,14 +45,15 @@ use Rattle.etcd_model.specs.Changes.{entry_at, next_row}
 use Rattle.etcd_model.specs.Held.{HasKeys, HoldsLeased, is_leased, by_id}
 use Rattle.etcd_model.proofs.OrderLaws.{any-put_in}
 use Rattle.etcd_model.proofs.RowLaws.{all_rows}
-use Rattle.etcd_model.proofs.HistoryLaws.{is_past, changes_of, current-after, kv-after, kv-key}
+use Rattle.etcd_model.proofs.HistoryLaws.{is_past, changes_of, kv-current_after, kv-key}
 use Rattle.etcd_model.proofs.PutLaws.{rows-interval, row_among}
 use Rattle.etcd_model.proofs.GrowthLaws.{first_none, store_stays}
+use Rattle.etcd_model.proofs.OnceLaws.{not_refused}
 use Rattle.model_laws.specs.Runs.{OpeningHasKeys, StepHasKeys, OpeningHoldsLeased, StepHoldsLeased}
 use Rattle.model_laws.proofs.RecordedLaws.{all_push, all_append}
 use Rattle.model_laws.proofs.HeldLaws.{after_allowed, after_machine}
 use Rattle.model_laws.proofs.LeaseLaws.{same_id}
-use Rattle.model_laws.proofs.RunLaws.{or_right, quiet_outcome}
+use Rattle.model_laws.proofs.RunLaws.{quiet_outcome}
 
 -- ---- keys
 
@@ -123,10 +124,6 @@ keys_ends : (ls : List Lease) (S : State History) → HasKeys S.store → HasKey
 keys_ends [] S has = has
 keys_ends (l ∷ ls) S has = keys_ends ls (finish machine.history S l.id) (keys_after S.store (map Del (attached (reads machine.history S) l.id)) has (keyed_attached S.store has l.id))
 
-not_refused : (b : Bool) (r : Refusal) → refused_if b r ≡ None → b ≡ false
-not_refused true r h = let bad : ⊥ = cc in absurd bad
-not_refused false r h = refl
-
 put_has_key : (p : PutReq) → fields (Put p) ≡ None → is_empty p.key ≡ false
 put_has_key p h = not_refused (is_empty p.key) NoKey (first_none (refused_if (is_empty p.key) NoKey) _ h).0
 
@@ -138,12 +135,9 @@ branch_has_keys R t h =
     let parts = or_parts (list_any op_lacks_key t.success) (list_any op_lacks_key t.failure) (sym (list_any-append op_lacks_key t.success t.failure) ∙ no) in
     elim (all_hold R t.compare) as (λ b. list_any op_lacks_key (if b then t.success else t.failure) ≡ false) [ true ↦ parts.0 | false ↦ parts.1 ]
 
-or_false : (b : Bool) → b ≡ false → (b || false) ≡ false
-or_false b h = ap (λ c. c || false) h
-
 keys_outcome : (S : State History) (step : Step) → HasKeys S.store → fields step ≡ None → HasKeys (outcome machine.history S step).state.store
-keys_outcome S (Put p) has f = keys_after S.store (pending machine.history S (PutOp p ∷ [])) has (keyed_ops S.store has (PutOp p ∷ []) [] (or_false (is_empty p.key) (put_has_key p f)) tt)
-keys_outcome S (Delete d) has f = keys_after S.store (pending machine.history S (DeleteOp d ∷ [])) has (keyed_ops S.store has (DeleteOp d ∷ []) [] (or_false (is_empty d.key) (not_refused (is_empty d.key) NoKey f)) tt)
+keys_outcome S (Put p) has f = keys_after S.store (pending machine.history S (PutOp p ∷ [])) has (keyed_ops S.store has (PutOp p ∷ []) [] (or_from (is_empty p.key) false (put_has_key p f) refl) tt)
+keys_outcome S (Delete d) has f = keys_after S.store (pending machine.history S (DeleteOp d ∷ [])) has (keyed_ops S.store has (DeleteOp d ∷ []) [] (or_from (is_empty d.key) false (not_refused (is_empty d.key) NoKey f) refl) tt)
 keys_outcome S (Txn t) has f = let ops = branch (reads machine.history S) t in keys_after S.store (pending machine.history S ops) has (keyed_ops S.store has ops [] (branch_has_keys (reads machine.history S) t f) tt)
 keys_outcome S (Compact r) has f = has
 keys_outcome S (Revoke id) has f = keys_after S.store (map Del (attached (reads machine.history S) id)) has (keyed_attached S.store has id)
@@ -168,10 +162,6 @@ abbrev ChangeLeased : List Lease → Change → Type 0
 ChangeLeased leases (Set key value lease) = is_leased leases lease ≡ true
 ChangeLeased leases (Del key) = Unit {0}
 
-row_after : (H : History) (cs : List Change) (key : List ℕ) → kv (history.after H cs) key (current (history.after H cs)) ≡ fold (next_row (current H + 1)) (kv H key (current H)) (changes_of key cs)
-row_after H [] key = refl
-row_after H (c ∷ cs) key = ap (kv (history.after H (c ∷ cs)) key) (current-after H c cs) ∙ kv-after H (c ∷ cs) key
-
 leased_next : (leases : List Lease) (r : ℕ) (o : Option KeyValue) (c : Change) → ChangeLeased leases c → RowLeased leases (next_row r o c)
 leased_next leases r o (Set key value lease) h = h
 leased_next leases r o (Del key) h = tt
@@ -184,7 +174,7 @@ leased_fold leases r key o (c ∷ cs) h all = elim (bytes_eq (key_of c) key) as 
 ]
 
 leased_after : (S : State History) (cs : List Change) → HoldsLeased S → AllByRecursion (ChangeLeased S.leases) cs → (key : List ℕ) → RowLeased S.leases (kv (history.after S.store cs) key (current (history.after S.store cs)))
-leased_after S cs has all key = subst (RowLeased S.leases) (sym (row_after S.store cs key)) (leased_fold S.leases (current S.store + 1) key (kv S.store key (current S.store)) cs (has key) all)
+leased_after S cs has all key = subst (RowLeased S.leases) (sym (kv-current_after S.store cs key)) (leased_fold S.leases (current S.store + 1) key (kv S.store key (current S.store)) cs (has key) all)
 
 -- a put whose lease is there
 put_lease : (b c : Bool) (r : Refusal) (more : Option Refusal) → (if not b && not c then Some r else more) ≡ None → (b || c) ≡ true
@@ -295,8 +285,8 @@ finish_leased S id given has key =
     let ids = attached (machine.reads_of H) id in
     let left = filter (λ (l : Lease). not (int_eq l.id id)) S.leases in
     elim (fold_deletes (current H + 1) key (kv H key (current H)) ids) [
-      | inl gone ↦ subst (RowLeased left) (sym (row_after H (map Del ids) key ∙ gone)) tt
-      | inr stays ↦ subst (RowLeased left) (sym (row_after H (map Del ids) key ∙ stays.1)) (still (kv H key (current H)) refl (has key) stays.0)
+      | inl gone ↦ subst (RowLeased left) (sym (kv-current_after H (map Del ids) key ∙ gone)) tt
+      | inr stays ↦ subst (RowLeased left) (sym (kv-current_after H (map Del ids) key ∙ stays.1)) (still (kv H key (current H)) refl (has key) stays.0)
     ]
   where
     still : (o : Option KeyValue) → kv S.store key (current S.store) ≡ o → RowLeased S.leases o → list_any (λ k. bytes_eq k key) (attached (machine.reads_of S.store) id) ≡ false → RowLeased (filter (λ (l : Lease). not (int_eq l.id id)) S.leases) o

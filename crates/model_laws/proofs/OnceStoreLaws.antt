@@ -5,7 +5,7 @@ use Rattle.std.specs.List.{AllByRecursion, list_any}
 use Rattle.std.specs.Ordering.{int_eq}
 use Rattle.std.specs.Str.{bytes_eq}
 use Rattle.std.specs.Cmp.Lexicographic.{bytes_decides}
-use Rattle.std.proofs.lemmas.Bool.{le-leb, or_parts, or_from, true≢false, false_from_ne_true}
+use Rattle.std.proofs.lemmas.Bool.{or_parts, or_from, true≢false, false_from_ne_true}
 use Rattle.std.proofs.Common.{append_assoc}
 use Rattle.std.proofs.lemmas.List.{append-nil}
 use Rattle.std.proofs.lemmas.List.Kept.{IsStrictlySortedBy-filter}
@@ -24,7 +24,8 @@ use Rattle.etcd_model.proofs.OnceLaws.{Shows, branch_once, taken_branch, no_dele
 use Rattle.model_laws.specs.Recording.{by_key}
 use Rattle.model_laws.specs.Once.{RunChangesOnce, OpeningChangesOnce, TakenBranchIsDistinct, BranchChangesOnce, FinishChangesOnce, RecordedWhereOnce}
 use Rattle.model_laws.proofs.RowLaws.{has_key, row_found, rows_inside, rows_rise}
-use Rattle.model_laws.proofs.RecordedLaws.{live_push}
+use Rattle.model_laws.proofs.RecordedLaws.{live_push, live_push_up_to}
+use Rattle.model_laws.proofs.HistoryKeptLaws.{no_more, fewer}
 use Rattle.model_laws.proofs.SpaceLaws.{row_pending, after_is_store}
 
 pub run_changes_once : RunChangesOnce
@@ -43,15 +44,15 @@ pub live_revision : (key : List ℕ) (n : ℕ) (xs : List Recorded) (cs : List C
 live_revision key n xs [] = refl
 live_revision key n xs (c ∷ cs) =
     let y = recorded xs (entry_at n c) in
-    let here : nat_le n n ≡ true = le-leb n n (omega arith) in
     live_revision key n (xs ++ y ∷ []) cs
-    ∙ ap (λ o. fold (next_row n) o (changes_of key cs)) (live_push key n xs y ∙ ap (λ (t : Bool). if bytes_eq (key_of c) key && t then y.row else live key n xs) here)
-    ∙ elim (bytes_eq (key_of c) key) as (λ b. bytes_eq (key_of c) key ≡ b → fold (next_row n) (if b && true then y.row else live key n xs) (changes_of key cs) ≡ fold (next_row n) (live key n xs) (cond b (c ∷ changes_of key cs) (changes_of key cs))) [
+    ∙ ap (λ o. fold (next_row n) o (changes_of key cs)) (live_push_up_to key n xs y (omega arith))
+    ∙ elim (bytes_eq (key_of c) key) as (λ b. bytes_eq (key_of c) key ≡ b → fold (next_row n) (if b then y.row else live key n xs) (changes_of key cs) ≡ fold (next_row n) (live key n xs) (cond b (c ∷ changes_of key cs) (changes_of key cs))) [
       | true ↦ λ e. ap (λ k. fold (next_row n) (next_row n (live k n xs) c) (changes_of key cs)) ((bytes_decides (key_of c) key).0 e)
       | false ↦ λ e. refl
     ] refl
 
-none_found : (key : List ℕ) (rs : List KeyValue) → find (has_key key) rs ≡ None → list_any (has_key key) rs ≡ false
+-- a key that is not found is at none of the rows
+pub none_found : (key : List ℕ) (rs : List KeyValue) → find (has_key key) rs ≡ None → list_any (has_key key) rs ≡ false
 none_found key [] h = refl
 none_found key (r ∷ rs) h = step (none_found key rs) (bytes_eq r.key key) h
   where
@@ -122,15 +123,7 @@ pub recorded_where_once : RecordedWhereOnce
 recorded_where_once n xs [] once = sym (append-nil xs)
 recorded_where_once n xs (c ∷ cs) once =
     let y = recorded xs (entry_at n c) in
-    let apart = keys_apart (key_of c) cs (no_more (bytes_eq (key_of c) (key_of c)) ((bytes_decides (key_of c) (key_of c)).1 refl) (once (key_of c))) in
-    recorded_where_once n (xs ++ y ∷ []) cs (λ key. fewer key (bytes_eq (key_of c) key) (once key))
+    let apart = keys_apart (key_of c) cs (no_more c cs (once (key_of c))) in
+    recorded_where_once n (xs ++ y ∷ []) cs (λ key. fewer (bytes_eq (key_of c) key) c (changes_of key cs) (once key))
     ∙ ap (λ ys. (xs ++ y ∷ []) ++ ys) (others_recorded n xs y cs apart)
     ∙ append_assoc xs (y ∷ []) (map (λ d. recorded xs (entry_at n d)) cs)
-  where
-    no_more : (b : Bool) → b ≡ true → length (cond b (c ∷ changes_of (key_of c) cs) (changes_of (key_of c) cs)) ≤ 1 → length (changes_of (key_of c) cs) ≤ 0
-    no_more true t h = omega (arith, h)
-    no_more false t h = absurd (true≢false (sym t))
-
-    fewer : (key : List ℕ) (b : Bool) → length (cond b (c ∷ changes_of key cs) (changes_of key cs)) ≤ 1 → length (changes_of key cs) ≤ 1
-    fewer key true h = omega (arith, h)
-    fewer key false h = h

@@ -1,9 +1,9 @@
 -- What one more pending change makes of what is read.
 use Rattle.std.proofs.Common.{◌≡◌, ℕ, ◌+◌, List, [], ◌∷◌, ◌++◌, refl, ap, ◌∙◌, sym, arith, map}
-use Rattle.std.specs.Prelude.{Bool, true, false, not, ◌&&◌, fold, filter, filter_map, Some, None, if◌then◌else◌}
+use Rattle.std.specs.Prelude.{Bool, true, false, not, fold, filter, filter_map, Some, None, if◌then◌else◌}
 use Rattle.std.specs.Str.{bytes_eq}
 use Rattle.std.specs.Cmp.Lexicographic.{bytes_decides}
-use Rattle.std.proofs.lemmas.Bool.{le-leb, true≢false, false_from_ne_true}
+use Rattle.std.proofs.lemmas.Bool.{true≢false, false_from_ne_true}
 use Rattle.std.proofs.lemmas.List.{map-append}
 use Rattle.std.proofs.lemmas.List.Sums.{fold-append}
 use Rattle.std.proofs.lemmas.List.Kept.{IsStrictlySortedBy-filter}
@@ -19,7 +19,7 @@ use Rattle.etcd_model.proofs.PutLaws.{every_one}
 use Rattle.model_laws.specs.Recording.{by_key}
 use Rattle.model_laws.specs.Pending.{RowsRise, RowAmong, RowsOfKey, RowsInside, RowWithPending, RowsAfterPut, RowsAfterDelete, RowsAtNext}
 use Rattle.model_laws.proofs.RowLaws.{live-key, absent, keys_ascend, rows_by_their_keys, rows_rise, row_found, rows_inside}
-use Rattle.model_laws.proofs.RecordedLaws.{live_push}
+use Rattle.model_laws.proofs.RecordedLaws.{live_push_up_to}
 use Rattle.model_laws.proofs.SpaceLaws.{pend, own_pend, pend_push, row_pending, rows_pending, find_without}
 use Rattle.model_laws.proofs.OnceStoreLaws.{live_revision}
 
@@ -50,13 +50,7 @@ rows_at_next s cs interval is = ap (rows interval (s.current + 1)) (pend_changes
 
 -- what a key shows once one more change of the revision is recorded
 shown_after : (n : ℕ) (xs : List Recorded) (c : Change) (key : List ℕ) → live key n (xs ++ recorded xs (entry_at n c) ∷ []) ≡ (if bytes_eq (key_of c) key then next_row n (live (key_of c) n xs) c else live key n xs)
-shown_after n xs c key =
-    let y = recorded xs (entry_at n c) in
-    live_push key n xs y ∙ ap (λ (b : Bool). if b then y.row else live key n xs) (ap (λ t. bytes_eq (key_of c) key && t) (le-leb n n (omega arith)) ∙ and_true (bytes_eq (key_of c) key))
-  where
-    and_true : (b : Bool) → (b && true) ≡ b
-    and_true true = refl
-    and_true false = refl
+shown_after n xs c key = live_push_up_to key n xs (recorded xs (entry_at n c)) (omega arith)
 
 keys_push : (xs : List Recorded) (y : Recorded) → keys (xs ++ y ∷ []) ≡ put_in key_cmp (keys xs) y.key
 keys_push xs y =

@@ -5,6 +5,7 @@ use Rattle.std.specs.List.{AllByRecursion, list_any}
 use Rattle.std.specs.List.Sorted.{IsStrictlySortedBy}
 use Rattle.std.specs.Ordering.{int_eq, int_cmp}
 use Rattle.std.specs.declared.cmp.Ordering.TheVariants.{Less, Equal, Greater}
+use Rattle.std.proofs.lemmas.Option.{none-some}
 use Rattle.std.proofs.lemmas.Bool.{true≢false, false≢true, false_from_ne_true, or_from}
 use Rattle.std.proofs.lemmas.Bool.Decides.{nat_tests}
 use Rattle.etcd_types.specs.declared.txn.Op.{Op}
@@ -42,7 +43,7 @@ use Rattle.etcd_model.proofs.GrowthLaws.{first_none}
 use Rattle.etcd_model.proofs.OnceLaws.{outcome_once, finish_once}
 use Rattle.model_laws.specs.Runs.{StepWithinQuota, RunWithinQuota}
 use Rattle.model_laws.proofs.CarryLaws.{above, up_to_current}
-use Rattle.model_laws.proofs.HeldLaws.{up_after, carries, keep_after, keep_compact, keep_cells, step_is_history}
+use Rattle.model_laws.proofs.HeldLaws.{up_after, none_refused, carries, keep_after, keep_compact, keep_cells, step_is_history}
 use Rattle.model_laws.proofs.SpaceLaws.{keep_is_store, no_put_takes_none, finish_takes_none, compaction_takes_none}
 use Rattle.model_laws.proofs.LeaseLaws.{by_id_total, same_id}
 use Rattle.model_laws.proofs.RunLaws.{either, quiet_outcome, step_has_leases, step_keeps_quota}
@@ -180,24 +181,18 @@ allowed_falls S step (Some r) fall = omega arith
 abbrev first : State History → Step → Option Refusal
 first S step = first_refusal (early machine.history S step ∷ look_up machine.history S step ∷ [])
 
-none_refused : (S : State History) (step : Step) → first S step ≡ None → (early machine.history S step ≡ None) × (look_up machine.history S step ≡ None)
-none_refused S step e = let parts = first_none (early machine.history S step) (look_up machine.history S step ∷ []) e in (parts.0, (first_none (look_up machine.history S step) [] parts.1).0)
-
 before_falls : (S : State History) (step : Step) → IsHistory S.store → HasLeases S → adds (reads machine.history S) step ≡ false → CellsFall S (machine.before_space S step).state
 before_falls S step is has h = allowed_falls S step (first S step) (λ e. let parts = none_refused S step e in falls S step is has (first_none (fields step) _ parts.0).0 parts.1 h)
 
 abbrev Bounded : State History → State History → Type 0
 Bounded S T = used machine.history T ≤ max S.quota (used machine.history S)
 
-not_some : (r : Refusal) (o : Option Refusal) → o ≡ Some r → o ≡ None → ⊥
-not_some r o e f = cc
-
 counted : (S : State History) (step : Step) → IsHistory S.store → HasLeases S → (r : Option Refusal) → look_up machine.history S step ≡ r → Bounded S (stepping.within_quota machine.history S step (machine.before_space S step) r).state
-counted S step is has (Some r) e = let fall = refused_falls S step (first S step) (λ f. not_some r (look_up machine.history S step) e (none_refused S step f).1) in omega (arith, fall)
+counted S step is has (Some r) e = let fall = refused_falls S step (first S step) (λ f. none-some r (sym (none_refused S step f).1 ∙ e)) in omega (arith, fall)
 counted S step is has None e = bounded S step (adds (reads machine.history S) step) refl (machine.before_space S step) (before_falls S step is has)
 
 checked : (S : State History) (step : Step) → IsHistory S.store → HasLeases S → (r : Option Refusal) → early machine.history S step ≡ r → Bounded S (stepping.unless_alarmed machine.history S step (machine.before_space S step) r).state
-checked S step is has (Some r) e = let fall = refused_falls S step (first S step) (λ f. not_some r (early machine.history S step) e (none_refused S step f).0) in omega (arith, fall)
+checked S step is has (Some r) e = let fall = refused_falls S step (first S step) (λ f. none-some r (sym (none_refused S step f).0 ∙ e)) in omega (arith, fall)
 checked S step is has None e = either (Bounded S) (S.alarm && may_add step) (record { state = S; reply = Refused NoSpace }) (stepping.within_quota machine.history S step (machine.before_space S step) (look_up machine.history S step)) (omega arith) (counted S step is has (look_up machine.history S step) refl)
 
 pub step_within_quota : StepWithinQuota

@@ -4,6 +4,7 @@ use Rattle.std.specs.Prelude.{Bool, true, false, cond, ◌&&◌, fold, filter, O
 use Rattle.std.specs.Str.{bytes_eq}
 use Rattle.std.specs.List.{AllByRecursion}
 use Rattle.std.specs.Cmp.Lexicographic.{bytes_decides}
+use Rattle.std.proofs.Math.Bool.{and-true}
 use Rattle.std.proofs.lemmas.Bool.{and_parts, le-leb, leb-true}
 use Rattle.std.proofs.lemmas.List.{append-nil, map-append}
 use Rattle.std.proofs.lemmas.List.Elements.{recursion_from_All}
@@ -127,6 +128,12 @@ live_push key r xs y = ap (option_and_then (λ (x : Recorded). x.row)) (last_pus
     out true = refl
     out false = refl
 
+-- a change up to the revision decides what its key shows there
+pub live_push_up_to : (key : List ℕ) (r : ℕ) (xs : List Recorded) (y : Recorded) → y.revision ≤ r → live key r (xs ++ y ∷ []) ≡ (if bytes_eq y.key key then y.row else live key r xs)
+live_push_up_to key r xs y low =
+    live_push key r xs y
+    ∙ ap (λ (b : Bool). if b then y.row else live key r xs) (ap (λ b. bytes_eq y.key key && b) (le-leb y.revision r low) ∙ and-true (bytes_eq y.key key))
+
 live_fold : (key : List ℕ) (r n : ℕ) (xs : List Recorded) (es : List Entry) → AllByRecursion (λ x. x.revision ≤ n) xs → AllByRecursion (λ e. n ≤ e.revision) es → EntriesRise es
     → live key r (fold record_change xs es) ≡ fold next_by (live key r xs) (filter (is_past key r) es)
 live_fold key r n xs [] up from rise = refl
@@ -147,7 +154,7 @@ live_fold key r n xs (e ∷ es) up from rise =
 pub live_of_changes : LiveOfChanges
 live_of_changes H key r = live_fold key r 0 [] (entries H) tt (all_each (λ (e : Entry). 0 ≤ e.revision) (λ e. omega arith) (entries H)) (entries_rise H.first H.revisions) ∙ sym (kv_by_changes H key r)
 
-key_of-change_by : (key : List ℕ) (row : Option KeyValue) → key_of (change_by key row) ≡ key
+pub key_of-change_by : (key : List ℕ) (row : Option KeyValue) → key_of (change_by key row) ≡ key
 key_of-change_by key None = refl
 key_of-change_by key (Some row) = refl
 

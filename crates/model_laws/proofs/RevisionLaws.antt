@@ -1,6 +1,6 @@
 -- The revisions and the live keys together stay within a bound.
 use Rattle.std.proofs.Common.{◌≡◌, ℕ, ◌+◌, ◌<◌, ◌≤◌, List, [], ◌∷◌, ◌++◌, length, refl, ap, ◌∙◌, sym, arith, subst, map}
-use Rattle.std.specs.Prelude.{ℤ, Bool, true, false, ◌&&◌, ◌||◌, fold, Option, Some, None, max, min, nat_le, if◌then◌else◌}
+use Rattle.std.specs.Prelude.{ℤ, Bool, true, false, ◌&&◌, fold, Option, Some, None, max, min, nat_le, if◌then◌else◌}
 use Rattle.std.specs.List.{list_any}
 use Rattle.std.proofs.lemmas.Bool.{true≢false, false≢true, or_parts}
 use Rattle.std.proofs.lemmas.Bool.Decides.{nat_tests}
@@ -11,8 +11,7 @@ use Rattle.etcd_types.specs.declared.txn.Op.{Op}
 use Rattle.etcd_types.specs.declared.txn.Op.TheVariants.{Range as RangeOp, Put as PutOp, Delete as DeleteOp, Nested}
 use Rattle.etcd_types.specs.declared.step.Step.{Step}
 use Rattle.etcd_types.specs.declared.step.Step.TheVariants.{Put, Delete, Txn, Compact, Grant, Revoke, KeepAlive, Tick}
-use Rattle.etcd_types.specs.declared.refusal.Refusal.TheVariants.{UsedUp}
-use Rattle.etcd_types.specs.Limits.{last_moment, last_revision, last_lease_id}
+use Rattle.etcd_types.specs.Limits.{last_moment, last_revision}
 use Rattle.etcd_model.specs.declared.state.Lease.{Lease}
 use Rattle.etcd_model.specs.declared.state.History.{History}
 use Rattle.etcd_model.specs.declared.state.Change.{Change}
@@ -26,16 +25,15 @@ use Rattle.etcd_model.specs.Compares.{all_hold}
 use Rattle.etcd_model.specs.Operations.{branch, pending_after}
 use Rattle.etcd_model.specs.Tenant.{reads, used}
 use Rattle.etcd_model.specs.Leases.{lease_at, attached, finish, run_out}
-use Rattle.etcd_model.specs.Fields.{fields, refused_if}
-use Rattle.etcd_model.specs.Stepping.{writes, writes_op, chooses_id, early, outcome, pending, used_up, kept_alive}
+use Rattle.etcd_model.specs.Stepping.{writes, writes_op, early, outcome, pending, kept_alive}
 use Rattle.etcd_model.specs.Machine as machine
 use Rattle.etcd_model.specs.Changes as changes
 use Rattle.etcd_model.specs.Store as store
 use Rattle.etcd_model.specs.Held.{keep, IsHistory, HasLeases}
 use Rattle.etcd_model.proofs.HistoryLaws.{current-after}
-use Rattle.etcd_model.proofs.GrowthLaws.{first_none, is_tick, current-machine}
+use Rattle.etcd_model.proofs.GrowthLaws.{is_tick, current-machine}
 use Rattle.model_laws.specs.Runs.{FitsRevisions, StepFitsRevisions}
-use Rattle.model_laws.proofs.HeldLaws.{keep_after, rows_kept_history, after_early, after_allowed, after_machine}
+use Rattle.model_laws.proofs.HeldLaws.{keep_after, rows_kept_history, after_early, none_used_up, after_allowed, after_machine}
 use Rattle.model_laws.proofs.SpaceLaws.{a_cell_each, keep_is_store, finish_takes_keys}
 use Rattle.model_laws.proofs.RunLaws.{quiet_outcome}
 use Rattle.model_laws.proofs.QuotaLaws.{finish_is_history, look_kept, step_within_quota}
@@ -87,7 +85,8 @@ ends_fit bound (l ∷ ls) S is fits = ends_fit bound ls (finish machine.history 
 
 -- ---- a step with no put or delete
 
-nothing_pending : (look : Look) (cs : List Change) (ops : List Op) → list_any writes_op ops ≡ false → pending_after look cs ops ≡ cs
+-- operations that write nothing leave what is pending
+pub nothing_pending : (look : Look) (cs : List Change) (ops : List Op) → list_any writes_op ops ≡ false → pending_after look cs ops ≡ cs
 nothing_pending look cs [] h = refl
 nothing_pending look cs (RangeOp q ∷ ops) h = nothing_pending look (cs ++ []) ops h ∙ append-nil cs
 nothing_pending look cs (PutOp p ∷ ops) h = absurd (true≢false h)
@@ -123,16 +122,9 @@ no_tick : (step : Step) → writes step ≡ true → is_tick step ≡ false
 no_tick (Tick m) h = absurd (false≢true h)
 no_tick step h = refl
 
-not_used_up : (b c : Bool) → refused_if (b || c) UsedUp ≡ None → b ≡ false
-not_used_up true c e = let bad : ⊥ = cc in absurd bad
-not_used_up false c e = refl
-
 -- at the last revision nothing is written
 none_at_last : (S : State History) (step : Step) → early machine.history S step ≡ None → nat_le last_revision (current S.store) ≡ true → writes step ≡ true → ⊥
-none_at_last S step e last w =
-    let free = (first_none (used_up machine.history S step) [] (first_none (fields step) (used_up machine.history S step ∷ []) e).1).0 in
-    let no = not_used_up (nat_le last_revision (current S.store) && writes step) (nat_le last_lease_id S.counter && chooses_id step) free in
-    true≢false (sym (ap (λ b. b && writes step) last ∙ w) ∙ no)
+none_at_last S step e last w = true≢false (sym (ap (λ b. b && writes step) last ∙ w) ∙ (none_used_up S step e).0)
 
 by_revision : (S : State History) (step : Step) (bound : ℕ) → IsHistory S.store → HasLeases S → S.quota ≤ bound → used machine.history S ≤ bound → FitsRevisions bound S → writes step ≡ true
     → (b : Bool) → nat_le last_revision (current S.store) ≡ b → FitsRevisions bound (machine.machine S step).state

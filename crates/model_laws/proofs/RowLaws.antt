@@ -9,6 +9,8 @@ use Rattle.std.specs.Cmp.Lexicographic.{nat_list_cmp_total, bytes_decides}
 use Rattle.std.specs.Ordering.{ordering_reverse}
 use Rattle.std.specs.declared.cmp.Ordering.TheVariants.{Less, Equal, Greater}
 use Rattle.std.proofs.lemmas.Bool.{or_parts, and_parts}
+use Rattle.std.proofs.lemmas.Cmp.{on_total}
+use Rattle.std.proofs.lemmas.Option.{none-some, same_Some}
 use Rattle.std.proofs.lemmas.List.Kept.{IsStrictlySortedBy-filter}
 use Rattle.etcd_types.specs.declared.key_value.KeyValue.{KeyValue}
 use Rattle.etcd_model.specs.Order.{key_cmp}
@@ -24,12 +26,8 @@ use Rattle.model_laws.proofs.LastLaws.{last_passes, any_none, all_last}
 abbrev pub has_key : List ℕ → KeyValue → Bool
 has_key key row = bytes_eq row.key key
 
-by_key_total : IsTotalOrder by_key
-by_key_total = record {
-  antisymm = λ a b. nat_list_cmp_total.antisymm a.key b.key;
-  trans = λ a b c. nat_list_cmp_total.trans a.key b.key c.key;
-  congr = λ a b c. nat_list_cmp_total.congr a.key b.key c.key;
-}
+pub by_key_total : IsTotalOrder by_key
+by_key_total = on_total (λ (row : KeyValue). row.key) nat_list_cmp_total
 
 own_found : (q : KeyValue) (qs : List KeyValue) → find (has_key q.key) (q ∷ qs) ≡ Some q
 own_found q qs = ap (λ b. cond b (Some q) (find (has_key q.key) qs)) ((bytes_decides q.key q.key).1 refl)
@@ -39,12 +37,6 @@ pub not_found : (key : List ℕ) (rs : List KeyValue) → AllByRecursion (λ z. 
 not_found key [] h = refl
 not_found key (z ∷ zs) h = ap (λ b. cond b (Some z) (find (has_key key) zs)) (later_key key z.key h.0) ∙ not_found key zs h.1
 
-not_none : (r : KeyValue) → None ≡ Some r → ⊥
-not_none r h = cc
-
-same_some : (r q : KeyValue) → Some r ≡ Some q → r ≡ q
-same_some r q h = cc
-
 same_rest : (b c : Bool) (r q : KeyValue) (o p : Option KeyValue) → b ≡ c → (b ≡ true → o ≡ p) → cond b (Some r) o ≡ cond c (Some q) p → o ≡ p
 same_rest true c r q o p same both h = both refl
 same_rest false true r q o p same both h = absurd (let bad : ⊥ = cc in bad)
@@ -53,15 +45,15 @@ same_rest false false r q o p same both h = h
 pub rows_by_their_keys : RowsByTheirKeys
 unfolding IsStrictlySortedBy
 rows_by_their_keys [] [] sr sq h = refl
-rows_by_their_keys [] (q ∷ qs) sr sq h = absurd (not_none q (h q.key ∙ own_found q qs))
-rows_by_their_keys (r ∷ rs) [] sr sq h = absurd (not_none r (sym (h r.key) ∙ own_found r rs))
+rows_by_their_keys [] (q ∷ qs) sr sq h = absurd (none-some q (h q.key ∙ own_found q qs))
+rows_by_their_keys (r ∷ rs) [] sr sq h = absurd (none-some r (sym (h r.key) ∙ own_found r rs))
 rows_by_their_keys (r ∷ rs) (q ∷ qs) sr sq h = elim (key_cmp r.key q.key) as (λ o. key_cmp r.key q.key ≡ o → r ∷ rs ≡ q ∷ qs) [
   | Less ↦ λ e.
       let gone : find (has_key r.key) (q ∷ qs) ≡ None = not_found r.key (q ∷ qs) (e, below_less by_key by_key_total r q e qs sq.0) in
-      absurd (not_none r (sym gone ∙ sym (h r.key) ∙ own_found r rs))
+      absurd (none-some r (sym gone ∙ sym (h r.key) ∙ own_found r rs))
   | Equal ↦ λ e.
       let is : r.key ≡ q.key = tied_keys r.key q.key e in
-      let same : r ≡ q = same_some r q (sym (own_found r rs) ∙ h r.key ∙ ap (λ k. find (has_key k) (q ∷ qs)) is ∙ own_found q qs) in
+      let same : r ≡ q = same_Some r q (sym (own_found r rs) ∙ h r.key ∙ ap (λ k. find (has_key k) (q ∷ qs)) is ∙ own_found q qs) in
       let rest : rs ≡ qs = rows_by_their_keys rs qs sr.1 sq.1 (λ key. same_rest (bytes_eq r.key key) (bytes_eq q.key key) r q (find (has_key key) rs) (find (has_key key) qs) (ap (λ k. bytes_eq k key) is)
       (λ t. let own : r.key ≡ key = (bytes_decides r.key key).0 t in not_found key rs (subst (λ k. AllByRecursion (λ z. key_cmp k z.key ≡ Less) rs) own sr.0)
       ∙ sym (not_found key qs (subst (λ k. AllByRecursion (λ z. key_cmp k z.key ≡ Less) qs) (sym is ∙ own) sq.0)))
@@ -70,14 +62,14 @@ rows_by_their_keys (r ∷ rs) (q ∷ qs) sr sq h = elim (key_cmp r.key q.key) as
   | Greater ↦ λ e.
       let less : key_cmp q.key r.key ≡ Less = nat_list_cmp_total.antisymm q.key r.key ∙ ap ordering_reverse e in
       let gone : find (has_key q.key) (r ∷ rs) ≡ None = not_found q.key (r ∷ rs) (less, below_less by_key by_key_total q r less rs sr.0) in
-      absurd (not_none q (sym gone ∙ h q.key ∙ own_found q qs))
+      absurd (none-some q (sym gone ∙ h q.key ∙ own_found q qs))
 ] refl
 
 -- ---- the rows of recorded changes
 
 -- a row that a key shows has that key
 own_row : (key : List ℕ) (r : ℕ) (o : Option Recorded) → ((x : Recorded) → o ≡ Some x → (x.key ≡ key) × OwnRow x) → (row : KeyValue) → option_and_then (λ (x : Recorded). x.row) o ≡ Some row → row.key ≡ key
-own_row key r None own row h = absurd (not_none row h)
+own_row key r None own row h = absurd (none-some row h)
 own_row key r (Some x) own row h = let parts = own x refl in subst (λ o. IfSome o (λ (w : KeyValue). w.key ≡ x.key)) h parts.1 ∙ parts.0
 
 pub live-key : (xs : List Recorded) → AllByRecursion OwnRow xs → (key : List ℕ) (r : ℕ) (row : KeyValue) → live key r xs ≡ Some row → row.key ≡ key

@@ -5,9 +5,10 @@ use Rattle.std.specs.List.{AllByRecursion, list_any}
 use Rattle.std.specs.List.Sorted.{IsStrictlySortedBy}
 use Rattle.std.specs.Ordering.{int_eq}
 use Rattle.std.specs.declared.cmp.Ordering.TheVariants.{Less, Equal, Greater}
-use Rattle.std.proofs.lemmas.Bool.{true≢false, false≢true, or_from, cases_lt}
+use Rattle.std.proofs.lemmas.Bool.{true≢false, false≢true, or_from, or_right, cases_lt}
 use Rattle.std.proofs.lemmas.Bool.Decides.{nat_tests, Decides-int_eq}
 use Rattle.std.proofs.lemmas.List.{length-set}
+use Rattle.std.proofs.lemmas.List.Elements.{All-filter, All-from_recursion, recursion_from_All}
 use Rattle.etcd_types.specs.declared.txn.Op.TheVariants.{Put as PutOp, Delete as DeleteOp}
 use Rattle.etcd_types.specs.declared.step.Step.{Step}
 use Rattle.etcd_types.specs.declared.step.Step.TheVariants.{Put, Delete, Txn, Compact, Watch, Take, DropWatch, Grant, Revoke, KeepAlive, Alarm, Tick}
@@ -133,65 +134,41 @@ step_is_full S step full = after_machine (λ T. IsFull T.store) S step full full
 pub opening_is_full : OpeningIsFull
 opening_is_full cluster quota first = tt
 
--- ---- watch slots
+-- ---- what no step changes: the number of watch slots, and the quota
 
-abbrev SameSlots : State History → State History → Type 0
-SameSlots S T = length T.slots ≡ length S.slots
+abbrev SameLimits : State History → State History → Type 0
+SameLimits S T = (length T.slots ≡ length S.slots) × (T.quota ≡ S.quota)
 
-slots_alive : (S : State History) (id : ℤ) (o : Option Lease) → SameSlots S (kept_alive machine.history S id o).state
-slots_alive S id None = refl
-slots_alive S id (Some l) = refl
+limits_alive : (S : State History) (id : ℤ) (o : Option Lease) → SameLimits S (kept_alive machine.history S id o).state
+limits_alive S id None = (refl, refl)
+limits_alive S id (Some l) = (refl, refl)
 
-slots_ends : (ls : List Lease) (S : State History) → SameSlots S (fold (λ T l. finish machine.history T l.id) S ls)
-slots_ends [] S = refl
-slots_ends (l ∷ ls) S = slots_ends ls (finish machine.history S l.id)
+limits_ends : (ls : List Lease) (S : State History) → SameLimits S (fold (λ T l. finish machine.history T l.id) S ls)
+limits_ends [] S = (refl, refl)
+limits_ends (l ∷ ls) S = limits_ends ls (finish machine.history S l.id)
 
-slots_outcome : (S : State History) (step : Step) → SameSlots S (outcome machine.history S step).state
-slots_outcome S (Put p) = refl
-slots_outcome S (Delete d) = refl
-slots_outcome S (Txn t) = refl
-slots_outcome S (Compact r) = refl
-slots_outcome S (Grant g) = refl
-slots_outcome S (Revoke id) = refl
-slots_outcome S (KeepAlive id) = slots_alive S id (lease_at S.leases id)
-slots_outcome S (Tick m) = let later = record S { moment = max S.moment (min m last_moment) } in slots_ends (run_out later.moment later.leases) later
-slots_outcome S step = quiet_outcome (SameSlots S) S refl (λ i w. length-set S.slots i w) (λ on. refl) step refl
+limits_outcome : (S : State History) (step : Step) → SameLimits S (outcome machine.history S step).state
+limits_outcome S (Put p) = (refl, refl)
+limits_outcome S (Delete d) = (refl, refl)
+limits_outcome S (Txn t) = (refl, refl)
+limits_outcome S (Compact r) = (refl, refl)
+limits_outcome S (Grant g) = (refl, refl)
+limits_outcome S (Revoke id) = (refl, refl)
+limits_outcome S (KeepAlive id) = limits_alive S id (lease_at S.leases id)
+limits_outcome S (Tick m) = let later = record S { moment = max S.moment (min m last_moment) } in limits_ends (run_out later.moment later.leases) later
+limits_outcome S step = quiet_outcome (SameLimits S) S (refl, refl) (λ i w. (length-set S.slots i w, refl)) (λ on. (refl, refl)) step refl
 
-before_has_slots : (S : State History) (step : Step) → length (machine.before_space S step).state.slots ≡ length S.slots
-before_has_slots S step = after_allowed (SameSlots S) S step refl (λ f e. slots_outcome S step)
+step_keeps_limits : (S : State History) (step : Step) → SameLimits S (machine.machine S step).state
+step_keeps_limits S step = after_machine (SameLimits S) S step (refl, refl) (refl, refl) (after_allowed (SameLimits S) S step (refl, refl) (λ f e. limits_outcome S step))
 
 pub step_has_slots : StepHasSlots
-step_has_slots S step = after_machine (SameSlots S) S step refl refl (before_has_slots S step)
+step_has_slots S step = (step_keeps_limits S step).0
 
 pub opening_has_slots : OpeningHasSlots
 opening_has_slots cluster quota first = refl
 
--- ---- the quota
-
-abbrev SameQuota : State History → State History → Type 0
-SameQuota S T = T.quota ≡ S.quota
-
-quota_alive : (S : State History) (id : ℤ) (o : Option Lease) → SameQuota S (kept_alive machine.history S id o).state
-quota_alive S id None = refl
-quota_alive S id (Some l) = refl
-
-quota_ends : (ls : List Lease) (S : State History) → SameQuota S (fold (λ T l. finish machine.history T l.id) S ls)
-quota_ends [] S = refl
-quota_ends (l ∷ ls) S = quota_ends ls (finish machine.history S l.id)
-
-quota_outcome : (S : State History) (step : Step) → SameQuota S (outcome machine.history S step).state
-quota_outcome S (Put p) = refl
-quota_outcome S (Delete d) = refl
-quota_outcome S (Txn t) = refl
-quota_outcome S (Compact r) = refl
-quota_outcome S (Grant g) = refl
-quota_outcome S (Revoke id) = refl
-quota_outcome S (KeepAlive id) = quota_alive S id (lease_at S.leases id)
-quota_outcome S (Tick m) = let later = record S { moment = max S.moment (min m last_moment) } in quota_ends (run_out later.moment later.leases) later
-quota_outcome S step = quiet_outcome (SameQuota S) S refl (λ i w. refl) (λ on. refl) step refl
-
 pub step_keeps_quota : (S : State History) (step : Step) → (machine.machine S step).state.quota ≡ S.quota
-step_keeps_quota S step = after_machine (SameQuota S) S step refl refl (after_allowed (SameQuota S) S step refl (λ f e. quota_outcome S step))
+step_keeps_quota S step = (step_keeps_limits S step).1
 
 -- ---- leases
 
@@ -202,10 +179,6 @@ all_put_in P x (y ∷ ys) px all = elim (by_id x y) as (λ o. AllByRecursion P (
   | Equal ↦ (px, all.1)
   | Greater ↦ (all.0, all_put_in P x ys px all.1)
 ]
-
-all_passing : (P : Lease → Type 0) (p : Lease → Bool) (ls : List Lease) → AllByRecursion P ls → AllByRecursion P (filter p ls)
-all_passing P p [] all = tt
-all_passing P p (l ∷ ls) all = elim (p l) as (λ b. AllByRecursion P (cond b (l ∷ filter p ls) (filter p ls))) [ true ↦ (all.0, all_passing P p ls all.1) | false ↦ all_passing P p ls all.1 ]
 
 all_found : (P : Lease → Type 0) (p : Lease → Bool) (ls : List Lease) (l : Lease) → AllByRecursion P ls → find p ls ≡ Some l → P l
 all_found P p [] l all is = let bad : ⊥ = cc in absurd bad
@@ -240,11 +213,12 @@ alive_leases S id None is has = has
 alive_leases S id (Some l) is has = let run = all_found (IsRunning S.moment) (λ (x : Lease). int_eq x.id id) S.leases l has.running is in leased S id l.ttl has run.least run.most
 
 finished : (S : State History) (id : ℤ) → HasLeases S → HasLeases (finish machine.history S id)
-finished S id has = record {
-  ascend = without_lease_ascends S.leases id has.ascend;
-  running = all_passing (IsRunning S.moment) (λ (l : Lease). not (int_eq l.id id)) S.leases has.running;
-  moment = has.moment;
-}
+finished S id has =
+    let other : Lease → Bool = λ l. not (int_eq l.id id) in record {
+      ascend = without_lease_ascends S.leases id has.ascend;
+      running = recursion_from_All (IsRunning S.moment) (filter other S.leases) (All-filter other (IsRunning S.moment) S.leases (All-from_recursion (IsRunning S.moment) S.leases has.running));
+      moment = has.moment;
+    }
 
 -- ---- a tick
 
@@ -281,10 +255,6 @@ ended_apart P (l ∷ ls) leases all =
       | true ↦ λ e. left xs h.1
       | false ↦ λ e. ((h.0, e), left xs h.1)
     ] refl
-
-pub or_right : (a c : Bool) → c ≡ true → (a || c) ≡ true
-or_right true c e = refl
-or_right false c e = e
 
 -- each that is due is among those that are due
 due_among : (p : Lease → Bool) (ls : List Lease) → AllByRecursion (λ x. p x ≡ true → among (filter p ls) x ≡ true) ls

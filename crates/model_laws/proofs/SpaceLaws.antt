@@ -1,6 +1,6 @@
 -- What a change makes of the cells in use.
 use Rattle.std.proofs.Common.{◌≡◌, ℕ, ◌+◌, ◌≤◌, List, [], ◌∷◌, ◌++◌, length, refl, ap, ◌∙◌, sym, arith, subst, map, append_assoc, inl, inr}
-use Rattle.std.specs.Prelude.{Bool, true, false, not, cond, ◌&&◌, fold, filter, filter_map, find, sum_by, Option, Some, None, nat_le, if◌then◌else◌}
+use Rattle.std.specs.Prelude.{Bool, true, false, not, cond, fold, filter, filter_map, find, sum_by, Option, Some, None, if◌then◌else◌}
 use Rattle.std.specs.Str.{bytes_eq}
 use Rattle.std.specs.List.{AllByRecursion, cons_option}
 use Rattle.std.specs.Ordering.{is_eq, int_eq}
@@ -8,7 +8,7 @@ use Rattle.std.proofs.lemmas.Simd.{map-map}
 use Rattle.std.specs.List.Sorted.{IsStrictlySortedBy}
 use Rattle.std.specs.Cmp.Lexicographic.{bytes_decides}
 use Rattle.std.specs.declared.cmp.Ordering.TheVariants.{Less}
-use Rattle.std.proofs.lemmas.Bool.{le-leb, false_from_ne_true, true≢false}
+use Rattle.std.proofs.lemmas.Bool.{cases_Bool, false_from_ne_true, true≢false}
 use Rattle.std.proofs.lemmas.List.{append-nil, map-append, length-map}
 use Rattle.std.proofs.lemmas.List.Kept.{IsStrictlySortedBy-filter}
 use Rattle.std.proofs.lemmas.List.Sums.{fold-append, sum_by-cons, sum_by_push}
@@ -27,12 +27,12 @@ use Rattle.etcd_model.specs.Changes.{Recorded, OwnRow, keys, Rises, entry_at, ch
 use Rattle.etcd_model.specs.Store.{Store, IsStore, after, reads_of, record_cells, reserved_cells, cells, kept_store}
 use Rattle.etcd_model.specs.Held.{keep}
 use Rattle.etcd_model.proofs.OrderLaws.{bytes_eq-key_cmp}
+use Rattle.etcd_model.proofs.OnceLaws.{deletes_of}
 use Rattle.model_laws.specs.Recording.{by_key}
 use Rattle.model_laws.specs.Space.{if_row, room, KeepIsStore, AfterIsStore, CompactIsStore, PutTakesCells, DeleteTakesItsRoom, DeleteTakesNone, OpTakesCells, FinishTakesNone, FinishTakesKeys, NoPutTakesNone, CompactionTakesNone, RecordsAreUsedCells, KeysAreReserved}
-use Rattle.model_laws.proofs.LastLaws.{true_or_false}
 use Rattle.model_laws.proofs.KeptLaws.{all_kept, kept_rises, kept_true, kept_false}
 use Rattle.model_laws.proofs.RowLaws.{has_key, rows_by_their_keys, not_found, row_found, rows_rise, same_rows, live-key}
-use Rattle.model_laws.proofs.RecordedLaws.{all_push, all_weaker, live_later, live_push, own_fold, own_recorded, changes_rise, changes_up_to_current, changes_own_their_rows}
+use Rattle.model_laws.proofs.RecordedLaws.{all_push, all_weaker, live_later, live_push_up_to, own_fold, own_recorded, changes_rise, changes_up_to_current, changes_own_their_rows}
 use Rattle.model_laws.proofs.HistoryKeptLaws.{rows_kept}
 use Rattle.model_laws.proofs.HeldLaws.{rises_push}
 
@@ -101,17 +101,12 @@ pub rows_push : (f : KeyValue → ℕ) (n : ℕ) (xs : List Recorded) (y : Recor
 rows_push f n xs y own oy low =
     let ys = xs ++ y ∷ [] in
     let all = all_push OwnRow xs y own oy in
-    let up : nat_le y.revision n ≡ true = le-leb y.revision n low in
-    let shown : (key : List ℕ) → live key n ys ≡ (if bytes_eq y.key key then y.row else live key n xs) = λ key. live_push key n xs y ∙ ap (λ (b : Bool). if b then y.row else live key n xs) (ap (λ b. bytes_eq y.key key && b) up ∙ and_true (bytes_eq y.key key)) in
+    let shown : (key : List ℕ) → live key n ys ≡ (if bytes_eq y.key key then y.row else live key n xs) = λ key. live_push_up_to key n xs y low in
     let here : live y.key n ys ≡ y.row = shown y.key ∙ ap (λ (b : Bool). if b then y.row else live y.key n xs) ((bytes_decides y.key y.key).1 refl) in
     let differ = rows_differ f y.key (rows every_key n ys) (rows every_key n xs) (rows_rise ys all n every_key) (rows_rise xs own n every_key)
     (λ other h. row_found ys all n other ∙ shown other ∙ ap (λ (b : Bool). if b then y.row else live other n xs) (swapped other h) ∙ sym (row_found xs own n other)) in
     omega (arith, differ, ap (if_row f) (row_found xs own n y.key), ap (if_row f) (row_found ys all n y.key ∙ here))
   where
-    and_true : (b : Bool) → (b && true) ≡ b
-    and_true true = refl
-    and_true false = refl
-
     swapped : (other : List ℕ) → bytes_eq other y.key ≡ false → bytes_eq y.key other ≡ false
     swapped other h = false_from_ne_true (bytes_eq y.key other) (λ s. true≢false (sym ((bytes_decides other y.key).1 (sym ((bytes_decides y.key other).0 s))) ∙ h))
 
@@ -152,7 +147,8 @@ pend_push s cs c =
     ap (fold record_change s.changes) (map-append (entry_at (s.current + 1)) cs (c ∷ []))
     ∙ fold-append record_change s.changes (map (entry_at (s.current + 1)) cs) (entry_at (s.current + 1) c ∷ [])
 
-same_cost : (r : ℕ) (row : Option KeyValue) (c : Change) → cost (change_by (key_of c) (next_row r row c)) ≡ cost c
+-- a change costs what the row that it makes costs
+pub same_cost : (r : ℕ) (row : Option KeyValue) (c : Change) → cost (change_by (key_of c) (next_row r row c)) ≡ cost c
 same_cost r row (Set key value lease) = refl
 same_cost r row (Del key) = refl
 
@@ -174,9 +170,6 @@ delete_takes_its_room s cs key is = omega (arith, change_cells s cs (Del key) is
 
 -- ---- deletes of live keys
 
-abbrev deletes_of : List KeyValue → List Change
-deletes_of rs = map (λ row. Del row.key) rs
-
 -- each of some ascending rows is live with some changes pending
 abbrev AllLive : Store → List Change → List KeyValue → Type 0
 AllLive s cs rs = AllByRecursion (λ row. live row.key (s.current + 1) (pend s cs) ≡ Some row) rs
@@ -187,7 +180,7 @@ still_live s cs r (z ∷ zs) above all =
     let n = s.current + 1 in
     let y = recorded (pend s cs) (entry_at n (Del r.key)) in
     let apart : bytes_eq r.key z.key ≡ false = earlier r.key z.key above.0 in (
-      ap (live z.key n) (pend_push s cs (Del r.key)) ∙ live_push z.key n (pend s cs) y ∙ ap (λ b. if b && nat_le n n then y.row else live z.key n (pend s cs)) apart ∙ all.0,
+      ap (live z.key n) (pend_push s cs (Del r.key)) ∙ live_push_up_to z.key n (pend s cs) y (omega arith) ∙ ap (λ (b : Bool). if b then y.row else live z.key n (pend s cs)) apart ∙ all.0,
       still_live s cs r zs above.1 all.1,
     )
   where
@@ -308,7 +301,7 @@ fewer_records : (c : ℕ) (xs : List Recorded) → record_cells (kept c xs) ≤ 
 fewer_records c [] = omega arith
 fewer_records c (x ∷ xs) =
     let f : Recorded → ℕ = λ y. cost (change_of y) in
-    elim (true_or_false (keeps c x xs)) [
+    elim (cases_Bool (keeps c x xs)) [
       | inl keep ↦ omega (arith, fewer_records c xs, sum_by-cons f x xs, ap record_cells (kept_true c x xs keep), sum_by-cons f x (kept c xs))
       | inr lost ↦ omega (arith, fewer_records c xs, sum_by-cons f x xs, ap record_cells (kept_false c x xs lost))
     ]

@@ -1,10 +1,5 @@
 -- Every state of a run is one that a tenant can hold.
 use Rattle.std.proofs.Common.{◌∙◌}
-use Rattle.etcd_types.specs.declared.step.Step.{Step}
-use Rattle.etcd_model.specs.declared.state.History.{History}
-use Rattle.etcd_model.specs.declared.state.State.{State}
-use Rattle.etcd_model.specs.Machine as machine
-use Rattle.etcd_model.specs.Held.{IsState}
 use Rattle.model_laws.specs.Runs.{OpeningIsState, StepIsState}
 use Rattle.model_laws.proofs.HeldLaws.{opening_is_history, step_is_history}
 use Rattle.model_laws.proofs.RunLaws.{opening_is_full, step_is_full, opening_has_leases, step_has_leases, opening_has_slots, step_has_slots}

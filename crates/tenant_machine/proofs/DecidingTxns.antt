@@ -3,7 +3,7 @@ use Rattle.std.proofs.Common.{◌≡◌, List, [], ◌∷◌, ◌++◌, Bool, tr
 use Rattle.std.specs.Prelude.{◌||◌, ◌&&◌, Some, None, Result, Ok, Err, IfOk, MatchResult, nat_lt}
 use Rattle.std.specs.List.{list_any}
 use Rattle.std.proofs.Math.Bool.{or-true}
-use Rattle.std.proofs.lemmas.Bool.{true≢false}
+use Rattle.std.proofs.lemmas.Bool.{cases_Bool, true≢false}
 use Rattle.std.proofs.lemmas.List.{append-nil}
 use Rattle.std.proofs.lemmas.List.Folds.{list_any-append}
 use Rattle.etcd_types.specs.declared.txn.Op.{Op}
@@ -21,7 +21,6 @@ use Rattle.etcd_model.specs.Reads.{Look, Reads}
 use Rattle.etcd_model.specs.Stepping.{transaction, within_quota, writes, writes_op}
 use Rattle.etcd_model.specs.Store.{IsStore, after, cells, kept_store}
 use Rattle.etcd_model.specs.Tenant.{used}
-use Rattle.model_laws.proofs.LastLaws.{true_or_false}
 use Rattle.model_laws.proofs.SpaceLaws.{no_put_takes_none}
 use Rattle.revision_store.specs.Stored.{StoreState, changes_of, look, reads}
 use Rattle.revision_store.specs.declared.plan.Write.{Write}
@@ -71,7 +70,7 @@ module _ (store : StoreState) (q : TxnReq) (planned : PlannedTxn) (is : IsTxn st
   adding_writes one = branch_writes (reads store) q (adds_is_write (branch (reads store) q) (sym is.adds ∙ one))
 
   pub changing_writes : is_empty planned.plan ≡ false → writes (Txn q) ≡ true
-  changing_writes some = elim (true_or_false (list_any writes_op (branch (reads store) q))) [
+  changing_writes some = elim (cases_Bool (list_any writes_op (branch (reads store) q))) [
     | inl one ↦ branch_writes (reads store) q one
     | inr none ↦ absurd (true≢false (sym (no_changes store planned.plan (is.changes ∙ none_writes (look store) [] (branch (reads store) q) none)) ∙ some))
   ]

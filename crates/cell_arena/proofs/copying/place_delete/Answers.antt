@@ -3,7 +3,7 @@ use Rattle.cell_arena.specs.declared.cell.Kind.TheVariants.{Delete}
 use Rattle.cell_arena.specs.Chain.{Record, IsChain, chain_bytes, head_pieces, record_at}
 use Rattle.cell_arena.specs.Table.{table_at}
 use Rattle.cell_arena.proofs.Chains.{record_kept}
-use Rattle.cell_arena.proofs.Records.{at_some, some_at, key_size, length-chain_bytes}
+use Rattle.cell_arena.proofs.Records.{at_some, some_at, key_size, head_size}
 use Rattle.cell_arena.proofs.Storing.{head_linked, head_stands, free_unlinked, free_is_none}
 use Rattle.cell_arena.proofs.Turning.{delete_bytes}
 use Rattle.cell_arena.proofs.copying.place_delete.Goals as goal
@@ -59,7 +59,7 @@ returns-clause-placed g c =
     let bytes = chain_bytes at (head_pieces head) head.first in
     let key : List ℕ = take head.key_len bytes in
     let long : length key ≡ head.key_len = key_size at c.args.of c.head_at-kind.result.0 c.head_at-kind.result.1.now c.requires.linked c.head_at-kind.ensures in
-    let all : length bytes ≡ head_pieces head * 48 = length-chain_bytes at (head_pieces head) head.first (c.requires.linked.heads c.args.of c.head_at-kind.result.0 c.head_at-kind.result.1.now c.head_at-kind.ensures) in
+    let all : length bytes ≡ head_pieces head * 48 = head_size at c.args.of c.head_at-kind.result.0 head c.requires.linked c.head_at-kind.ensures in
     let same : c.pieces-count.result ≡ (head.key_len + 0 + 47) / 48 = omega (arith, c.pieces-count.ensures) in
     let chain = subst (λ n. IsChain now n c.turn_chain-first.result) same c.turn_chain-first.ensures.chain in
     let front : chain_bytes now c.pieces-count.result c.turn_chain-first.result ≡ take (c.pieces-count.result * 48) bytes = c.turn_chain-first.ensures.bytes ∙ c.copy_cells-back.ensures.bytes ∙ ap (λ n. take (c.pieces-count.result * 48) (chain_bytes at n head.first)) c.pieces-cells.ensures in

@@ -1,6 +1,6 @@
 use Rattle.std.proofs.Common.{◌≡◌, [], None, sym, ◌∙◌, ap, length}
 use Rattle.cell_arena.specs.declared.slot.Slot.{Slot}
-use Rattle.cell_arena.proofs.Tables.{emptied, emptied_written, mid_read, none_listed, used_within}
+use Rattle.cell_arena.proofs.Tables.{emptied, emptied_written, place_read, none_listed, used_within}
 use Rattle.cell_arena.proofs.table.empty_slot.Goals as goal
 
 pub returns-clause-table : goal.returns-clause-table
@@ -13,7 +13,7 @@ returns-clause-table g c =
     let none : c.replace-of_source.new.dest.free ≡ 0 = ap (λ (x : Slot). x.free) after ∙ c.none-nothing.ensures.free in
     emptied c.args.table.now c.args.number c.args.place c.index_mut.result.now c.replace-of_source.new.dest c.swap.new.o c.swap-2.new.o c.requires.table c.requires.small c.requires.used read (c.requires.last _ read)
     (none_listed c.replace-of_source.new.dest bare first none) (ap length bare) none
-    c.swap.ensures.count (mid_read c.args.table.now c.args.number c.index-at.result.now c.swap.new.o c.requires.table less c.index-at.ensures c.swap.ensures.places)
+    c.swap.ensures.count (place_read c.args.table.now c.args.number c.index-at.result.now _ c.swap.new.o c.requires.table less c.index-at.ensures c.swap.ensures.places)
     c.swap-2.ensures.order c.swap-2.ensures.count c.swap-2.ensures.places
 
 pub returns-clause-written : goal.returns-clause-written

@@ -14,7 +14,7 @@ pub returns-then-free-eq1-clause-table : goal.returns-then-free-eq1-clause-table
 returns-then-free-eq1-clause-table c =
     let less = used_within c.args.table.now c.args.number c.args.place c.requires.small c.requires.used in
     free_opened c.args.table.now c.args.number c.args.place c.index_mut-slot.result.now c.free_cell.new.slot _ c.requires.table c.requires.small c.requires.used (sym c.index_mut-slot.ensures.value) c.free_cell.ensures.listed c.free_cell.ensures.free c.free_cell.ensures.length c.if-free-eq1.true c.swap.ensures.order c.swap.ensures.count
-    (place_read c.args.table.now c.args.number c.index-at.result.now c.swap.new.o c.requires.table less c.index-at.ensures c.swap.ensures.places)
+    (place_read c.args.table.now c.args.number c.index-at.result.now _ c.swap.new.o c.requires.table less c.index-at.ensures c.swap.ensures.places)
 
 pub returns-then-free-eq1-clause-written : goal.returns-then-free-eq1-clause-written
 returns-then-free-eq1-clause-written c = freed_written c.args.table.now c.args.number c.args.place c.index_mut-slot.result.now c.free_cell.new.slot _ c.requires.small c.requires.used (sym c.index_mut-slot.ensures.value) c.free_cell.ensures.written
