@@ -1,5 +1,5 @@
 -- What a commit records is what the plan's changes make of the store.
-use Rattle.std.proofs.Common.{◌≡◌, ℕ, ◌+◌, ◌^◌, ◌==◌, ◌<◌, ◌≤◌, List, [], ◌∷◌, ◌++◌, map, filter, length, Bool, true, false, cond, refl, ap, sym, subst, ◌∙◌, arith}
+use Rattle.std.proofs.Common.{◌≡◌, ℕ, ◌+◌, ◌^◌, ◌==◌, ◌<◌, ◌≤◌, List, [], ◌∷◌, ◌++◌, map, filter, length, true, false, refl, ap, sym, subst, ◌∙◌, arith}
 use Rattle.std.specs.List.{AllByRecursion}
 use Rattle.std.proofs.lemmas.Bool.{ne_eqb}
 use Rattle.std.specs.Str.{bytes_eq}
@@ -10,6 +10,7 @@ use Rattle.etcd_model.specs.Changes.{Recorded, entry_at, next_row, record_revisi
 use Rattle.etcd_model.specs.Store.{after}
 use Rattle.model_laws.specs.Once.{IsOnce}
 use Rattle.model_laws.specs.Numbers.{HasNumbers}
+use Rattle.model_laws.proofs.HistoryKeptLaws.{no_more, fewer}
 use Rattle.model_laws.proofs.NumberLaws.{recorded_have_numbers}
 use Rattle.model_laws.proofs.OnceStoreLaws.{keys_apart, recorded_where_once}
 use Rattle.model_laws.proofs.RecordedLaws.{all_append, all_push, all_weaker, live_later}
@@ -31,18 +32,10 @@ bytes_same key = (bytes_decides key key).1 refl
 
 -- of changes of which each key has one, the first has its key alone
 first_apart : (c : Change) (cs : List Change) → IsOnce (c ∷ cs) → AllByRecursion (λ d. bytes_eq (key_of d) (key_of c) ≡ false) cs
-first_apart c cs once = keys_apart (key_of c) cs (no_more (bytes_eq (key_of c) (key_of c)) (bytes_same (key_of c)) (once (key_of c)))
-  where
-    no_more : (b : Bool) → b ≡ true → length (cond b (c ∷ filter (λ d. bytes_eq (key_of d) (key_of c)) cs) (filter (λ d. bytes_eq (key_of d) (key_of c)) cs)) ≤ 1 → length (filter (λ d. bytes_eq (key_of d) (key_of c)) cs) ≤ 0
-    no_more true t h = omega (arith, h)
-    no_more false t h = absurd (cc)
+first_apart c cs once = keys_apart (key_of c) cs (no_more c cs (once (key_of c)))
 
 others_once : (c : Change) (cs : List Change) → IsOnce (c ∷ cs) → IsOnce cs
-others_once c cs once key = fewer (bytes_eq (key_of c) key) (once key)
-  where
-    fewer : (b : Bool) → length (cond b (c ∷ filter (λ d. bytes_eq (key_of d) key) cs) (filter (λ d. bytes_eq (key_of d) key) cs)) ≤ 1 → length (filter (λ d. bytes_eq (key_of d) key) cs) ≤ 1
-    fewer true h = omega (arith, h)
-    fewer false h = h
+others_once c cs once key = fewer (bytes_eq (key_of c) key) c (filter (λ d. bytes_eq (key_of d) key) cs) (once key)
 
 module _ (cells : Cells) (revision : ℕ) where
   -- what is there of the keys of some writes is earlier

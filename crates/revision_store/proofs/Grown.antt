@@ -10,31 +10,27 @@ use Rattle.std.proofs.lemmas.List.Elements.{filter-append}
 use Rattle.std.proofs.lemmas.List.Sums.{sum_by-cons, sum_by_more, sum_by_push}
 use Rattle.etcd_types.specs.declared.key_value.KeyValue.{KeyValue}
 use Rattle.etcd_model.specs.declared.state.Change.{Change}
-use Rattle.etcd_model.specs.declared.state.Change.TheVariants.{Put as Set, Delete as Del}
+use Rattle.etcd_model.specs.declared.state.Change.TheVariants.{Put as Set}
 use Rattle.etcd_model.specs.History.{key_of}
 use Rattle.etcd_model.specs.Kept.{cost, cost_delete}
-use Rattle.etcd_model.specs.Changes.{Recorded, change_by, change_of, created_at, entry_at, live, next_row, record_revision, recorded}
+use Rattle.etcd_model.proofs.HistoryLaws.{changes_of as of_key}
+use Rattle.etcd_model.specs.Changes.{Recorded, change_of, created_at, entry_at, live, next_row, record_revision, recorded}
 use Rattle.etcd_model.specs.Store.{Store, after, cells as counted, reads_of, record_cells}
 use Rattle.model_laws.specs.Once.{IsOnce}
 use Rattle.model_laws.specs.Space.{room}
 use Rattle.model_laws.proofs.NumberLaws.{live_is_within}
 use Rattle.model_laws.proofs.PendingLaws.{row_with_pending}
 use Rattle.model_laws.proofs.RowLaws.{live-key}
-use Rattle.model_laws.proofs.SpaceLaws.{delete_takes_its_room, put_takes_cells}
+use Rattle.model_laws.proofs.SpaceLaws.{delete_takes_its_room, put_takes_cells, same_cost}
 use Rattle.key_index.specs.Entries.{Cells}
 use Rattle.revision_store.specs.Plans.{change_in, costs_in, cost_in, growth_of, key_at}
 use Rattle.revision_store.specs.Stored.{Follows, IsPlanFor, StoreState, cells, changes_of}
 use Rattle.revision_store.specs.Pending.{IsSound}
 use Rattle.revision_store.specs.declared.plan.Write.{Write}
 use Rattle.revision_store.specs.declared.plan.Write.TheVariants.{Put, Delete}
-use Rattle.revision_store.proofs.PendingReads.{of_key}
 use Rattle.revision_store.proofs.PendingStores.{own_cells}
 
 -- ---- records
-
-same_cost : (n : ℕ) (o : Option KeyValue) (c : Change) → cost (change_by (key_of c) (next_row n o c)) ≡ cost c
-same_cost n o (Set key value lease) = refl
-same_cost n o (Del key) = refl
 
 revision_takes : (n : ℕ) (xs : List Recorded) (cs : List Change) → record_cells (record_revision n xs cs) ≡ record_cells xs + sum_by cost cs
 revision_takes n xs [] = omega arith

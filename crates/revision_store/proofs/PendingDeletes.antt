@@ -18,9 +18,11 @@ use Rattle.etcd_model.specs.History.{key_of, is_put}
 use Rattle.etcd_model.specs.Interval.{is_in}
 use Rattle.etcd_model.specs.Changes.{Recorded, OwnRow, live, rows}
 use Rattle.etcd_model.specs.Store.{IsStore, after}
-use Rattle.etcd_model.proofs.OnceLaws.{no_delete, one_delete, at_most_one}
+use Rattle.etcd_model.proofs.HistoryLaws.{changes_of as of_key}
+use Rattle.etcd_model.proofs.OnceLaws.{deletes_of, no_delete, one_delete, at_most_one}
 use Rattle.model_laws.specs.Recording.{by_key}
 use Rattle.model_laws.proofs.LastLaws.{any_none}
+use Rattle.model_laws.proofs.OnceStoreLaws.{none_found as any_found}
 use Rattle.model_laws.proofs.RecordedLaws.{all_append, all_weaker}
 use Rattle.model_laws.proofs.RowLaws.{has_key, live-key, rows_by_their_keys, rows_rise}
 use Rattle.model_laws.proofs.SpaceLaws.{after_is_store}
@@ -29,9 +31,10 @@ use Rattle.revision_store.specs.Stored.{StoreState, Follows, IsPlanFor, cells, c
 use Rattle.revision_store.specs.Pending.{IsPending, is_erased, left_by, left_cells, put_at, puts_inside, row_put_to, rows_at}
 use Rattle.revision_store.specs.declared.plan.Write.{Write}
 use Rattle.revision_store.specs.declared.plan.Write.TheVariants.{Put, Delete}
-use Rattle.revision_store.proofs.PendingReads.{of_key, one_revision, row_more, none_put, none_where_live, deletes_of, after_deletes, find_filtered, found_inside, any_found, none_found}
+use Rattle.revision_store.proofs.PendingReads.{one_revision, row_more, none_put, none_where_live, after_deletes, find_filtered, found_inside, none_found}
 use Rattle.revision_store.proofs.PendingPuts.{rows_at-more}
 use Rattle.revision_store.proofs.PendingStores.{own_cells}
+use Rattle.revision_store.proofs.RangingCells.{all_kept}
 
 -- ---- rows under cells
 
@@ -111,10 +114,6 @@ follow_under store (c ∷ cs) (r ∷ rs) e all =
     ((r, parts.0, all.0), follow_under store cs rs parts.1 all.1)
 
 -- ---- what an interval has
-
-all_kept : {X : Type 0} (P : X → Type 0) (p : X → Bool) (xs : List X) → AllByRecursion P xs → AllByRecursion P (filter p xs)
-all_kept P p [] h = tt
-all_kept P p (x ∷ xs) h = elim (p x) as (λ b. AllByRecursion P (cond b (x ∷ filter p xs) (filter p xs))) [ true ↦ (h.0, all_kept P p xs h.1) | false ↦ all_kept P p xs h.1 ]
 
 -- each row of an interval is what its key shows
 rows_live : (interval : List ℕ → Bool) (r : ℕ) (xs : List Recorded) → AllByRecursion OwnRow xs → AllByRecursion (λ row. live row.key r xs ≡ Some row) (rows interval r xs)

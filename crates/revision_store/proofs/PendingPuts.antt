@@ -16,6 +16,7 @@ use Rattle.etcd_model.specs.Operations.{and_changes, put_change}
 use Rattle.etcd_model.specs.declared.state.Change.{Change}
 use Rattle.etcd_model.specs.declared.state.Change.TheVariants.{Put as Set}
 use Rattle.etcd_model.specs.History.{key_of}
+use Rattle.etcd_model.proofs.HistoryLaws.{changes_of as of_key}
 use Rattle.etcd_model.specs.Changes.{next_row, live, version_of}
 use Rattle.etcd_model.specs.Ranges.{without_value}
 use Rattle.etcd_model.specs.Store.{IsStore}
@@ -28,7 +29,7 @@ use Rattle.revision_store.specs.Stored.{StoreState, Follows, IsPlanFor, cells, c
 use Rattle.revision_store.specs.Pending.{IsPending, PendingState, changes_key, lease_put, left_by, present, put_at, put_row, row_put, row_put_to, rows_at}
 use Rattle.revision_store.specs.declared.plan.Write.{Write}
 use Rattle.revision_store.specs.declared.plan.Write.TheVariants.{Put}
-use Rattle.revision_store.proofs.PendingReads.{of_key, one_revision, row_more, row_untouched}
+use Rattle.revision_store.proofs.PendingReads.{one_revision, row_more, row_untouched}
 
 -- ---- places
 

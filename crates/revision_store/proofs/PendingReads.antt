@@ -1,5 +1,5 @@
 -- What is read with more changes pending.
-use Rattle.std.proofs.Common.{◌≡◌, ℕ, ◌+◌, ◌≤◌, List, [], ◌∷◌, ◌++◌, refl, ap, ◌∙◌, sym, arith, map}
+use Rattle.std.proofs.Common.{◌≡◌, ℕ, ◌+◌, ◌≤◌, List, [], ◌∷◌, ◌++◌, refl, ap, ◌∙◌, sym, arith}
 use Rattle.std.specs.Prelude.{Bool, true, false, cond, ◌&&◌, ◌||◌, fold, filter, find, Option, Some, None, if◌then◌else◌}
 use Rattle.std.specs.List.{AllByRecursion, list_any}
 use Rattle.std.specs.Str.{bytes_eq}
@@ -14,14 +14,12 @@ use Rattle.etcd_model.specs.History.{key_of, is_put}
 use Rattle.etcd_model.specs.Interval.{every_key}
 use Rattle.etcd_model.specs.Changes.{Recorded, OwnRow, next_row, live, rows}
 use Rattle.etcd_model.specs.Store.{Store, IsStore, after, reads_of}
+use Rattle.etcd_model.proofs.HistoryLaws.{changes_of as of_key}
+use Rattle.etcd_model.proofs.OnceLaws.{deletes_of}
 use Rattle.etcd_model.proofs.RowLaws.{filter-none}
 use Rattle.model_laws.proofs.PendingLaws.{row_with_pending}
 use Rattle.model_laws.proofs.RowLaws.{has_key, row_found, rows_inside}
 use Rattle.revision_store.specs.Pending.{changes_key}
-
--- the changes of a key
-abbrev pub of_key : List ℕ → List Change → List Change
-of_key key cs = filter (λ c. bytes_eq (key_of c) key) cs
 
 pub row_more : (s : Store) (cs ds : List Change) (key : List ℕ) → IsStore s
     → (reads_of (after s (cs ++ ds))).row key ≡ fold (next_row (s.current + 1)) ((reads_of (after s cs)).row key) (of_key key ds)
@@ -83,9 +81,6 @@ none_where_live s cs key row is none shown = by (of_key key cs) none (sym (row_w
 
 -- ---- deletes of rows
 
-abbrev pub deletes_of : List KeyValue → List Change
-deletes_of rs = map (λ row. Del row.key) rs
-
 deletes_put_none : (key : List ℕ) (rs : List KeyValue) → PutsNone (of_key key (deletes_of rs))
 deletes_put_none key [] = tt
 deletes_put_none key (r ∷ rs) = elim (bytes_eq r.key key) as (λ b. PutsNone (cond b (Del r.key ∷ of_key key (deletes_of rs)) (of_key key (deletes_of rs)))) [
@@ -126,14 +121,6 @@ found_inside key interval r xs own =
     ap (find (has_key key)) (rows_inside xs own r interval)
     ∙ find_filtered key interval (rows every_key r xs)
     ∙ ap (λ o. if interval key then o else None) (row_found xs own r key)
-
-pub any_found : (key : List ℕ) (rs : List KeyValue) → find (has_key key) rs ≡ None → list_any (has_key key) rs ≡ false
-any_found key [] h = refl
-any_found key (r ∷ rs) h = by (any_found key rs) (bytes_eq r.key key) h
-  where
-    by : (find (has_key key) rs ≡ None → list_any (has_key key) rs ≡ false) → (b : Bool) → cond b (Some r) (find (has_key key) rs) ≡ None → (b || list_any (has_key key) rs) ≡ false
-    by rest true e = let bad : ⊥ = cc in absurd bad
-    by rest false e = rest e
 
 pub none_found : (key : List ℕ) (rs : List KeyValue) → list_any (has_key key) rs ≡ false → find (has_key key) rs ≡ None
 none_found key [] h = refl

@@ -17,12 +17,13 @@ use Rattle.etcd_model.specs.Changes.{live, or_before, rows}
 use Rattle.etcd_model.specs.Store.{after}
 use Rattle.etcd_model.proofs.OrderLaws.{sorted-put_in, tied_keys, bytes_eq-key_cmp}
 use Rattle.model_laws.specs.Recording.{by_key}
+use Rattle.model_laws.proofs.LastLaws.{or_before-none}
 use Rattle.model_laws.proofs.RowLaws.{has_key, rows_by_their_keys, rows_rise}
 use Rattle.model_laws.proofs.SpaceLaws.{after_is_store}
 use Rattle.revision_store.specs.Stored.{StoreState, cells, changes_of, look, row_at}
 use Rattle.revision_store.specs.Pending.{IsPending, is_erased, left_cells, row_put_to, rows_at}
 use Rattle.revision_store.specs.declared.plan.Write.{Write}
-use Rattle.revision_store.proofs.RowPlaces.{by_key_total}
+use Rattle.revision_store.proofs.SortingRows.{by_key_total}
 use Rattle.revision_store.proofs.PendingReads.{find_filtered, found_inside}
 use Rattle.revision_store.proofs.PendingDeletes.{Under, same_somes, under_left}
 
@@ -67,23 +68,9 @@ find_put_all key (x ∷ xs) ys =
     ∙ ap (option_or (row_put_to key xs)) (find_put_in key x ys)
     ∙ put_over (bytes_eq x.key key) x (row_put_to key xs) (find (has_key key) ys)
 
--- one more put, of which the last one counts
-pub last_step : (key : List ℕ) (row : KeyValue) (rs : List KeyValue) (found : Option KeyValue) → or_before (row_put_to key (row ∷ rs)) found ≡ or_before (row_put_to key rs) (if bytes_eq row.key key then Some row else found)
-last_step key row rs found = by (row_put_to key rs) (bytes_eq row.key key)
-  where
-    by : (o : Option KeyValue) (b : Bool) → or_before (or_before o (if b then Some row else None)) found ≡ or_before o (if b then Some row else found)
-    by (Some q) true = refl
-    by (Some q) false = refl
-    by None true = refl
-    by None false = refl
-
 sorted_all : (xs ys : List KeyValue) → IsStrictlySortedBy by_key ys → IsStrictlySortedBy by_key (fold (put_in by_key) ys xs)
 sorted_all [] ys h = h
 sorted_all (x ∷ xs) ys h = sorted_all xs (put_in by_key ys x) (sorted-put_in by_key by_key_total x ys h)
-
-alone : (o : Option KeyValue) → or_before o None ≡ o
-alone None = refl
-alone (Some y) = refl
 
 last_filtered : (key : List ℕ) (p : List ℕ → Bool) (xs : List KeyValue) → row_put_to key (filter (λ row. p row.key) xs) ≡ (if p key then row_put_to key xs else None)
 last_filtered key p [] = elim (p key) as (λ b. ◌≡◌ {A = Option KeyValue} None (if b then None else None)) [ true ↦ refl | false ↦ refl ]
@@ -99,13 +86,13 @@ last_filtered key p (x ∷ xs) = by (p x.key) (bytes_eq x.key key) (λ t. ap p (
         in_both : (t : Bool) → t ≡ true → or_before (if t then row_put_to key xs else None) (Some x) ≡ (if t then or_before (row_put_to key xs) (Some x) else None)
         in_both true e = refl
         in_both false e = absurd (true≢false (sym e))
-    by true false same a b h = ap (λ t. or_before (row_put_to key rest) (if t then Some x else None)) b ∙ alone (row_put_to key rest) ∙ h ∙ ap (λ o. if p key then o else None) (sym (alone (row_put_to key xs)))
+    by true false same a b h = ap (λ t. or_before (row_put_to key rest) (if t then Some x else None)) b ∙ or_before-none (row_put_to key rest) ∙ h ∙ ap (λ o. if p key then o else None) (sym (or_before-none (row_put_to key xs)))
     by false true same a b h = h ∙ neither (p key) (sym (same refl) ∙ a)
       where
         neither : (t : Bool) → t ≡ false → (if t then row_put_to key xs else None) ≡ (if t then or_before (row_put_to key xs) (Some x) else None)
         neither true e = absurd (true≢false e)
         neither false e = refl
-    by false false same a b h = h ∙ ap (λ o. if p key then o else None) (sym (alone (row_put_to key xs)))
+    by false false same a b h = h ∙ ap (λ o. if p key then o else None) (sym (or_before-none (row_put_to key xs)))
 
 -- ---- the rows of an interval
 

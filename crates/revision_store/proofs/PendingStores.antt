@@ -1,7 +1,7 @@
 -- What a store is, to changes that are pending.
 use Rattle.std.proofs.Common.{◌≡◌, ℕ, ◌≤◌, List, [], ◌∷◌, length, refl, ap, ◌∙◌, sym, subst, arith, map}
-use Rattle.std.specs.Prelude.{Result, Ok, Err, IfOk, Option, Some, None, IfSome, IsSome, option_map, option_and_then, unwrap_or}
-use Rattle.std.specs.List.{AllByRecursion, cons_option}
+use Rattle.std.specs.Prelude.{◌||◌, Result, Ok, Err, IfOk, Option, Some, None, IfSome, IsSome, option_map, option_and_then, unwrap_or}
+use Rattle.std.specs.List.{AllByRecursion, cons_option, list_any}
 use Rattle.std.specs.FinMap.{FinMap, get}
 use Rattle.std.specs.Ordering.{nat_cmp, is_eq, is_ge, is_le, ordering_reverse}
 use Rattle.std.specs.declared.cmp.Ordering.{Ordering}
@@ -16,14 +16,17 @@ use Rattle.cell_arena.specs.Chain.{Record}
 use Rattle.etcd_model.specs.Changes.{Recorded, OwnRow, live, version_of}
 use Rattle.model_laws.specs.Numbers.{HasNumbers}
 use Rattle.model_laws.proofs.NumberLaws.{live_is_within}
+use Rattle.etcd_model.specs.Interval.{is_in}
 use Rattle.etcd_model.specs.Order.{key_cmp, key_le}
 use Rattle.etcd_model.proofs.OrderLaws.{bytes_eq-key_cmp}
 use Rattle.key_index.specs.Entries.{Cells, Entry, change_at}
 use Rattle.key_index.specs.Order.{changes_in}
 use Rattle.revision_store.specs.Plans.{key_at}
 use Rattle.revision_store.specs.Recorded.{cells_of, entry_by, entry_of}
-use Rattle.revision_store.specs.Stored.{StoreState, cells, row_at}
-use Rattle.revision_store.specs.Pending.{left_cells}
+use Rattle.revision_store.specs.Stored.{StoreState, Follows, cells, changes_of, row_at}
+use Rattle.revision_store.specs.Pending.{IsThere, is_put_in, left_cells, puts_within}
+use Rattle.revision_store.specs.declared.plan.Write.{Write}
+use Rattle.revision_store.specs.declared.plan.Write.TheVariants.{Put as PutWrite, Delete as DeleteWrite}
 
 -- a row under a cell is of its change's key
 pub own_change : (records : FinMap nat_cmp Record) (c : ℕ) (x : Recorded) → change_at (cells_of records) c ≡ Some x → OwnRow x
@@ -53,6 +56,20 @@ own_cells store c row e = by (change_at (cells store) c) refl e
     by (Some x) at h =
         ap (λ o. unwrap_or (option_map (λ (x : Recorded). x.key) o) []) at
         ∙ sym (subst (λ o. IfSome o (λ (w : KeyValue). w.key ≡ x.key)) h (own_change store.records c x at))
+
+-- ---- writes of a plan
+
+-- what they delete is there
+pub all_there : (store : StoreState) (ws : List Write) → AllByRecursion (Follows store) ws → AllByRecursion (IsThere (cells store)) ws
+all_there store [] h = tt
+all_there store (PutWrite row ∷ ws) h = (tt, all_there store ws h.1)
+all_there store (DeleteWrite c ∷ ws) h = (subst (λ o. IsSome o) (sym h.0.1) refl, all_there store ws h.1)
+
+-- the puts are those of their changes
+pub puts_are : (store : StoreState) (key end : List ℕ) (ws : List Write) → list_any (is_put_in key end) ws ≡ puts_within key end (changes_of store ws)
+puts_are store key end [] = refl
+puts_are store key end (PutWrite row ∷ ws) = ap (λ b. is_in key end row.key || b) (puts_are store key end ws)
+puts_are store key end (DeleteWrite c ∷ ws) = puts_are store key end ws
 
 -- ---- keys under cells
 

@@ -13,6 +13,11 @@ use Rattle.revision_store.specs.Answering.{IsLimit, given, is_by_key, wants_all}
 use Rattle.revision_store.specs.Ranging.{passes}
 use Rattle.revision_store.proofs.AnsweringLaws.{given_taken, sorted-take}
 
+-- what holds of all elements holds of those that pass a test
+pub all_kept : {X : Type 0} (P : X → Type 0) (p : X → Bool) (xs : List X) → AllByRecursion P xs → AllByRecursion P (filter p xs)
+all_kept P p [] h = tt
+all_kept P p (x ∷ xs) h = elim (p x) as (λ b. AllByRecursion P (cond b (x ∷ filter p xs) (filter p xs))) [ true ↦ (h.0, all_kept P p xs h.1) | false ↦ all_kept P p xs h.1 ]
+
 -- ---- where each has one
 
 module _ {X : Type 0} (look : ℕ → Option X) where
@@ -52,13 +57,6 @@ module _ {X : Type 0} (look : ℕ → Option X) where
       by : (o : Option X) → IsSome o → cons_option o (take n (filter_map look cs)) ≡ take (suc n) (cons_option o (filter_map look cs))
       by None h = let bad : ⊥ = cc in absurd bad
       by (Some x) h = refl
-
-  pub all_show-filter : (p : ℕ → Bool) (cs : List ℕ) → AllShow cs → AllShow (filter p cs)
-  all_show-filter p [] all = tt
-  all_show-filter p (c ∷ cs) all = elim (p c) as (λ b. AllShow (cond b (c ∷ filter p cs) (filter p cs))) [
-    | true ↦ (all.0, all_show-filter p cs all.1)
-    | false ↦ all_show-filter p cs all.1
-  ]
 
   -- what is made of each
   pub filter_map-option_map : (f : X → X) (cs : List ℕ) → filter_map (λ c. option_map f (look c)) cs ≡ map f (filter_map look cs)

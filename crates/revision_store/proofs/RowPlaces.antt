@@ -4,20 +4,13 @@ use Rattle.std.proofs.lemmas.List.{drop-set, take-append-drop, take-set}
 use Rattle.std.specs.List.{AllByRecursion}
 use Rattle.std.specs.List.Sorted.{IsStrictlySortedBy}
 use Rattle.std.specs.Ordering.{ordering_reverse}
-use Rattle.std.specs.Cmp.{IsTotalOrder}
 use Rattle.std.specs.Cmp.Lexicographic.{nat_list_cmp_total}
 use Rattle.std.specs.declared.cmp.Ordering.TheVariants.{Less, Equal, Greater}
 use Rattle.etcd_types.specs.declared.key_value.KeyValue.{KeyValue}
 use Rattle.etcd_model.specs.Order.{beside, key_cmp, put_in}
 use Rattle.etcd_model.proofs.OrderLaws.{sorted-put_in, tied_keys}
 use Rattle.model_laws.specs.Recording.{by_key}
-
-pub by_key_total : IsTotalOrder by_key
-by_key_total = record {
-  antisymm = λ a b. nat_list_cmp_total.antisymm a.key b.key;
-  trans = λ a b c. nat_list_cmp_total.trans a.key b.key c.key;
-  congr = λ a b c. nat_list_cmp_total.congr a.key b.key c.key;
-}
+use Rattle.revision_store.proofs.SortingRows.{by_key_total}
 
 -- rows that ascend still do with one more in its place
 pub sorted_with : (row : KeyValue) (rows : List KeyValue) → IsStrictlySortedBy by_key rows → IsStrictlySortedBy by_key (put_in by_key rows row)

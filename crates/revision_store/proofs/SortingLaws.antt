@@ -5,7 +5,7 @@ use Rattle.std.specs.declared.cmp.Ordering.{Ordering}
 use Rattle.std.specs.declared.cmp.Ordering.TheVariants.{Less, Equal, Greater}
 use Rattle.std.specs.Cmp.{IsTotalOrder}
 use Rattle.std.specs.Ordering.{is_lt, is_eq, eq_by_cmp, ordering_reverse}
-use Rattle.std.specs.List.{AllByRecursion, IsDistinct, Contains}
+use Rattle.std.specs.List.{AllByRecursion, IsDistinct}
 use Rattle.std.specs.List.Sorted.{IsSorted, IsStrictlySortedBy, IsPermutation}
 use Rattle.std.proofs.lemmas.Cmp.{tied_itself, eq_by_cmp_equiv}
 use Rattle.std.proofs.lemmas.List.{append-nil}
@@ -14,6 +14,8 @@ use Rattle.std.proofs.lemmas.Map.Keys.{IsDistinct-IsPermutation, IsDistinct-from
 use Rattle.etcd_model.specs.Order.{beside, put_in, in_order}
 use Rattle.etcd_model.proofs.OrderLaws.{sorted-in_order}
 use Rattle.model_laws.specs.Recording.{IsIn}
+use Rattle.model_laws.proofs.LastIsLaws.{all_in}
+use Rattle.key_index.proofs.Order.{contains_from}
 
 -- ---- members
 
@@ -22,19 +24,8 @@ in_from_place [] q k lt is = absurd (omega arith)
 in_from_place (x ∷ xs) q zero lt is = inl (sym is)
 in_from_place (x ∷ xs) q (suc k) lt is = inr (in_from_place xs q k (omega arith) is)
 
-contains_from_in : {X : Type 0} (xs : List X) (q : X) → IsIn q xs → Contains xs q
-contains_from_in [] q h = absurd h
-contains_from_in (x ∷ xs) q h = elim h [
-  | inl e ↦ (0, omega arith, sym e)
-  | inr t ↦ let p = contains_from_in xs q t in (suc p.0, omega (arith, p.1), p.2)
-]
-
 in_permutation : {X : Type 0} (xs ys : List X) (q : X) → IsPermutation xs ys → IsIn q xs → IsIn q ys
-in_permutation xs ys q p h = let there = Contains-permutation xs ys q p (contains_from_in xs q h) in in_from_place ys q there.0 there.1 there.2
-
-all_in : {X : Type 0} (P : X → Type 0) (xs : List X) (q : X) → AllByRecursion P xs → IsIn q xs → P q
-all_in P [] q all h = absurd h
-all_in P (x ∷ xs) q all h = elim h [ inl e ↦ subst P (sym e) all.0 | inr t ↦ all_in P xs q all.1 t ]
+in_permutation xs ys q p h = let there = Contains-permutation xs ys q p (contains_from q xs h) in in_from_place ys q there.0 there.1 there.2
 
 all_behind : {X : Type 0} (P : X → Type 0) (xs ys : List X) → AllByRecursion P (xs ++ ys) → AllByRecursion P ys
 all_behind P [] ys all = all

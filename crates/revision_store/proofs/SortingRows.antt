@@ -4,7 +4,7 @@ use Rattle.std.specs.declared.cmp.Ordering.{Ordering}
 use Rattle.std.specs.declared.cmp.Ordering.TheVariants.{Less, Equal, Greater}
 use Rattle.std.specs.Cmp.{IsTotalOrder}
 use Rattle.std.specs.Ordering.{is_eq, eq_by_cmp, ordering_then, ordering_reverse}
-use Rattle.std.specs.List.{AllByRecursion, IsDistinct}
+use Rattle.std.specs.List.{IsDistinct}
 use Rattle.std.specs.List.Sorted.{IsSorted, IsStrictlySortedBy, IsPermutation}
 use Rattle.std.proofs.lemmas.Cmp.{on_total, then_total, nat_cmp_total, nat_list_cmp_total}
 use Rattle.etcd_types.specs.declared.key_value.KeyValue.{KeyValue}
@@ -15,6 +15,7 @@ use Rattle.etcd_types.specs.declared.kv.SortTarget.TheVariants.{Key, Version, Cr
 use Rattle.etcd_model.specs.Order.{in_order}
 use Rattle.etcd_model.specs.Ranges.{row_cmp, target_cmp}
 use Rattle.model_laws.specs.Recording.{by_key}
+use Rattle.model_laws.proofs.RecordedLaws.{all_weaker}
 use Rattle.revision_store.specs.Answering.{ascends_by_key}
 use Rattle.revision_store.proofs.SortingLaws.{sorted_is, length-in_order, already_in_order}
 
@@ -64,10 +65,6 @@ apart_by_row : (order : SortOrder) (target : SortTarget) (a b : KeyValue) → eq
 apart_by_row Unsorted target a b h = tied_after (target_cmp target a b) (by_key a b) h
 apart_by_row Ascend target a b h = tied_after (target_cmp target a b) (by_key a b) h
 apart_by_row Descend target a b h = tied_after (ordering_reverse (target_cmp target a b)) (by_key a b) h
-
-all_weaker : {X : Type 0} (P Q : X → Type 0) → ((x : X) → P x → Q x) → (xs : List X) → AllByRecursion P xs → AllByRecursion Q xs
-all_weaker P Q to [] all = tt
-all_weaker P Q to (x ∷ xs) all = (to x all.0, all_weaker P Q to xs all.1)
 
 pub rows_distinct : (order : SortOrder) (target : SortTarget) (rows : List KeyValue) → IsStrictlySortedBy by_key rows → IsDistinct (eq_by_cmp (row_cmp order target)) rows
 unfolding IsStrictlySortedBy IsDistinct

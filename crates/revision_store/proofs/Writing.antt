@@ -4,6 +4,7 @@ use Rattle.std.specs.List.{AllByRecursion}
 use Rattle.std.proofs.lemmas.List.Sums.{sum_by-cons}
 use Rattle.etcd_model.specs.Changes.{Recorded}
 use Rattle.etcd_model.specs.Kept.{cost_delete}
+use Rattle.model_laws.proofs.RecordedLaws.{all_push}
 use Rattle.key_index.specs.Entries.{Cells, Entry, change_at}
 use Rattle.revision_store.specs.declared.plan.Write.{Write}
 use Rattle.revision_store.specs.declared.plan.Write.TheVariants.{Put, Delete}
@@ -52,7 +53,7 @@ appended old now new revision writes ahead write before changes stay free leases
     record {
       of = before.of.1;
       fresh = subst (λ xs. AreFresh (cells_of old.records) revision xs ahead) (sym now_changes) before.fresh.1;
-      later = subst (AllByRecursion (λ x. x.revision ≤ revision)) (sym now_changes) (all_push now.changes (recorded_in (cells_of old.records) revision write) before.later (at_revision (cells_of old.records) write));
+      later = subst (AllByRecursion (λ x. x.revision ≤ revision)) (sym now_changes) (all_push (λ x. x.revision ≤ revision) now.changes (recorded_in (cells_of old.records) revision write) before.later (at_revision (cells_of old.records) write));
       changes = ap (λ xs. xs ++ ahead_changes) now_changes ∙ append_assoc now.changes (recorded_in (cells_of old.records) revision write ∷ []) ahead_changes ∙ before.changes;
       stay = λ c x is. stay c x (before.stay c x is);
       costs = omega (arith, before.costs, sum_by-cons (cost_in (cells_of old.records)) write ahead, cost, free);
@@ -65,10 +66,6 @@ appended old now new revision writes ahead write before changes stay free leases
     at_revision : (cells : Cells) (w : Write) → (recorded_in cells revision w).revision ≤ revision
     at_revision cells (Put row) = omega arith
     at_revision cells (Delete c) = omega arith
-
-    all_push : (xs : List Recorded) (y : Recorded) → AllByRecursion (λ x. x.revision ≤ revision) xs → y.revision ≤ revision → AllByRecursion (λ x. x.revision ≤ revision) (xs ++ y ∷ [])
-    all_push [] y all le = (le, tt)
-    all_push (x ∷ xs) y all le = (all.0, all_push xs y all.1 le)
 
 pub fresh_here : (old now : LogState) (revision : ℕ) (writes ahead : List Write) (write : Write) → IsAppending old now revision writes (write ∷ ahead)
     → AllByRecursion (λ x. x.key ≡ (recorded_in (cells_of now.records) revision write).key → x.revision < revision) now.changes

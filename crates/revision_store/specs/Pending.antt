@@ -1,5 +1,5 @@
 -- Changes that are pending over a store, as reads find them: the last that touches a key says what it is.
-use Rattle.std.specs.Prelude.{◌≡◌, ℕ, ◌+◌, ◌*◌, ◌<◌, ◌^◌, ◌&&◌, ◌||◌, ◌⊎◌, ℤ, pos, Bool, not, List, [], length, filter, filter_map, option_and_then, option_map, Option, Some, None, IsSome, slice_get, if◌then◌else◌, refl}
+use Rattle.std.specs.Prelude.{◌≡◌, ℕ, ◌+◌, ◌*◌, ◌<◌, ◌^◌, ◌&&◌, ◌||◌, ◌⊎◌, ℤ, pos, Bool, false, not, List, [], length, filter, filter_map, option_and_then, option_map, Option, Some, None, IsSome, slice_get, if◌then◌else◌, refl}
 use mathlib.Core.Logic.{inl, inr}
 use Rattle.std.specs.List.{AllByRecursion, list_any}
 use Rattle.std.specs.Option.{option_or}
@@ -64,9 +64,15 @@ pending_reads p = look p.store p.changes
 abbrev pub changes_key : List ℕ → List Change → Bool
 changes_key key cs = list_any (λ c. bytes_eq (key_of c) key) cs
 
--- some change is a put of a key of the interval
+-- some change is of a key of the interval, and some is a put of one
+abbrev pub changes_within : List ℕ → List ℕ → List Change → Bool
+changes_within key end cs = list_any (λ c. is_in key end (key_of c)) cs
+
+abbrev pub puts_within : List ℕ → List ℕ → List Change → Bool
+puts_within key end cs = list_any (λ c. is_put c && is_in key end (key_of c)) cs
+
 abbrev pub puts_inside : DeleteReq → List Change → Bool
-puts_inside d cs = list_any (λ c. is_put c && is_in d.key d.range_end (key_of c)) cs
+puts_inside d cs = puts_within d.key d.range_end cs
 
 -- ---- what reads look at
 
@@ -81,6 +87,16 @@ put_at writes place = option_and_then put_row (slice_get writes place)
 -- the rows of the puts at some places
 abbrev pub rows_at : List Write → List ℕ → List KeyValue
 rows_at writes places = filter_map (put_at writes) places
+
+-- a write is a put of a key of the interval
+abbrev pub is_put_in : List ℕ → List ℕ → Write → Bool
+is_put_in key end (Put row) = is_in key end row.key
+is_put_in key end (Delete cell) = false
+
+-- what it deletes is there
+abbrev pub IsThere : Cells → Write → Type 0
+IsThere cells (Put row) = Unit {0}
+IsThere cells (Delete cell) = IsSome (row_at cells cell)
 
 -- the row that the last put of a key leaves to it
 abbrev pub row_put_to : List ℕ → List KeyValue → Option KeyValue

@@ -1,5 +1,5 @@
 //! What turns the rows of an interval into the answer of a range.
-ghost use Rattle.std.specs.Prelude.{◌≡◌, ◌≤◌, map, pos};
+ghost use Rattle.std.specs.Prelude.{◌≡◌, ◌≤◌, false, map, pos};
 ghost use Rattle.std.specs.List.Sorted.{IsStrictlySortedBy};
 ghost use Rattle.etcd_model.specs.Ranges.{is_within, without_value};
 ghost use Rattle.model_laws.specs.Recording.{by_key};
@@ -8,9 +8,6 @@ ghost use Rattle.revision_store.specs.Answering.{given, is_by_key, IsLimit, Says
 use crate::sorting::sort_rows;
 use etcd_types::{KeyValue, List, RangeReq, SortOrder, SortTarget};
 use std::alloc::Global;
-
-#[cfg(test)]
-mod tests;
 
 /// A row that was created and last put at these revisions passes the filters of the range.
 pub(crate) fn is_wanted(request: &RangeReq, create_revision: u64, mod_revision: u64) -> bool
@@ -66,11 +63,12 @@ pub(crate) fn limit_of(request: &RangeReq, count: usize) -> usize
     }
 }
 
-/// The limit cuts some of the rows that it wants.
+/// The limit cuts some of the rows that it wants and gives.
 pub(crate) fn is_cut(request: &RangeReq, wanted: usize) -> bool
+    requires { request.now.count_only ≡ false }
     ensures { SaysMore request.now wanted result }
 {
-    !request.count_only && limit_of(request, wanted) < wanted
+    limit_of(request, wanted) < wanted
 }
 
 /// What is given of the rows that it wants, which ascend by key. Takes no memory.

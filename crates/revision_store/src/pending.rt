@@ -1,19 +1,19 @@
 //! Changes that are pending.
-ghost use Rattle.std.specs.Prelude.{◌≡◌, ◌+◌, ◌<◌, ◌^◌, [], false, is_some, map, pos, Some, None, IfOk, OnOk, OnErr, if◌then◌else◌};
+ghost use Rattle.std.specs.Prelude.{◌≡◌, ◌+◌, ◌<◌, ◌^◌, [], false, map, pos, Some, None, IfOk, OnOk, OnErr, if◌then◌else◌};
 ghost use Rattle.etcd_types.specs.declared.reply.OpReply.TheVariants.{Put as PutReply, Delete as DeleteReply};
 ghost use Rattle.etcd_types.specs.declared.txn.Op.TheVariants.{Range as RangeOp, Put as PutOp, Delete as DeleteOp};
 ghost use Rattle.etcd_model.specs.Changes.{version_of};
 ghost use Rattle.etcd_model.specs.Operations.{and_changes, op_reply};
 ghost use Rattle.etcd_model.specs.Reads.{revision_read, unreadable};
 ghost use Rattle.revision_store.specs.Stored.{IsPlanFor, cells, changes_of, look, reads, row_at};
-ghost use Rattle.revision_store.specs.Pending.{changes_key, pending_reads, present, puts_inside, row_put, value_put};
+ghost use Rattle.revision_store.specs.Pending.{changes_key, changes_within, pending_reads, present, puts_inside, puts_within, row_put, value_put};
 ghost use Rattle.std.specs.Option.{option_copied};
 
 use crate::overlay::{left_cells, push_deletes, rows_asked, rows_under};
 use crate::plan::{Plan, Write};
-use crate::ranging::rows_reply;
+use crate::ranging::{range_reply, rows_reply};
 use crate::store::Store;
-use crate::touching::{lies_erased, put_rows, row_put_to};
+use crate::touching::{changes_in, put_rows, puts_in};
 use etcd_types::{CellNo, CopyOf, DeleteReq, KeyValue, List, Mem, OpReply, PutReq, RangeReq};
 use std::alloc::Global;
 use std::marker::Model;
@@ -69,30 +69,8 @@ impl<'a> Pending<'a> {
         }
     }
 
-    /// Whether a key is live.
-    pub fn has(&self, key: &[u8]) -> bool
-        ensures { result ≡ is_some ((pending_reads self.now).row key.now) }
-    {
-        let store = self.store;
-        row_put_to(&self.writes, &self.puts, key).is_some()
-            || (!lies_erased(&self.deletes, key) && store.has_key(key))
-    }
-
-    /// The row of a key, if it is live.
-    pub fn row(&self, alloc: Global, key: &[u8]) -> Mem<Option<KeyValue>>
-        ensures { IfOk result (λ row. row ≡ (pending_reads self.now).row key.now) }
-    {
-        if let Some(row) = row_put_to(&self.writes, &self.puts, key) {
-            return Ok(Some(row.copy_of(alloc)?));
-        }
-        if lies_erased(&self.deletes, key) {
-            return Ok(None);
-        }
-        self.store.newest(alloc, key)
-    }
-
     /// The rows of the keys of an interval that are live, by ascending key.
-    pub fn rows(&self, alloc: Global, key: &[u8], range_end: &[u8]) -> Mem<Vec<KeyValue>>
+    fn rows(&self, alloc: Global, key: &[u8], range_end: &[u8]) -> Mem<Vec<KeyValue>>
         ensures { IfOk result (λ found. found.items ≡ (pending_reads self.now).rows key.now range_end.now) }
     {
         let store = self.store;
@@ -110,11 +88,26 @@ impl<'a> Pending<'a> {
         requires { unreadable (reads self.now.store) (revision_read (reads self.now.store) request.now.revision) ≡ None }
         ensures { IfOk result (λ reply. reply ≡ op_reply (pending_reads self.now) (pending_reads self.now).current (RangeOp request.now)) }
     {
-        if self.writes.is_empty() || request.revision > 0 {
+        let key = request.key.as_slice();
+        let range_end = request.range_end.as_slice();
+        if request.revision > 0 || !self.changes_in(key, range_end) {
             return self.store.range_at(alloc, request, self.current());
         }
-        let rows = self.rows(alloc, request.key.as_slice(), request.range_end.as_slice())?;
-        rows_reply(alloc, request, rows, self.current())
+        if puts_in(&self.writes, key, range_end) {
+            let rows = self.rows(alloc, key, range_end)?;
+            return rows_reply(alloc, request, rows, self.current());
+        }
+        let store = self.store;
+        let cells = self.live_cells(alloc, key, range_end)?;
+        range_reply(alloc, &store.log, request, cells, self.current())
+    }
+
+    /// Whether a change of a key of an interval is pending.
+    fn changes_in(&self, key: &[u8], range_end: &[u8]) -> bool
+        ensures { result ≡ changes_within key.now range_end.now self.now.changes }
+    {
+        let store = self.store;
+        changes_in(&store.log, &self.writes, key, range_end)
     }
 
     /// Puts a key that nothing pending changes, and answers as if it was done. Without memory nothing changes.
@@ -144,7 +137,7 @@ impl<'a> Pending<'a> {
         ensures reply { IfOk result (λ reply. reply ≡ op_reply (pending_reads self.old) (pending_reads self.new).current (DeleteOp request.now)) }
         ensures memory { OnErr result (self.new ≡ self.old) }
     {
-        let cells = self.live_cells(alloc, request)?;
+        let cells = self.live_cells(alloc, request.key.as_slice(), request.range_end.as_slice())?;
         let store = self.store;
         let prev_kvs = rows_asked(alloc, &store.log, &cells, request.prev_kv)?;
         self.deletes.reserve(1)?;
@@ -154,17 +147,14 @@ impl<'a> Pending<'a> {
     }
 
     /// The cells of the rows of an interval that nothing pending puts.
-    fn live_cells(&self, alloc: Global, request: &DeleteReq) -> Mem<Vec<CellNo>>
-        requires { puts_inside request.now self.now.changes ≡ false }
-        ensures { IfOk result (λ found. map (row_at (cells self.now.store)) found.items ≡ map Some ((pending_reads self.now).rows request.now.key request.now.range_end)) }
+    fn live_cells(&self, alloc: Global, key: &[u8], range_end: &[u8]) -> Mem<Vec<CellNo>>
+        requires { puts_within key.now range_end.now self.now.changes ≡ false }
+        ensures { IfOk result (λ found. map (row_at (cells self.now.store)) found.items ≡ map Some ((pending_reads self.now).rows key.now range_end.now)) }
     {
         let store = self.store;
-        let live = store.log.live_cells(
-            alloc,
-            request.key.as_slice(),
-            request.range_end.as_slice(),
-            store.current(),
-        )?;
+        let live = store
+            .log
+            .live_cells(alloc, key, range_end, store.current())?;
         left_cells(alloc, &store.log, live, &self.deletes)
     }
 

@@ -1,5 +1,5 @@
 //! Plans of one operation.
-ghost use Rattle.std.specs.Prelude.{◌≡◌, ◌+◌, ◌<◌, ◌^◌, None, Some, IfOk, MatchResult, is_some, option_map};
+ghost use Rattle.std.specs.Prelude.{◌≡◌, ◌+◌, ◌<◌, ◌^◌, true, None, Some, IfOk, IsOk, MatchResult, is_some, option_map};
 ghost use Rattle.etcd_types.specs.declared.txn.Op.TheVariants.{Put as PutOp, Delete as DeleteOp};
 ghost use Rattle.etcd_model.specs.Operations.{changes, op_reply};
 ghost use Rattle.etcd_model.specs.Ranges.{without_value};
@@ -34,10 +34,11 @@ impl Store {
         }
     }
 
-    /// Decides a put, or tells why it is refused.
+    /// Decides a put, or tells why it is refused, which takes no memory.
     pub fn plan_put(&self, alloc: Global, request: &PutReq) -> Mem<Result<PlannedOp, Refusal>>
         requires { self.now.kept.current + 1 < 2 ^ 63 }
         ensures refusal { IfOk result (λ answer. MatchResult answer (λ planned. put_refusal (reads self.now) request.now ≡ None) (λ refusal. put_refusal (reads self.now) request.now ≡ Some refusal)) }
+        ensures sure { is_some (put_refusal (reads self.now) request.now) ≡ true → IsOk result }
         ensures plan { IfOk result (λ answer. IfOk answer (λ planned. IsPlanOf self.now (PutOp request.now) planned.plan)) }
         ensures reply { IfOk result (λ answer. IfOk answer (λ planned. planned.reply ≡ op_reply (reads self.now) (self.now.kept.current + 1) (PutOp request.now))) }
     {

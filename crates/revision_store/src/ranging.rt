@@ -1,5 +1,5 @@
 //! The answer of a range.
-ghost use Rattle.std.specs.Prelude.{◌≡◌, ◌<◌, ◌^◌, filter, map, pos, None, Some, IsSome, IfOk, MatchResult, option_map};
+ghost use Rattle.std.specs.Prelude.{◌≡◌, ◌<◌, ◌^◌, filter, map, pos, true, None, Some, IsSome, is_some, IfOk, IsOk, MatchResult, option_map};
 ghost use Rattle.std.specs.List.Sorted.{IsStrictlySortedBy};
 ghost use Rattle.etcd_types.specs.declared.reply.OpReply.TheVariants.{Range as RangeReply};
 ghost use Rattle.etcd_types.specs.declared.txn.Op.TheVariants.{Range as RangeOp};
@@ -22,9 +22,10 @@ use std::alloc::Global;
 
 impl Store {
     /// Reads an interval at a revision, the newest for one of 0 or below. It is refused where that one is compacted or
-    /// still to come.
+    /// still to come, and that takes no memory.
     pub fn plan_range(&self, alloc: Global, request: &RangeReq) -> Mem<Result<OpReply, Refusal>>
         ensures refusal { IfOk result (λ answer. MatchResult answer (λ reply. unreadable (reads self.now) (revision_read (reads self.now) request.now.revision) ≡ None) (λ refusal. unreadable (reads self.now) (revision_read (reads self.now) request.now.revision) ≡ Some refusal)) }
+        ensures sure { is_some (unreadable (reads self.now) (revision_read (reads self.now) request.now.revision)) ≡ true → IsOk result }
         ensures reply { IfOk result (λ answer. IfOk answer (λ reply. reply ≡ op_reply (reads self.now) self.now.kept.current (RangeOp request.now))) }
     {
         if let Some(refusal) = self.unreadable(request.revision) {

@@ -1,4 +1,5 @@
 mod answers;
+mod asked;
 mod cell_store;
 mod random;
 mod scripts;
@@ -11,8 +12,8 @@ use etcd_types::{Mem, Step};
 use plain_store::PlainStore;
 use random::Random;
 use scripts::{
-    Line, across_compactions, changed_puts, filtered_ranges, intervals, limited_ranges,
-    old_revisions, sorted_ranges,
+    ACROSS_COMPACTIONS, CHANGED_PUTS, FILTERED_RANGES, INTERVALS, LIMITED_RANGES, Line,
+    OLD_REVISIONS, SORTED_RANGES, THREE_ROWS,
 };
 use std::alloc::Global;
 use std::process::Abort;
@@ -29,6 +30,13 @@ fn told_by<S: Answers>(alloc: Global, store: &mut S, step: &Step) -> Mem<String>
     text_of(alloc, &store.answer(alloc, step)?)
 }
 
+/// A store answers a line of a script as it says.
+fn assert_line<S: Answers>(rt: &impl Abort, alloc: Global, store: &mut S, line: &Line) -> Mem<()> {
+    let step = line.0.step(alloc)?;
+    assert_eq!(rt; told_by(alloc, store, &step)?.as_str(), line.1);
+    Ok(())
+}
+
 /// A new store answers each line of a script as it says.
 fn assert_told<S: Answers + Drop>(
     rt: &impl Abort,
@@ -37,17 +45,17 @@ fn assert_told<S: Answers + Drop>(
     lines: &[Line],
 ) -> Mem<()> {
     for line in lines {
-        assert_eq!(rt; told_by(alloc, &mut store, &line.step)?.as_str(), line.told);
+        assert_line(rt, alloc, &mut store, line)?;
     }
     Ok(())
 }
 
 /// The plain store, and one over each source of segments, answer a script as it says.
-fn assert_all_told(rt: &impl Abort, alloc: Global, lines: Vec<Line>) -> Mem<()> {
-    assert_told(rt, alloc, PlainStore::new(alloc, 1), &lines)?;
-    assert_told(rt, alloc, lowest(alloc)?, &lines)?;
-    assert_told(rt, alloc, highest(alloc)?, &lines)?;
-    assert_told(rt, alloc, filled(alloc)?, &lines)
+fn assert_all_told(rt: &impl Abort, alloc: Global, lines: &[Line]) -> Mem<()> {
+    assert_told(rt, alloc, PlainStore::new(alloc, 1), lines)?;
+    assert_told(rt, alloc, lowest(alloc)?, lines)?;
+    assert_told(rt, alloc, highest(alloc)?, lines)?;
+    assert_told(rt, alloc, filled(alloc)?, lines)
 }
 
 fn lowest(alloc: Global) -> Mem<CellStore<Lowest>> {
@@ -115,15 +123,43 @@ fn assert_agrees<S: Answers + Drop>(rt: &impl Abort, alloc: Global, mut store: S
 }
 
 #[test]
-fn scripts_are_answered_as_they_say(rt: HostRuntime) -> Mem<()> {
-    let alloc = rt.alloc();
-    assert_all_told(&rt, alloc, old_revisions(alloc)?)?;
-    assert_all_told(&rt, alloc, across_compactions(alloc)?)?;
-    assert_all_told(&rt, alloc, limited_ranges(alloc)?)?;
-    assert_all_told(&rt, alloc, filtered_ranges(alloc)?)?;
-    assert_all_told(&rt, alloc, sorted_ranges(alloc)?)?;
-    assert_all_told(&rt, alloc, changed_puts(alloc)?)?;
-    assert_all_told(&rt, alloc, intervals(alloc)?)
+fn old_revisions(rt: HostRuntime) -> Mem<()> {
+    assert_all_told(&rt, rt.alloc(), &OLD_REVISIONS)
+}
+
+#[test]
+fn across_compactions(rt: HostRuntime) -> Mem<()> {
+    assert_all_told(&rt, rt.alloc(), &ACROSS_COMPACTIONS)
+}
+
+#[test]
+fn limited_ranges(rt: HostRuntime) -> Mem<()> {
+    assert_all_told(&rt, rt.alloc(), &LIMITED_RANGES)
+}
+
+#[test]
+fn filtered_ranges(rt: HostRuntime) -> Mem<()> {
+    assert_all_told(&rt, rt.alloc(), &FILTERED_RANGES)
+}
+
+#[test]
+fn sorted_ranges(rt: HostRuntime) -> Mem<()> {
+    assert_all_told(&rt, rt.alloc(), &SORTED_RANGES)
+}
+
+#[test]
+fn three_rows(rt: HostRuntime) -> Mem<()> {
+    assert_all_told(&rt, rt.alloc(), &THREE_ROWS)
+}
+
+#[test]
+fn changed_puts(rt: HostRuntime) -> Mem<()> {
+    assert_all_told(&rt, rt.alloc(), &CHANGED_PUTS)
+}
+
+#[test]
+fn intervals(rt: HostRuntime) -> Mem<()> {
+    assert_all_told(&rt, rt.alloc(), &INTERVALS)
 }
 
 #[test]

@@ -1,7 +1,7 @@
 //! Steps by chance, the same in each run.
 ghost use Rattle.std.specs.Prelude.{◌<◌, ◌^◌};
 
-use crate::tests::scripts::{NO_END, bytes, range_request};
+use crate::tests::asked::{NO_END, bytes, range};
 use etcd_types::{DeleteReq, List, Mem, PutReq, RangeReq, SortOrder, SortTarget, Step};
 use std::alloc::Global;
 
@@ -62,7 +62,7 @@ impl Random {
     fn range(&mut self, alloc: Global, current: u64) -> Mem<RangeReq>
         requires { current < 2 ^ 62 }
     {
-        let mut request = range_request(alloc, self.key(), self.range_end())?;
+        let mut request = range(alloc, self.key(), self.range_end())?;
         request.limit = self.below(5) as i64 - 1;
         request.revision = self.revision_or_none(current);
         request.sort_order = self.sort_order();

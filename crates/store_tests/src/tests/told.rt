@@ -26,47 +26,63 @@ impl From<Result<OpReply, Refusal>> for Told {
 /// The revision, the number of keys where there is one, and then each row: its key, its value, the revisions at which it
 /// was created and changed, its version, and its lease if it has one.
 pub(super) fn text_of(alloc: Global, told: &Told) -> Mem<String> {
+    let mut text = String::new(alloc);
+    write_told(&mut text, told)?;
+    Ok(text)
+}
+
+fn write_told(text: &mut String, told: &Told) -> Mem<()> {
     match told {
-        Told::Reply(reply) => reply_text(alloc, reply),
-        Told::Refused(refusal) => format!(in alloc; "{refusal:?}"),
-        Told::Compacted => String::from_str(alloc, "compacted"),
-        Told::NoSpace => String::from_str(alloc, "no space"),
-        Told::NotDone => String::from_str(alloc, "not done"),
+        Told::Reply(reply) => write_reply(text, reply),
+        Told::Refused(refusal) => write!(text, "{refusal:?}"),
+        Told::Compacted => text.push_str("compacted"),
+        Told::NoSpace => text.push_str("no space"),
+        Told::NotDone => text.push_str("not done"),
     }
 }
 
-fn reply_text(alloc: Global, reply: &OpReply) -> Mem<String> {
+fn write_reply(text: &mut String, reply: &OpReply) -> Mem<()> {
     match reply {
         OpReply::Range {
             revision,
             count,
             kvs,
             more,
-        } => {
-            let mut text = format!(in alloc; "{revision}: {count}")?;
-            write_rows(&mut text, kvs.as_slice())?;
-            if *more {
-                text.push_str(" ..")?;
-            }
-            Ok(text)
-        }
-        OpReply::Put { revision, prev_kv } => {
-            let mut text = format!(in alloc; "{revision}")?;
-            if let Some(row) = prev_kv {
-                write_row(&mut text, row)?;
-            }
-            Ok(text)
-        }
+        } => write_range(text, *revision, *count, kvs.as_slice(), *more),
+        OpReply::Put { revision, prev_kv } => write_put(text, *revision, prev_kv.as_ref()),
         OpReply::Delete {
             revision,
             deleted,
             prev_kvs,
-        } => {
-            let mut text = format!(in alloc; "{revision}: {deleted}")?;
-            write_rows(&mut text, prev_kvs.as_slice())?;
-            Ok(text)
-        }
+        } => write_counted(text, *revision, *deleted, prev_kvs.as_slice()),
     }
+}
+
+fn write_range(
+    text: &mut String,
+    revision: i64,
+    count: u64,
+    rows: &[KeyValue],
+    more: bool,
+) -> Mem<()> {
+    write_counted(text, revision, count, rows)?;
+    if more {
+        text.push_str(" ..")?;
+    }
+    Ok(())
+}
+
+fn write_put(text: &mut String, revision: i64, before: Option<&KeyValue>) -> Mem<()> {
+    write!(text, "{revision}")?;
+    if let Some(row) = before {
+        write_row(text, row)?;
+    }
+    Ok(())
+}
+
+fn write_counted(text: &mut String, revision: i64, count: u64, rows: &[KeyValue]) -> Mem<()> {
+    write!(text, "{revision}: {count}")?;
+    write_rows(text, rows)
 }
 
 fn write_rows(text: &mut String, rows: &[KeyValue]) -> Mem<()> {
@@ -93,8 +109,8 @@ fn write_row(text: &mut String, row: &KeyValue) -> Mem<()> {
 }
 
 fn write_bytes(text: &mut String, bytes: &[u8]) -> Mem<()> {
-    for byte in bytes {
-        text.push(char::from(*byte))?;
+    match str::from_utf8(bytes) {
+        Ok(bytes) => text.push_str(bytes),
+        Err(_) => text.push('?'),
     }
-    Ok(())
 }

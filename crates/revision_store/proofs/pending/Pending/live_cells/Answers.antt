@@ -1,4 +1,5 @@
 use Rattle.std.proofs.Common.{◌≡◌, ◌∙◌, ap, false, map}
+use Rattle.etcd_types.specs.declared.kv.DeleteReq.{DeleteReq}
 use Rattle.etcd_model.specs.Interval.{is_in}
 use Rattle.etcd_model.specs.Changes.{rows}
 use Rattle.revision_store.specs.Recorded.{cells_of}
@@ -14,13 +15,13 @@ left_cells-requires c = under_rows (row_at (cells_of c.store.inside.log.records)
 pub returns : goal.returns
 returns c =
     let store = c.self.inside.store.now in
-    let d = c.args.request.now in
+    let d : DeleteReq = record { key = c.args.key.now; range_end = c.args.range_end.now; prev_kv = false } in
     let live = c.in_ok-live.live.items in
     let deletes = map (λ d. d.now) c.self.inside.deletes.items in
     let records : c.store.inside.log.records ≡ store.records = ap (λ (s : StoreState). s.records) c.store.view_is in
     let changes : c.store.inside.log.changes ≡ store.kept.changes = ap (λ (s : StoreState). s.kept.changes) c.store.view_is in
     let under : Under (row_at (cells store)) live (rows (is_in d.key d.range_end) store.kept.current store.kept.changes)
-    = rw (records, changes, c.as_slice.ensures, c.as_slice-2.ensures, c.current.ensures.current) at c.in_ok-live.ensures in
+    = rw (records, changes, c.current.ensures.current) at c.in_ok-live.ensures in
     let free : puts_inside d (changes_of store c.self.inside.writes.items) ≡ false = rw (← c.self.view_is) at c.requires in
     rw (← c.self.view_is)
     (if_ok _ _ c.left_cells.result (λ found e.

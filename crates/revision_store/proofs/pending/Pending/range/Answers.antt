@@ -1,60 +1,97 @@
-use Rattle.std.proofs.Common.{◌≡◌, ◌∙◌, ap, sym, subst, length, w64, to_z, of_z, rules}
-use Rattle.std.specs.Prelude.{int_lt, pos}
+use Rattle.std.proofs.Common.{◌≡◌, ℕ, ◌∙◌, List, false, ap, sym, subst, w64, to_z, of_z, rules}
+use Rattle.std.specs.Prelude.{int_lt, pos, Result, IfOk}
 use Rattle.std.specs.List.Sorted.{IsStrictlySortedBy}
-use Rattle.std.proofs.lemmas.Bool.Decides.{nat_tests}
-use Rattle.std.proofs.lemmas.List.{length-map}
 use Rattle.std.proofs.lemmas.Result.{IfOk-weaker}
+use Rattle.etcd_types.specs.declared.key_value.KeyValue.{KeyValue}
+use Rattle.etcd_types.specs.declared.kv.RangeReq.{RangeReq}
+use Rattle.etcd_types.specs.declared.reply.OpReply.{OpReply}
 use Rattle.etcd_types.specs.declared.txn.Op.TheVariants.{Range as RangeOp}
 use Rattle.etcd_model.specs.Operations.{op_reply}
-use Rattle.etcd_model.specs.Reads.{rows_read}
+use Rattle.etcd_model.specs.Reads.{Reads, rows_read}
 use Rattle.etcd_model.specs.Store.{IsStore}
 use Rattle.model_laws.specs.Recording.{by_key}
-use Rattle.revision_store.specs.Plans.{change_in}
-use Rattle.revision_store.specs.Stored.{cells, reads}
-use Rattle.revision_store.specs.Pending.{PendingState, pending_reads}
-use Rattle.revision_store.specs.Ranging.{range_answer}
-use Rattle.revision_store.proofs.PendingRanges.{rows_ascend, rows_named, rows_newest, rows_unchanged}
+use Rattle.revision_store.specs.Stored.{StoreState, cells, changes_of, look, reads, row_at}
+use Rattle.revision_store.specs.Pending.{PendingState, changes_within, pending_reads}
+use Rattle.revision_store.specs.Ranging.{range_answer, rows_of}
+use Rattle.revision_store.proofs.RangingCells.{all_show, filter_map-is}
+use Rattle.revision_store.proofs.PendingStores.{puts_are}
+use Rattle.revision_store.proofs.PendingRanges.{rows_ascend, rows_named, rows_newest, rows_outside}
 use Rattle.revision_store.proofs.pending.Pending.range.Goals as goal
-use Rattle.revision_store.proofs.pending.Pending.range.Goals.{then-is_empty-via-then-is_empty, then-is_empty-via-else-is_empty+then-request-gt0}
+use Rattle.revision_store.proofs.pending.Pending.range.Goals.{then-request-gt0-via-then-request-gt0, then-request-gt0-via-else-request-gt0+then-not-changes_in}
 
--- nothing is pending, or a revision is named
-pub returns-then-is_empty : goal.returns-then-is_empty
-returns-then-is_empty c =
+-- where no revision is named, the newest rows are answered
+newest : {E : Type 0} (R : Reads) (q : RangeReq) (result : Result OpReply E) (n : ℕ) (rows : List KeyValue) → int_lt (pos 0) q.revision ≡ false → n ≡ R.current → rows ≡ R.rows q.key q.range_end
+    → IfOk result (λ reply. reply ≡ range_answer q n rows) → IfOk result (λ reply. reply ≡ op_reply R R.current (RangeOp q))
+newest R q result n rows none current are =
+    IfOk-weaker result (λ reply. reply ≡ range_answer q n rows) (λ reply. reply ≡ op_reply R R.current (RangeOp q))
+    (λ reply h. h ∙ ap (λ m. range_answer q m rows) current ∙ ap (range_answer q R.current) (are ∙ sym (rows_newest R q.key q.range_end q.revision none)))
+
+-- a revision is named, or nothing of the interval is pending
+pub returns-then-request-gt0 : goal.returns-then-request-gt0
+returns-then-request-gt0 c =
     let p = c.args.self.now in
     let q = c.args.request.now in
     let R = pending_reads p in
     let store = c.self.inside.store.now in
-    let ws = c.self.inside.writes.items in
     let is : IsStore p.store.kept = subst (λ (s : PendingState). IsStore s.store.kept) c.self.view_is c.self.invariant.sound.kept in
-    let same : rows_read R q.key q.range_end q.revision ≡ rows_read (reads p.store) q.key q.range_end q.revision = elim c.then-is_empty.branch [
-      | then-is_empty-via-then-is_empty w ↦
-          let empty : length ws ≡ 0 = search (rules, nat_tests, c.self.inside.writes.ok.0, c.is_empty.ensures, w.if-is_empty.true) in
-          let none : length p.changes ≡ 0 = ap (λ (s : PendingState). length s.changes) (sym c.self.view_is) ∙ length-map ws (change_in (cells store)) ∙ empty in
-          rows_unchanged p.store.kept p.changes q.key q.range_end q.revision none
-      | then-is_empty-via-else-is_empty+then-request-gt0 w ↦
-          let bits : to_z w64 (of_z w64 q.revision) ≡ q.revision = search rules in
-          rows_named p.store.kept p.changes q.key q.range_end q.revision is (ap (int_lt (pos 0)) (sym bits) ∙ w.if-request-gt0.true) c.requires
+    let bits : to_z w64 (of_z w64 q.revision) ≡ q.revision = search rules in
+    let same : rows_read R q.key q.range_end q.revision ≡ rows_read (reads p.store) q.key q.range_end q.revision = elim c.then-request-gt0.branch [
+      | then-request-gt0-via-then-request-gt0 w ↦ rows_named p.store.kept p.changes q.key q.range_end q.revision is (ap (int_lt (pos 0)) (sym bits) ∙ w.if-request-gt0.true) c.requires
+      | then-request-gt0-via-else-request-gt0+then-not-changes_in w ↦
+          let none = ap (int_lt (pos 0)) (sym bits) ∙ w.if-request-gt0.false in
+          let outside : changes_within q.key q.range_end p.changes ≡ false = rw (c.as_slice-key.ensures, c.as_slice-range_end.ensures) at (sym w.changes_in.ensures ∙ w.if-not-changes_in.true) in
+          rows_newest R q.key q.range_end q.revision none ∙ rows_outside p.store.kept p.changes q.key q.range_end is outside ∙ sym (rows_newest (reads p.store) q.key q.range_end q.revision none)
     ] in
     let stored : rows_read (reads store) q.key q.range_end q.revision ≡ rows_read R q.key q.range_end q.revision = ap (λ (s : PendingState). rows_read (reads s.store) q.key q.range_end q.revision) c.self.view_is ∙ sym same in
     IfOk-weaker c.range_at.result (λ reply. reply ≡ op_reply (reads store) c.current.result (RangeOp q)) (λ reply. reply ≡ op_reply R R.current (RangeOp q))
     (λ reply h. h ∙ ap (λ n. range_answer q n (rows_read (reads store) q.key q.range_end q.revision)) c.current.ensures.current ∙ ap (range_answer q R.current) stored)
     c.range_at.ensures
 
+-- something of the interval is put
 pub rows_reply-requires-clause-ascend : goal.rows_reply-requires-clause-ascend
 rows_reply-requires-clause-ascend c =
     let p = c.args.self.now in
     let is : IsStore p.store.kept = subst (λ (s : PendingState). IsStore s.store.kept) c.self.view_is c.self.invariant.sound.kept in
-    subst (IsStrictlySortedBy by_key) (sym c.in_ok-rows.ensures) (rows_ascend p.store.kept p.changes c.as_slice.result.now c.as_slice-2.result.now is)
+    subst (IsStrictlySortedBy by_key) (sym c.in_ok-rows.ensures) (rows_ascend p.store.kept p.changes c.as_slice-key.result.now c.as_slice-range_end.result.now is)
+
+pub returns-then-puts_in : goal.returns-then-puts_in
+returns-then-puts_in c =
+    let q = c.args.request.now in
+    let R = pending_reads c.args.self.now in
+    let bits : to_z w64 (of_z w64 q.revision) ≡ q.revision = search rules in
+    newest R q c.rows_reply.result c.current-then-puts_in.result c.in_ok-rows.rows.items (ap (int_lt (pos 0)) (sym bits) ∙ c.if-request-gt0.false) c.current-then-puts_in.ensures.current
+    (c.in_ok-rows.ensures ∙ ap (λ k. R.rows k c.as_slice-range_end.result.now) c.as_slice-key.ensures ∙ ap (R.rows q.key) c.as_slice-range_end.ensures)
+    c.rows_reply.ensures
+
+-- nothing of it is
+pub live_cells-requires : goal.live_cells-requires
+live_cells-requires c =
+    rw (← c.self.view_is) (sym (puts_are c.self.inside.store.now c.as_slice-key.result.now c.as_slice-range_end.result.now c.self.inside.writes.items) ∙ (rw (c.deref.ensures.value) at (sym c.puts_in.ensures)) ∙ c.if-puts_in.false)
+
+pub range_reply-requires-clause-rows : goal.range_reply-requires-clause-rows
+range_reply-requires-clause-rows c =
+    let records : c.store.inside.log.records ≡ c.self.inside.store.now.records = ap (λ (s : StoreState). s.records) c.store.view_is in
+    let at = row_at (cells c.self.inside.store.now) in
+    rw records (all_show at c.in_ok-cells.cells.items _ (sym (rw (← c.self.view_is) at c.in_ok-cells.ensures)))
+
+pub range_reply-requires-clause-ascend : goal.range_reply-requires-clause-ascend
+range_reply-requires-clause-ascend c =
+    let store = c.self.inside.store.now in
+    let changes = changes_of store c.self.inside.writes.items in
+    let records : c.store.inside.log.records ≡ store.records = ap (λ (s : StoreState). s.records) c.store.view_is in
+    let found = filter_map-is (row_at (cells store)) c.in_ok-cells.cells.items _ (sym (rw (← c.self.view_is) at c.in_ok-cells.ensures)) in
+    rw records (subst (IsStrictlySortedBy by_key) found (rows_ascend store.kept changes c.as_slice-key.result.now c.as_slice-range_end.result.now c.self.invariant.sound.kept))
 
 pub returns : goal.returns
 returns c =
-    let p = c.args.self.now in
     let q = c.args.request.now in
-    let R = pending_reads p in
+    let store = c.self.inside.store.now in
+    let R = look store (changes_of store c.self.inside.writes.items) in
     let bits : to_z w64 (of_z w64 q.revision) ≡ q.revision = search rules in
-    let newest = rows_newest R q.key q.range_end q.revision (ap (int_lt (pos 0)) (sym bits) ∙ c.if-request-gt0.false) in
-    let rows : c.in_ok-rows.rows.items ≡ rows_read R q.key q.range_end q.revision =
-    c.in_ok-rows.ensures ∙ ap (λ k. R.rows k c.as_slice-2.result.now) c.as_slice.ensures ∙ ap (R.rows q.key) c.as_slice-2.ensures ∙ sym newest in
-    IfOk-weaker c.rows_reply.result (λ reply. reply ≡ range_answer q c.current-2.result c.in_ok-rows.rows.items) (λ reply. reply ≡ op_reply R R.current (RangeOp q))
-    (λ reply h. h ∙ ap (λ n. range_answer q n c.in_ok-rows.rows.items) c.current-2.ensures.current ∙ ap (range_answer q R.current) rows)
-    c.rows_reply.ensures
+    let records : c.store.inside.log.records ≡ store.records = ap (λ (s : StoreState). s.records) c.store.view_is in
+    let found = filter_map-is (row_at (cells store)) c.in_ok-cells.cells.items _ (sym (rw (← c.self.view_is) at c.in_ok-cells.ensures)) in
+    let current : c.current-2.result ≡ R.current = rw (← c.self.view_is) at c.current-2.ensures.current in
+    rw (← c.self.view_is)
+    (newest R q c.range_reply.result c.current-2.result (rows_of (cells store) c.in_ok-cells.cells.items) (ap (int_lt (pos 0)) (sym bits) ∙ c.if-request-gt0.false) current
+    (sym found ∙ ap (λ k. R.rows k c.as_slice-range_end.result.now) c.as_slice-key.ensures ∙ ap (R.rows q.key) c.as_slice-range_end.ensures)
+    (rw records at c.range_reply.ensures))
