@@ -1,5 +1,7 @@
 -- A replay goes on line by line.
 use Rattle.std.proofs.Common.{◌≡◌, ◌≢◌, ◌∙◌, sym, ap, subst, refl, ℕ, ◌+◌, ◌<◌, List, [], ◌∷◌, ◌++◌, append_assoc, append-nil, length, length-append, Option, None, Some, IfSome, arith, lt-ltb, eq-eqb, true, false, flat_map}
+use Rattle.std.proofs.ByRecursion.{All-push}
+use Rattle.std.proofs.lemmas.Bool.{true≢false}
 use Rattle.std.proofs.lemmas.List.{map-append}
 use Rattle.std.proofs.lemmas.Grind.{flat_map-append}
 use Rattle.std.proofs.KnownBytes.{Appends-nil, Appends-trans}
@@ -17,7 +19,7 @@ use Rattle.etcd_replay.specs.Replaying.{TenantState, LineTurn, Tells}
 use Rattle.etcd_replay.specs.Written.{Wrote, StopsAt, StopsAmong}
 use Rattle.etcd_replay.specs.Going.{Going}
 use Rattle.etcd_replay.proofs.FirstLine.{first_line, at_end}
-use Rattle.etcd_replay.proofs.Replayed.{all_push, replayed_push, spoken_by}
+use Rattle.etcd_replay.proofs.Replayed.{replayed_push, spoken_by}
 
 abbrev written : LineTurn → List ℕ
 written x = line_of x.answer
@@ -60,7 +62,7 @@ going_more (Some script) now next old mid new before after n line q a going take
       turns = g.turns ++ x ∷ [];
       read = map-append read_line g.done (strip_last 10 line ∷ []) ∙ (λ i. g.read i ++ is i ∷ []) ∙ sym (map-append asked_line g.turns (x ∷ []));
       replayed = replayed_push g.turns before after q a g.replayed tells;
-      spoken = all_push _ g.turns x g.spoken (spoken_by before after q a tells);
+      spoken = All-push _ g.turns x g.spoken (spoken_by before after q a tells);
       text = subst (Appends old new) (sym (flat_map-append written g.turns (x ∷ [])))
           (Appends-trans old mid new (flat_map written g.turns) (flat_map written (x ∷ [])) g.text (subst (Appends mid new) (sym (append-nil (line_of a))) wrote));
     }
@@ -130,8 +132,5 @@ empty_is n [] len zero = refl
 empty_is n (x ∷ xs) len zero = let none : n ≡ 0 = eqb-true n 0 zero in absurd (omega (arith, len, none))
 
 pub full_is : (n : ℕ) (xs : List ℕ) → n ≡ length xs → (n == 0) ≡ false → xs ≢ []
-full_is n [] len some = λ _. true_is_not (sym (eq-eqb n 0 len) ∙ some)
-  where
-    true_is_not : true ≡ false → ⊥
-    true_is_not h = cc
+full_is n [] len some = λ _. true≢false (sym (eq-eqb n 0 len) ∙ some)
 full_is n (x ∷ xs) len some = λ h. cc

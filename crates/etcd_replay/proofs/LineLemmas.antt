@@ -1,6 +1,7 @@
 -- A line that is taken in parts, and one that is too long.
 use Rattle.std.proofs.Common.{◌≡◌, ◌≢◌, ℕ, ◌-◌, ◌<◌, ◌≤◌, Bool, true, false, List, [], ◌∷◌, ◌++◌, All, None, Some, IfSome, OnSome, cond, length, take, drop, refl, sym, ap, subst, ◌∙◌, arith, length-append, length-take-le, append-nil, ne_eqb}
-use Rattle.std.specs.Prelude.{Option, ◌&&◌}
+use Rattle.std.specs.Prelude.{Option}
+use Rattle.std.proofs.lemmas.Bool.{and_right}
 use Rattle.std.proofs.lemmas.List.Elements.{All-append, All-get_or}
 use Rattle.std.specs.Io.{StartsWith, StopsAt, IsEmptyOrEndsWith}
 use Rattle.std.specs.Io.KnownBytes.{Consumes, IsAtEnd}
@@ -45,14 +46,10 @@ strip_least xs = by (ends_with_byte 10 xs)
     by true = omega (arith, length-take-le (length xs - 1) xs)
     by false = omega arith
 
-and_false : (a b : Bool) → b ≡ false → (a && b) ≡ false
-and_false true b h = h
-and_false false b h = refl
-
 last_plain : (x : ℕ) (xs : List ℕ) → All (λ y. y ≢ 10) (x ∷ xs) → ends_with_byte 10 (x ∷ xs) ≡ false
 last_plain x xs plain =
     let at : length (x ∷ xs) - 1 < length (x ∷ xs) = omega arith in
-    and_false _ _ (ne_eqb _ 10 (All-get_or (λ y. y ≢ 10) (x ∷ xs) (length (x ∷ xs) - 1) 0 at plain))
+    and_right _ _ (ne_eqb _ 10 (All-get_or (λ y. y ≢ 10) (x ∷ xs) (length (x ∷ xs) - 1) 0 at plain))
 
 strip_plain : (line : List ℕ) → All (λ y. y ≢ 10) line → strip_last 10 line ≡ line
 strip_plain [] plain = refl

@@ -2,6 +2,8 @@
 use Rattle.std.proofs.Common.{◌≡◌, ◌∙◌, sym, ap, subst, refl, ℕ, Bool, true, false, List, [], ◌∷◌, ◌++◌, append_assoc, append-nil, Option, None, Some}
 use Rattle.std.specs.Prelude.{◌&&◌, ◌||◌, not, cond, filter_map}
 use Rattle.std.specs.List.{AllByRecursion, cons_option}
+use Rattle.std.proofs.ByRecursion.{All-push}
+use Rattle.std.proofs.lemmas.Bool.{true≢false}
 use Rattle.std.proofs.lemmas.List.{map-append}
 use Rattle.etcd_model.specs.declared.state.History.{History}
 use Rattle.etcd_model.specs.declared.state.State.{State}
@@ -17,14 +19,7 @@ use Rattle.etcd_replay.specs.declared.answer.LineAnswer.TheVariants.{Done, No, T
 use Rattle.etcd_replay.specs.Script.{Asked, Add, Call}
 use Rattle.etcd_replay.specs.Replaying.{TenantState, LineTurn, IsAdded, IsCalled, Tells, IsUnserved, IsAlone, IsSpoken, IsTenant, IsReplayed, Opens, add_fault, is_name, within_limits, is_own_call, turn_of, turns}
 
-true_is_not : true ≡ false → ⊥
-true_is_not h = cc
-
 -- ---- lists with one more
-
-pub all_push : (P : LineTurn → Type 0) (xs : List LineTurn) (x : LineTurn) → AllByRecursion P xs → P x → AllByRecursion P (xs ++ x ∷ [])
-all_push P [] x all one = (one, tt)
-all_push P (y ∷ ys) x all one = (all.0, all_push P ys x all.1 one)
 
 turns-push : (xs : List LineTurn) (x : LineTurn) → turns (xs ++ x ∷ []) ≡ turns xs ++ filter_map turn_of (x ∷ [])
 turns-push [] x = refl
@@ -68,7 +63,7 @@ module _ (name : List ℕ) (S : State History) (xs : List LineTurn) (t u : Tenan
         named = ap (λ (v : TenantState). v.name) same ∙ is.named;
         told_alone = ap told still ∙ is.told_alone ∙ ap (λ ts. alone S (asked ts)) (sym still);
         holds = subst (λ ts. Holds (alone_after S (asked ts)) (tenant u.machine)) (sym still) (subst (λ (v : TenantState). Holds (alone_after S (asked (own name (turns xs)))) (tenant v.machine)) (sym same) is.holds);
-        others = all_push _ xs x is.others beside;
+        others = All-push _ xs x is.others beside;
       }
 
 -- ---- an own event that was answered
@@ -94,7 +89,7 @@ alone_told name S xs t u method target body a is mine answered named same holds 
           ∙ (λ i. is.told_alone i ++ same i ∷ [])
           ∙ sym (alone-push S (asked before) e) ∙ ap (alone S) (sym events);
       holds = subst (λ T. Holds T (tenant u.machine)) (sym (alone_after-push S (asked before) e) ∙ ap (alone_after S) (sym events)) holds;
-      others = all_push _ xs x is.others (λ other. absurd (true_is_not (sym mine ∙ other)));
+      others = All-push _ xs x is.others (λ other. absurd (true≢false (sym mine ∙ other)));
     }
 
 -- ---- one more line
@@ -143,12 +138,12 @@ opened xs name cluster quota first new before free opens =
 
 -- nobody is there, and nobody comes
 unserved_more : (xs : List LineTurn) (new : Option TenantState) (x : LineTurn) → AllByRecursion (λ (y : LineTurn). IsUnserved false y.asked y.answer) xs → new ≡ None → IsUnserved false x.asked x.answer → IsReplayed (xs ++ x ∷ []) new
-unserved_more xs new x before none one = subst (IsReplayed (xs ++ x ∷ [])) (sym none) (all_push _ xs x before one)
+unserved_more xs new x before none one = subst (IsReplayed (xs ++ x ∷ [])) (sym none) (All-push _ xs x before one)
 
 unserved_call : (xs : List LineTurn) (new : Option TenantState) (method target body : List ℕ) (a : Answer) (unanswered : Bool) → is_unanswered a ≡ unanswered
     → AllByRecursion (λ (y : LineTurn). IsUnserved false y.asked y.answer) xs → IsCalled None (Called method target body) a new → IsReplayed (xs ++ record { asked = Call method target body; answer = Told a } ∷ []) new
 unserved_call xs new method target body a true is before called =
-    unserved_more xs new (record { asked = Call method target body; answer = Told a }) before (called.memory is).0 (λ other. absurd (true_is_not (sym is ∙ other)))
+    unserved_more xs new (record { asked = Call method target body; answer = Told a }) before (called.memory is).0 (λ other. absurd (true≢false (sym is ∙ other)))
 unserved_call xs new method target body a false is before called =
     let none = (called.served is).none refl in
     unserved_more xs new (record { asked = Call method target body; answer = Told a }) before none.0 (λ _. none.1)
@@ -167,7 +162,7 @@ served_call xs t new method target body a is true mine quiet own_is called =
     let turn : Turn = record { event = e; answer = a } in
     let none : own is.name (turn ∷ []) ≡ [] = ap (λ b. cond ((is_of is.name e && true) && not b) (turn ∷ []) []) quiet ∙ ap (λ b. cond b (turn ∷ []) []) (and_false (is_of is.name e && true)) in
     subst (IsReplayed (xs ++ x ∷ [])) (sym (called.memory quiet).0)
-    (grown xs t t x is (alone_passed is.name (opening is.cluster is.quota is.first) is.later t t x is.served refl (λ other answered. absurd (true_is_not (sym quiet ∙ answered))) none))
+    (grown xs t t x is (alone_passed is.name (opening is.cluster is.quota is.first) is.later t t x is.served refl (λ other answered. absurd (true≢false (sym quiet ∙ answered))) none))
 served_call xs t new method target body a is false false answered other called =
     let e = Called method target body in
     let x : LineTurn = record { asked = Call method target body; answer = Told a } in

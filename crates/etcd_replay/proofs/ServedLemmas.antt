@@ -1,9 +1,10 @@
 -- What serves a step and a call.
-use Rattle.std.proofs.Common.{◌≡◌, ◌∙◌, ℕ, List, ap, sym, subst, Ok, Option, Some, true, false}
+use Rattle.std.proofs.Common.{◌≡◌, ◌∙◌, ℕ, List, ap, sym, subst, Ok, Some, true}
 use Rattle.std.specs.Str.{bytes_eq}
+use Rattle.std.proofs.lemmas.Bool.{true≢false}
+use Rattle.std.proofs.lemmas.Option.{same_Some}
 use borrow.Author.Tests.{eqb-true}
 use Rattle.etcd_types.specs.declared.step.Step.{Step}
-use Rattle.etcd_types.specs.declared.reply.Reply.{Reply}
 use Rattle.etcd_model.specs.Alone.{Called, is_of, names, read_event, read_target, answer_to, after_read}
 use Rattle.etcd_model.specs.Calls.{Target, read_posted, target_of}
 use Rattle.etcd_model.specs.Held.{Holds}
@@ -29,11 +30,11 @@ pub called_serves : (t u : TenantState) (method target body : List ℕ) (found :
 called_serves t u method target body found a is mine serves named = record {
   served = λ answered. record {
     own = λ s S same own holds.
-        let one : t ≡ s = some_is t s same in
+        let one : t ≡ s = same_Some t s same in
         let held : Holds S (tenant t.machine) = subst (λ (v : TenantState). Holds S (tenant v.machine)) (sym one) holds in
         let now = serves.served S answered held in
         (now.0 ∙ ap (answer_to S) (sym read), (u.machine, (λ i. Some (record { name = (named ∙ ap (λ (v : TenantState). v.name) one) i; machine = u.machine })), subst (λ r. Holds (after_read S r) (tenant u.machine)) (sym read) now.1));
-    none = λ other. absurd (true_is_not (sym there ∙ other));
+    none = λ other. absurd (true≢false (sym there ∙ other));
   };
   memory = λ unanswered. (λ i. Some (record { name = named i; machine = (serves.memory unanswered).0 i }), (serves.memory unanswered).1);
 }
@@ -43,9 +44,3 @@ called_serves t u method target body found a is mine serves named = record {
 
     there : is_of t.name (Called method target body) ≡ true
     there = ap (names t.name) is ∙ mine
-
-    some_is : (x y : TenantState) → Some x ≡ Some y → x ≡ y
-    some_is x y h = cc
-
-    true_is_not : true ≡ false → ⊥
-    true_is_not h = cc

@@ -1,7 +1,8 @@
 //! A script's lines, one at a time.
-ghost use Rattle.std.specs.Prelude.{◌≡◌, ◌≢◌, ◌+◌, ◌<◌, ◌≤◌, ◌-◌, ℕ, All, length, take, true, false, IfOk, IfErr, IfSome, OnOk, OnSome, Ok};
+ghost use Rattle.std.specs.Prelude.{◌≡◌, ◌≢◌, ◌+◌, ◌<◌, ◌≤◌, ◌-◌, ℕ, All, length, take, true, false, IfOk, IfErr, IfSome, OnErr, OnOk, OnSome, Ok};
 ghost use Rattle.std.specs.Io.{StartsWith, StopsAt, IsEmptyOrEndsWith, appended_bytes};
 ghost use Rattle.std.specs.Io.KnownBytes.{Consumes, IsAtEnd};
+ghost use Rattle.std.specs.IoError.{error_kind};
 ghost use Rattle.std.specs.Io.BufRead.{take_through, strip_last, DropsThrough};
 
 use crate::fault::ReplayFault;
@@ -73,6 +74,10 @@ fn take_some<R: BufRead>(
 /// A read that was interrupted is tried again.
 fn unless_interrupted(error: &Error) -> Result<bool, ReplayFault>
     ensures again { IfOk result (λ whole. whole ≡ false) }
+    ensures interrupted { OnOk result (error_kind error.now ≡ ErrorKind.Interrupted) }
+    ensures other { OnErr result (error_kind error.now ≢ ErrorKind.Interrupted) }
+    ensures memory { IfErr result (λ f. f ≡ ReplayFault.Memory → error_kind error.now ≡ ErrorKind.OutOfMemory) }
+    ensures io { IfErr result (λ f. f ≡ ReplayFault.Io → error_kind error.now ≢ ErrorKind.OutOfMemory) }
     ensures fault { IfErr result (λ f. (n : ℕ) → f ≢ ReplayFault.Line n) }
 {
     match error.kind() {

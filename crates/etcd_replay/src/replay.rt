@@ -187,7 +187,7 @@ fn no_memory() -> Answer
     ensures { result ≡ text (Reply.Refused Refusal.Memory) }
 {
     Answer {
-        status: 503,
+        status: Refusal::Memory.status(),
         body: Body::Fixed(memory_text()),
     }
 }

@@ -1,5 +1,5 @@
 //! Answers a script's lines in turn.
-ghost use Rattle.std.specs.Prelude.{◌≡◌, ℕ, IfErr, IfSome, OnOk};
+ghost use Rattle.std.specs.Prelude.{◌≡◌, ℕ, None, IfErr, IfSome, OnOk};
 ghost use Rattle.etcd_replay.specs.Script.{lines_of};
 ghost use Rattle.etcd_replay.specs.Written.{Wrote, StopsAt, StopsAmong};
 
@@ -42,14 +42,30 @@ pub(crate) fn run_over<S: Reserve, R: BufRead, W: Write>(
 {
     let mut replay = Replay::<S>::new();
     let mut text = Vec::new(alloc);
+    run_lines(alloc, reader, writer, &mut replay, &mut text)
+}
+
+/// The same with a replay that has no tenant yet, and with the memory for a line.
+fn run_lines<S: Reserve, R: BufRead, W: Write>(
+    alloc: Global,
+    reader: &mut R,
+    writer: &mut W,
+    replay: &mut Replay<S>,
+    text: &mut Vec<u8>,
+) -> Result<(), ReplayFault>
+    requires { replay.old.tenant ≡ None }
+    ensures ok { OnOk result (IfSome (R.remaining reader.old) (λ script. Wrote (W.contents writer.old) (W.contents writer.new) (lines_of script))) }
+    ensures line { IfErr result (λ f. (n : ℕ) → f ≡ ReplayFault.Line n → IfSome (R.remaining reader.old) (λ script. StopsAt n script (W.contents writer.old) (W.contents writer.new))) }
+    ensures memory { IfErr result (λ f. f ≡ ReplayFault.Memory → IfSome (R.remaining reader.old) (λ script. StopsAmong script (W.contents writer.old) (W.contents writer.new))) }
+{
     for n in 0..u32::MAX {
-        if let Taken::TooLong = take_line(reader, &mut text)? {
+        if let Taken::TooLong = take_line(reader, text)? {
             return Err(ReplayFault::Line(n + 1));
         }
         if text.is_empty() {
             return Ok(());
         }
-        let Some(line) = read_line(without_newline(&text)) else {
+        let Some(line) = read_line(without_newline(text)) else {
             return Err(ReplayFault::Line(n + 1));
         };
         let answer = replay.answer(alloc, &line);

@@ -1,5 +1,5 @@
--- How many cells are in use, and how many are free, after a commit.
-use Rattle.std.proofs.Common.{◌≡◌, ℕ, ◌+◌, ◌≤◌, List, ap, sym, subst, ◌∙◌, arith}
+-- How many cells are in use after a commit.
+use Rattle.std.proofs.Common.{◌≡◌, ℕ, ◌+◌, ◌≤◌, List, ap, sym, ◌∙◌, arith}
 use Rattle.std.specs.Prelude.{sum_by}
 use Rattle.etcd_types.specs.declared.key_value.KeyValue.{KeyValue}
 use Rattle.etcd_model.specs.Interval.{every_key}
@@ -7,13 +7,10 @@ use Rattle.etcd_model.specs.Kept.{cost_delete}
 use Rattle.etcd_model.specs.Changes.{kept}
 use Rattle.etcd_model.specs.Store.{Store, IsStore, cells, compact, record_cells, reserved_cells}
 use Rattle.model_laws.proofs.HistoryKeptLaws.{rows_kept}
-use Rattle.model_laws.proofs.SpaceLaws.{after_is_store, compact_is_store, compaction_takes_none}
+use Rattle.model_laws.proofs.SpaceLaws.{compaction_takes_none}
 use Rattle.revision_store.specs.declared.plan.Write.{Write}
-use Rattle.revision_store.specs.Plans.{costs_in}
-use Rattle.revision_store.specs.Stored.{StoreState, changes_of}
-use Rattle.revision_store.specs.Stored as stored
+use Rattle.revision_store.specs.Stored.{StoreState}
 use Rattle.quota_alarm.specs.declared.quota.Quota.{Quota}
-use Rattle.revision_store.proofs.Grown.{costs_of, records_after}
 use Rattle.tenant_machine.specs.Held.{IsMachine}
 use Rattle.tenant_machine.specs.Plans.{FitsCompaction, FitsWrite, written}
 
@@ -33,13 +30,11 @@ used_after s r within is = omega (arith, reserved_stays s r within is)
 
 -- ---- a machine after a commit
 
--- after a write as many cells are in use as were planned, and those that are free are fewer by what its changes take
+-- after a write as many cells are in use as were planned
 pub machine_after_write : (store new : StoreState) (quota : Quota) (writes : List Write) (used : ℕ) → IsMachine store quota → FitsWrite store writes used
-    → new.kept ≡ written store writes → new.free + costs_in (stored.cells store) writes ≡ store.free → new.lease_cells ≡ store.lease_cells → new.reserved ≡ store.reserved → IsMachine new (record quota { used = used })
-machine_after_write store new quota writes used is fits kept free leases reserved = record {
-  sound = subst IsStore (sym kept) (after_is_store store.kept (changes_of store writes) is.sound);
+    → new.kept ≡ written store writes → new.lease_cells ≡ store.lease_cells → new.reserved ≡ store.reserved → IsMachine new (record quota { used = used })
+machine_after_write store new quota writes used is fits kept leases reserved = record {
   used = fits.counted ∙ ap cells (sym kept);
-  space = omega (arith, is.space, free, leases, reserved, ap (λ (s : Store). record_cells s.changes) kept, records_after store.kept (changes_of store writes), costs_of (stored.cells store) writes);
   leases = leases ∙ is.leases;
   within = omega (arith, fits.within, reserved);
   allowed = omega (arith, is.allowed, reserved);
@@ -47,18 +42,16 @@ machine_after_write store new quota writes used is fits kept free leases reserve
 }
 
 -- after a compaction the cells in use are fewer by those that records no longer take
-pub machine_after_compaction : (store new : StoreState) (quota : Quota) (revision used : ℕ) → IsMachine store quota → FitsCompaction store revision
-    → new.kept ≡ compact store.kept revision → new.free + record_cells new.kept.changes ≡ store.free + record_cells store.kept.changes → new.lease_cells ≡ store.lease_cells → new.reserved ≡ store.reserved
+pub machine_after_compaction : (store new : StoreState) (quota : Quota) (revision used : ℕ) → IsMachine store quota → IsStore store.kept → FitsCompaction store revision
+    → new.kept ≡ compact store.kept revision → new.lease_cells ≡ store.lease_cells → new.reserved ≡ store.reserved
     → used + record_cells store.kept.changes ≡ quota.used + record_cells new.kept.changes → IsMachine new (record quota { used = used })
-machine_after_compaction store new quota revision used is fits kept free leases reserved falls =
+machine_after_compaction store new quota revision used is sound fits kept leases reserved falls =
     let records = ap (λ (s : Store). record_cells s.changes) kept in
     let counted = ap cells kept in
-    let taken = used_after store.kept revision fits.within is.sound in
-    let fewer : record_cells new.kept.changes ≤ record_cells store.kept.changes = omega (arith, records, fewer_records store.kept revision (omega (arith, fits.above)) fits.within is.sound) in
+    let taken = used_after store.kept revision fits.within sound in
+    let fewer : record_cells new.kept.changes ≤ record_cells store.kept.changes = omega (arith, records, fewer_records store.kept revision (omega (arith, fits.above)) fits.within sound) in
     record {
-      sound = subst IsStore (sym kept) (compact_is_store store.kept revision fits.within is.sound);
       used = omega (arith, falls, is.used, taken, records, counted);
-      space = omega (arith, is.space, free, leases, reserved);
       leases = leases ∙ is.leases;
       within = omega (arith, is.within, reserved, falls, fewer);
       allowed = omega (arith, is.allowed, reserved);

@@ -1,6 +1,7 @@
 -- What refuses a step before anything is looked up, and what comes of a step that this lets through.
 use Rattle.std.proofs.Common.{◌≡◌, [], ◌∷◌, Bool, true, false, refl, ap, sym, subst, ◌∙◌, if◌then◌else◌}
 use Rattle.std.specs.Prelude.{◌&&◌, Option, Some, None, Result, IfOk}
+use Rattle.std.proofs.lemmas.Option.{same_Some}
 use Rattle.etcd_types.specs.declared.step.Step.{Step}
 use Rattle.etcd_types.specs.declared.refusal.Refusal.{Refusal}
 use Rattle.etcd_types.specs.declared.refusal.Refusal.TheVariants.{NoSpace, NotOffered}
@@ -17,9 +18,6 @@ use Rattle.tenant_machine.specs.Held.{MachineState, tenant}
 use Rattle.tenant_machine.specs.Plans.{Plan}
 use Rattle.tenant_machine.specs.declared.planned.Effect.TheVariants.{Nothing}
 
-same_refusal : {a b : Refusal} → Some a ≡ Some b → a ≡ b
-same_refusal is = cc
-
 alone_refusal : (o : Option Refusal) → first_refusal (o ∷ []) ≡ o
 alone_refusal None = refl
 alone_refusal (Some r) = refl
@@ -32,11 +30,11 @@ module _ (t : State Store) (step : Step) where
   after_early e = unless_alarmed kept_store t step (decided kept_store t step (first_refusal (e ∷ look_up kept_store t step ∷ []))) e
 
   refused_early : (r : Refusal) (e : Option Refusal) → first_refusal (e ∷ refused_if (t.alarm && may_add step) NoSpace ∷ []) ≡ Some r → after_early e ≡ stays kept_store t (Refused r)
-  refused_early r (Some x) is = ap (λ y. stays kept_store t (Refused y)) (same_refusal is)
+  refused_early r (Some x) is = ap (λ y. stays kept_store t (Refused y)) (same_Some x r is)
   refused_early r None is = alarmed (t.alarm && may_add step) (within_quota kept_store t step (decided kept_store t step (first_refusal (look_up kept_store t step ∷ []))) (look_up kept_store t step)) is
     where
       alarmed : (a : Bool) (o : Outcome Store) → first_refusal (refused_if a NoSpace ∷ []) ≡ Some r → (if a then stays kept_store t (Refused NoSpace) else o) ≡ stays kept_store t (Refused r)
-      alarmed true o is = ap (λ y. stays kept_store t (Refused y)) (same_refusal is)
+      alarmed true o is = ap (λ y. stays kept_store t (Refused y)) (same_Some NoSpace r is)
       alarmed false o is = absurd (cc)
 
   let_through_early : (e : Option Refusal) → first_refusal (e ∷ refused_if (t.alarm && may_add step) NoSpace ∷ []) ≡ None → after_early e ≡ past_gate t step

@@ -1,6 +1,7 @@
 -- The machine never answers that it found no memory: only a host says so.
 use Rattle.std.proofs.Common.{◌≡◌, ◌≢◌, ℕ, List, [], ◌∷◌, map, Bool, true, false, cond, Option, Some, None}
 use Rattle.std.specs.Prelude.{ℤ, pos, nat_lt}
+use Rattle.std.proofs.lemmas.Option.{same_Some}
 use Rattle.etcd_types.specs.declared.step.Step.{Step}
 use Rattle.etcd_types.specs.declared.step.Step.TheVariants.{Range, Put, Delete, Txn, Compact, Watch, Take, Grant, Revoke, KeepAlive, TimeToLive, Alarm}
 use Rattle.etcd_types.specs.declared.txn.Op.{Op}
@@ -38,10 +39,7 @@ Speaks reply = reply ≢ Refused Memory
 -- ---- refusals
 
 refused_where : (b : Bool) (r : Refusal) → r ≢ Memory → OfRequest (refused_if b r)
-refused_where true r other = λ e. other (some_is r Memory e)
-  where
-    some_is : (a b : Refusal) → Some a ≡ Some b → a ≡ b
-    some_is a b h = cc
+refused_where true r other = λ e. other (same_Some r Memory e)
 refused_where false r other = λ e. absurd (cc)
 
 or_else : (b : Bool) (r : Refusal) (o : Option Refusal) → r ≢ Memory → OfRequest o → OfRequest (cond b (Some r) o)

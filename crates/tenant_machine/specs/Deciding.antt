@@ -1,5 +1,5 @@
 -- How a step is decided: the words of single parts.
-use Rattle.std.specs.Prelude.{◌≡◌, ◌&&◌, ℤ, [], ◌∷◌, nat_lt, Option, true, if◌then◌else◌}
+use Rattle.std.specs.Prelude.{◌≡◌, ◌&&◌, ◌||◌, not, Bool, ℤ, [], ◌∷◌, nat_lt, Option, is_some, true, if◌then◌else◌}
 use Rattle.etcd_types.specs.declared.step.Step.{Step}
 use Rattle.etcd_types.specs.declared.refusal.Refusal.{Refusal}
 use Rattle.etcd_types.specs.declared.refusal.Refusal.TheVariants.{NoSpace}
@@ -10,6 +10,7 @@ use Rattle.etcd_types.specs.declared.reply.Reply.{Reply}
 use Rattle.etcd_types.specs.declared.reply.Reply.TheVariants.{Refused, Txn}
 use Rattle.etcd_model.specs.declared.state.State.{State}
 use Rattle.etcd_model.specs.Fields.{refused_if}
+use Rattle.etcd_model.specs.Offered.{is_offered}
 use Rattle.etcd_model.specs.Operations.{first_refusal}
 use Rattle.etcd_model.specs.Stepping.{early, look_up, may_add, decided, within_quota, with_header}
 use Rattle.etcd_model.specs.Store.{Store, kept_store}
@@ -21,6 +22,10 @@ use Rattle.tenant_machine.specs.Plans.{Plan, after_effect, written}
 -- what refuses a step before anything is looked up: its fields, then numbers that are used up, then the alarm
 abbrev pub gate : State Store → Step → Option Refusal
 gate t step = first_refusal (early kept_store t step ∷ refused_if (t.alarm && may_add step) NoSpace ∷ [])
+
+-- a step that is refused before the quota is asked: it is not offered, or the gate stops it, or what is looked up does
+abbrev pub is_stopped : State Store → Step → Bool
+is_stopped t step = not (is_offered step) || is_some (gate t step) || is_some (look_up kept_store t step)
 
 -- what comes of a step that these let through: a refusal of what is looked up, or what it does, if it is within the quota
 abbrev pub past_gate : State Store → Step → Outcome Store

@@ -8,7 +8,7 @@ use Rattle.etcd_types.specs.declared.reply.Reply.TheVariants.{Refused}
 use Rattle.etcd_model.specs.declared.state.History.{History}
 use Rattle.etcd_model.specs.declared.state.State.{State}
 use Rattle.etcd_model.specs.Store as kept
-use Rattle.etcd_model.specs.Store.{Store, kept_store}
+use Rattle.etcd_model.specs.Store.{Store}
 use Rattle.etcd_model.specs.Held.{Holds}
 use Rattle.etcd_model.specs.Offered.{built_machine}
 use Rattle.revision_store.specs.Stored.{StoreState, IsPlanFor, HasSpace, changes_of}

@@ -9,8 +9,6 @@ mod maintenance;
 mod operations;
 mod planned;
 mod planning;
-#[cfg(test)]
-mod tests;
 
 pub use machine::{Machine, segments_for};
 pub use planned::Planned;

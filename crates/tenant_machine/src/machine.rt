@@ -1,6 +1,6 @@
 //! One tenant's machine.
-ghost use Rattle.std.specs.Prelude.{◌≡◌, ◌≢◌, ◌+◌, ◌-◌, ◌≤◌, ◌≤ℤ◌, ℕ, pos, Some, None, false, IfOk, IsOk};
-ghost use Rattle.etcd_types.specs.Limits.{last_revision};
+ghost use Rattle.std.specs.Prelude.{◌≡◌, ◌≢◌, ◌+◌, ◌-◌, ◌≤◌, ◌≤ℤ◌, ℕ, pos, true, false, IfOk, IsOk};
+ghost use Rattle.etcd_types.specs.Limits.{last_revision, max_quota, min_quota};
 ghost use Rattle.etcd_types.specs.declared.reply.Reply.TheVariants.{Refused};
 ghost use Rattle.etcd_types.specs.declared.refusal.Refusal.TheVariants.{Memory};
 ghost use Rattle.cell_arena.specs.Table.{segments_for};
@@ -8,6 +8,8 @@ ghost use Rattle.etcd_model.specs.Machine.{opening};
 ghost use Rattle.etcd_model.specs.Held.{Holds};
 ghost use Rattle.etcd_model.specs.Store.{kept_store, reserved_cells};
 ghost use Rattle.etcd_model.specs.Tenant.{used};
+ghost use Rattle.revision_store.specs.Pending.{IsSound};
+ghost use Rattle.tenant_machine.specs.Deciding.{is_stopped};
 ghost use Rattle.tenant_machine.specs.Held.{IsLent, tenant};
 ghost use Rattle.tenant_machine.specs.Plans.{Fits, FitsCompaction, FitsWrite, IsAfter, Plans, Steps, takes_memory, written};
 
@@ -48,12 +50,19 @@ pub fn segments_for(quota: u32) -> u32
     quota.div_ceil(SEGMENT_CELLS)
 }
 
+/// The store is one that writes and compactions make, with as many cells free as its records leave.
+pub(crate) fn keep_sound(store: &Store)
+    ensures { IsSound store.now }
+{
+    store.current();
+}
+
 impl Machine {
     /// A new tenant, whose empty store is at the first revision. Takes all memory that commits need, but for their
     /// segments: these are lent to each commit.
     pub fn new(alloc: Global, cluster: u64, quota: u32, first: i64) -> Mem<Machine>
         requires cluster { 1 ≤ cluster }
-        requires quota { (4 ≤ quota) × (quota ≤ 1048576) }
+        requires quota { (min_quota ≤ quota) × (quota ≤ max_quota) }
         requires first { (pos 1 ≤ℤ first) × (first ≤ℤ pos last_revision) }
         ensures holds { (n : ℕ) → first ≡ pos n → IfOk result (λ m. Holds (opening cluster quota n) (tenant m)) }
         ensures reserved { IfOk result (λ m. m.store.reserved ≡ segments_for quota) }
@@ -67,11 +76,13 @@ impl Machine {
         })
     }
 
-    /// Decides a step. Where it finds no memory, nothing is decided. Compactions, alarms, ticks and others need none.
+    /// Decides a step. Where it finds no memory, nothing is decided. Compactions, alarms, ticks and others need none, and
+    /// no step does that is refused before the quota is asked.
     pub fn plan(&self, alloc: Global, step: &Step) -> Mem<Planned>
         ensures plans { IfOk result (λ p. Plans self.now step.now p) }
         ensures fits { IfOk result (λ p. Fits self.now p) }
         ensures sure { takes_memory step.now ≡ false → IsOk result }
+        ensures stopped { is_stopped (tenant self.now) step.now ≡ true → IsOk result }
     {
         self.plan_built(alloc, step)
     }
@@ -103,6 +114,7 @@ impl Machine {
         requires lent { IsLent self.old.store (S.left segments.old) (S.room segments.old) }
         ensures steps { Steps self.old step.now result self.new }
         ensures sure { takes_memory step.now ≡ false → result ≢ Refused Memory }
+        ensures stopped { is_stopped (tenant self.old) step.now ≡ true → result ≢ Refused Memory }
         ensures lent { IsLent self.new.store (S.left segments.new) (S.room segments.new) }
         ensures room { S.room segments.new + self.old.store.drawn ≡ S.room segments.old + self.new.store.drawn }
         ensures others { S.others segments.new ≡ S.others segments.old }
@@ -151,6 +163,7 @@ impl Machine {
         ensures room { S.room segments.new + self.old.store.drawn ≡ S.room segments.old + self.new.store.drawn }
         ensures others { S.others segments.new ≡ S.others segments.old }
     {
+        keep_sound(&self.store);
         let before = self.store.used_cells();
         self.store.compact(segments, revision);
         let freed = before - self.store.used_cells();

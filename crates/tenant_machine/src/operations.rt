@@ -1,27 +1,28 @@
 //! Plans of what reads or changes the store.
-ghost use Rattle.std.specs.Prelude.{◌≡◌, ◌<◌, ◌≤◌, ◌*◌, pos, true, false, None, IfOk};
+ghost use Rattle.std.specs.Prelude.{◌≡◌, ◌<◌, ◌≤◌, ◌*◌, pos, true, false, None, is_some, IfOk, IsOk};
 ghost use Rattle.etcd_types.specs.Limits.{last_revision};
 ghost use Rattle.etcd_types.specs.declared.step.Step.TheVariants.{Range, Put, Delete, Txn, Compact};
 ghost use Rattle.etcd_types.specs.declared.refusal.Refusal.TheVariants.{NoSpace};
 ghost use Rattle.etcd_types.specs.declared.reply.Reply.TheVariants.{Refused};
 ghost use Rattle.etcd_model.specs.Fields.{is_empty, txn_fields};
-ghost use Rattle.etcd_model.specs.Stepping.{writes};
+ghost use Rattle.etcd_model.specs.Stepping.{look_up, writes};
 ghost use Rattle.etcd_model.specs.Store as kept;
 ghost use Rattle.revision_store.specs.Stored.{IsPlanFor};
 ghost use Rattle.tenant_machine.specs.Deciding.{Does, answer, header_at, past_gate, txn_outcome};
 ghost use Rattle.tenant_machine.specs.Held.{tenant};
 ghost use Rattle.tenant_machine.specs.Plans.{Fits, written};
 
-use crate::machine::Machine;
+use crate::machine::{Machine, keep_sound};
 use crate::planned::{Effect, Planned};
 use etcd_types::{DeleteReq, Header, Mem, OpReply, PutReq, RangeReq, Refusal, Reply, TxnReq};
 use revision_store::{Plan, PlannedOp};
 use std::alloc::Global;
-use txn_plan::PlannedTxn;
+use txn_plan::{PlannedTxn, lease_refusal};
 
 impl Machine {
     pub(crate) fn plan_range(&self, alloc: Global, request: &RangeReq) -> Mem<Planned>
         ensures does { IfOk result (λ p. Does self.now p (past_gate (tenant self.now) (Range request.now))) }
+        ensures sure { is_some (look_up kept.kept_store (tenant self.now) (Range request.now)) ≡ true → IsOk result }
         ensures fits { IfOk result (λ p. Fits self.now p) }
     {
         Ok(match self.store.plan_range(alloc, request)? {
@@ -30,14 +31,15 @@ impl Machine {
         })
     }
 
-    /// A put. There is no lease yet that it can name.
+    /// A put, unless the lease that it names refuses it.
     pub(crate) fn plan_put(&self, alloc: Global, request: &PutReq) -> Mem<Planned>
         requires { self.now.store.kept.current < last_revision }
         ensures does { IfOk result (λ p. Does self.now p (past_gate (tenant self.now) (Put request.now))) }
+        ensures sure { is_some (look_up kept.kept_store (tenant self.now) (Put request.now)) ≡ true → IsOk result }
         ensures fits { IfOk result (λ p. Fits self.now p) }
     {
-        if request.lease != 0 {
-            return Ok(Planned::refused(Refusal::LeaseNotFound));
+        if let Some(refusal) = lease_refusal(request.lease) {
+            return Ok(Planned::refused(refusal));
         }
         Ok(match self.store.plan_put(alloc, request)? {
             Ok(PlannedOp { plan, reply }) => self.within_quota(plan, self.answer(reply)),
@@ -51,6 +53,7 @@ impl Machine {
         ensures does { IfOk result (λ p. Does self.now p (past_gate (tenant self.now) (Delete request.now))) }
         ensures fits { IfOk result (λ p. Fits self.now p) }
     {
+        keep_sound(&self.store);
         let PlannedOp { plan, reply } = self.store.plan_delete(alloc, request)?;
         Ok(self.writing(plan, self.answer(reply), self.quota.used))
     }
@@ -73,8 +76,10 @@ impl Machine {
         requires fields { txn_fields request.now ≡ None }
         requires revisions { writes (Txn request.now) ≡ true → self.now.store.kept.current < last_revision }
         ensures does { IfOk result (λ p. Does self.now p (past_gate (tenant self.now) (Txn request.now))) }
+        ensures sure { is_some (look_up kept.kept_store (tenant self.now) (Txn request.now)) ≡ true → IsOk result }
         ensures fits { IfOk result (λ p. Fits self.now p) }
     {
+        keep_sound(&self.store);
         Ok(match txn_plan::plan(alloc, &self.store, request)? {
             Ok(planned) => self.transaction(planned),
             Err(refusal) => Planned::refused(refusal),
@@ -141,8 +146,7 @@ impl Machine {
         ensures planned { result ≡ record { effect = Effect.Write plan used; reply = reply } }
         ensures fits { Fits self.now result }
     {
-        // What the invariant says of the cells in use is known from here on.
-        let _ = &self.quota;
+        keep_sound(&self.store);
         Planned {
             effect: Effect::Write { plan, used },
             reply,

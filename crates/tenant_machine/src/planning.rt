@@ -1,9 +1,9 @@
 //! How a step is decided.
-ghost use Rattle.std.specs.Prelude.{◌≡◌, ◌<◌, None, true, false, IfOk, IsOk};
+ghost use Rattle.std.specs.Prelude.{◌≡◌, ◌<◌, None, true, false, is_some, IfOk, IsOk};
 ghost use Rattle.etcd_model.specs.Offered.{built, is_offered};
 ghost use Rattle.etcd_model.specs.Store.{kept_store};
-ghost use Rattle.etcd_model.specs.Stepping.{may_add, writes};
-ghost use Rattle.tenant_machine.specs.Deciding.{Does, gate, past_gate};
+ghost use Rattle.etcd_model.specs.Stepping.{look_up, may_add, writes};
+ghost use Rattle.tenant_machine.specs.Deciding.{Does, gate, is_stopped, past_gate};
 ghost use Rattle.tenant_machine.specs.Held.{tenant};
 ghost use Rattle.tenant_machine.specs.Plans.{Fits, takes_memory};
 
@@ -21,6 +21,7 @@ impl Machine {
         ensures does { IfOk result (λ p. Does self.now p (built kept_store (tenant self.now) step.now)) }
         ensures fits { IfOk result (λ p. Fits self.now p) }
         ensures sure { takes_memory step.now ≡ false → IsOk result }
+        ensures stopped { is_stopped (tenant self.now) step.now ≡ true → IsOk result }
     {
         if !is_offered(step) {
             return Ok(Planned::refused(Refusal::NotOffered));
@@ -54,6 +55,7 @@ impl Machine {
         ensures does { IfOk result (λ p. Does self.now p (past_gate (tenant self.now) step.now)) }
         ensures fits { IfOk result (λ p. Fits self.now p) }
         ensures sure { takes_memory step.now ≡ false → IsOk result }
+        ensures stopped { is_some (look_up kept_store (tenant self.now) step.now) ≡ true → IsOk result }
     {
         match step {
             Step::Range(request) => self.plan_range(alloc, request),

@@ -11,4 +11,4 @@ mod tests;
 
 pub use branch::{adds_any, holds, writes_any};
 pub use planning::{PlannedTxn, plan};
-pub use refusal::check;
+pub use refusal::{check, lease_refusal};

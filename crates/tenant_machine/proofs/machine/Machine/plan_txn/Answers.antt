@@ -1,5 +1,7 @@
-use Rattle.std.proofs.Common.{◌∙◌, ap, subst}
+use Rattle.std.proofs.Common.{◌≡◌, ◌∙◌, [], true, false, is_some, ap, subst, sym}
+use Rattle.etcd_model.specs.Operations.{branch, ops_refusal}
 use Rattle.etcd_model.specs.Store.{IsStore}
+use Rattle.revision_store.specs.Stored.{reads}
 use Rattle.txn_plan.specs.Planned.{IsTxn}
 use Rattle.tenant_machine.specs.Held.{MachineState}
 use Rattle.tenant_machine.proofs.DecidingOps.{does_as}
@@ -21,7 +23,7 @@ transaction-requires-clause-writes c = λ some. c.requires.revisions (changing_w
 
 pub transaction-requires-clause-keeps : goal.transaction-requires-clause-keeps
 transaction-requires-clause-keeps c = λ none.
-    let sound : IsStore c.args.self.now.store.kept = subst (λ (m : MachineState). IsStore m.store.kept) c.self.view_is c.self.invariant.sound in
+    let sound : IsStore c.args.self.now.store.kept = subst (λ (m : MachineState). IsStore m.store.kept) c.self.view_is c.keep_sound.ensures.kept in
     without_put_keeps c.args.self.now.store c.args.request.now c.in-Ok.planned (planned_here c) sound none
 
 pub returns-clause-does : goal.returns-clause-does
@@ -34,3 +36,8 @@ returns-clause-does c =
       | in-Ok w ↦ txn_planned_does m c.self.inside.store q c.in_ok-planned.field-0 same says w.in-Ok.planned c.match-branch-2.result w.in-Ok.is (does_as m _ _ _ w.result-is w.transaction.ensures.does)
       | in-Err w ↦ txn_refused_does m c.self.inside.store q c.in_ok-planned.field-0 same says w.in-Err.refusal c.match-branch-2.result w.in-Err.is (w.result-is ∙ w.refused.ensures)
     ]
+
+pub returns-in_err-planned-clause-sure : goal.returns-in_err-planned-clause-sure
+returns-in_err-planned-clause-sure c = λ some.
+    let no : false ≡ true = c.in_err-planned.ensures.sure (subst (λ (m : MachineState). is_some (ops_refusal [] (reads m.store) (branch (reads m.store) c.args.request.now)) ≡ true) (sym c.self.view_is) some) in
+    absurd (cc)

@@ -4,13 +4,13 @@ use Rattle.etcd_replay.specs.Replaying.{TenantState}
 use Rattle.etcd_replay.specs.Going.{Going}
 use Rattle.etcd_replay.specs.Script.{asked_by, read_line}
 use Rattle.etcd_replay.proofs.GoingLemmas.{going_first, going_more, going_ends, going_stops, going_long, going_among, if_err, line_taken, empty_is, full_is}
-use Rattle.etcd_replay.proofs.run.run_over.Goals as goal
+use Rattle.etcd_replay.proofs.run.run_lines.Goals as goal
 
 pub loop-n-init : goal.loop-n-init
 loop-n-init g c =
     let left = g.R.Read.remaining c.args.reader.now in
     let told = g.W.Write.contents c.args.writer.now in
-    subst (λ (t : Option TenantState). IfSome left (λ script. Going script left told told t 0)) (sym c.new-replay.ensures) (going_first left told)
+    subst (λ (t : Option TenantState). IfSome left (λ script. Going script left told told t 0)) (sym c.requires) (going_first left told)
 
 pub returns-in_err-take_line-clause-memory : goal.returns-in_err-take_line-clause-memory
 returns-in_err-take_line-clause-memory g c = if_err c.from_residual.result _ (λ fault is. going_among _ _ _ _ _ _ c.loop-n.invariant)

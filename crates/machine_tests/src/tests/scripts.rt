@@ -1,0 +1,216 @@
+//! Scripts: what is asked of a new tenant with what it answers, in the words of `told`. They are plain values: a
+//! function that holds many steps is long to prove.
+use etcd_types::{AlarmAction, AlarmKind};
+
+/// What is asked, and the text of its answer.
+pub(super) type Line = (Ask, &'static str);
+
+/// What a step is made of.
+#[derive(Clone, Copy)]
+pub(super) enum Ask {
+    Put(Put),
+    /// Of a key.
+    Delete(&'static str),
+    /// Of `foo`, at a revision.
+    Range(i64),
+    /// A transaction that takes its first branch where `foo` is live.
+    IfLive(Branch, Branch),
+    /// A transaction that takes its first branch where `foo` is not live.
+    IfAbsent(Branch, Branch),
+    Compact(i64),
+    /// Of this member.
+    Alarm(AlarmAction, AlarmKind),
+    Status,
+    Defragment,
+    Leases,
+    Revoke(i64),
+    KeepAlive(i64),
+    TimeToLive(i64),
+    Take(u8),
+    DropWatch(u8),
+    CatchUp(u32),
+    Tick(u64),
+}
+
+#[derive(Clone, Copy)]
+pub(super) struct Put {
+    pub(super) key: &'static str,
+    pub(super) value: &'static str,
+    pub(super) lease: i64,
+    pub(super) ignore_value: bool,
+}
+
+/// What a branch does with `foo`.
+#[derive(Clone, Copy)]
+pub(super) enum Branch {
+    Nothing,
+    Put,
+    Delete,
+}
+
+pub(super) const PUT: Ask = Ask::Put(BAR);
+
+/// What a put of a branch puts, too.
+pub(super) const BAR: Put = Put {
+    key: "foo",
+    value: "bar",
+    lease: 0,
+    ignore_value: false,
+};
+
+const PUT_45_BYTES: Ask = Ask::Put(Put {
+    key: "foo",
+    value: "123456789012345678901234567890123456789012345",
+    lease: 0,
+    ignore_value: false,
+});
+
+const PUT_46_BYTES: Ask = Ask::Put(Put {
+    key: "foo",
+    value: "1234567890123456789012345678901234567890123456",
+    lease: 0,
+    ignore_value: false,
+});
+
+const PUT_OF_A_LEASE: Ask = Ask::Put(Put {
+    key: "foo",
+    value: "",
+    lease: 77,
+    ignore_value: false,
+});
+
+const PUT_OF_AN_ABSENT_KEY: Ask = Ask::Put(Put {
+    key: "fo",
+    value: "",
+    lease: 0,
+    ignore_value: true,
+});
+
+const PUT_OF_NO_KEY: Ask = Ask::Put(Put {
+    key: "",
+    value: "",
+    lease: 0,
+    ignore_value: false,
+});
+
+pub(super) const RAISE: Ask = Ask::Alarm(AlarmAction::Activate, AlarmKind::NoSpace);
+
+const CLEAR: Ask = Ask::Alarm(AlarmAction::Deactivate, AlarmKind::NoSpace);
+
+const ALARMS: Ask = Ask::Alarm(AlarmAction::Get, AlarmKind::Any);
+
+/// Leases, watches, the clock, and the alarm of corruption.
+pub(super) const NOT_OFFERED: [Line; 10] = [
+    (Ask::Leases, "NotOffered"),
+    (Ask::Revoke(1), "NotOffered"),
+    (Ask::KeepAlive(1), "NotOffered"),
+    (Ask::TimeToLive(1), "NotOffered"),
+    (Ask::Take(0), "NotOffered"),
+    (Ask::DropWatch(0), "NotOffered"),
+    (Ask::CatchUp(1), "NotOffered"),
+    (Ask::Tick(5), "NotOffered"),
+    (
+        Ask::Alarm(AlarmAction::Activate, AlarmKind::Corrupt),
+        "NotOffered",
+    ),
+    (PUT, "2"),
+];
+
+/// With the alarm on, what adds is refused and nothing else is.
+pub(super) const UNDER_THE_ALARM: [Line; 10] = [
+    (PUT, "2"),
+    (RAISE, "2: no space"),
+    (PUT, "NoSpace"),
+    (Ask::Range(0), "2: 1"),
+    (Ask::Status, "2: 3072 192"),
+    (Ask::Compact(2), "2"),
+    (Ask::Delete("foo"), "3: 1"),
+    (Ask::Defragment, "3"),
+    (ALARMS, "3: no space"),
+    (PUT, "NoSpace"),
+];
+
+/// A put of `foo` with 45 bytes takes two cells, and its delete two more.
+pub(super) const WITHIN_FOUR_CELLS: [Line; 6] = [
+    (Ask::Status, "1: 192 0"),
+    (PUT_45_BYTES, "2"),
+    (Ask::Status, "2: 192 192"),
+    (ALARMS, "2: none"),
+    (Ask::Delete("foo"), "3: 1"),
+    (Ask::Status, "3: 192 192"),
+];
+
+/// With 46 bytes it takes three, and is refused.
+pub(super) const PAST_FOUR_CELLS: [Line; 4] = [
+    (PUT_46_BYTES, "NoSpace"),
+    (Ask::Status, "1: 192 0"),
+    (
+        Ask::Alarm(AlarmAction::Get, AlarmKind::NoSpace),
+        "1: no space",
+    ),
+    (PUT, "NoSpace"),
+];
+
+/// A put past eight cells raises the alarm. It stays on when a delete and a compaction have made space.
+pub(super) const QUOTA_AND_ALARM: [Line; 13] = [
+    (PUT, "2"),
+    (PUT, "3"),
+    (PUT, "4"),
+    (PUT, "NoSpace"),
+    (ALARMS, "4: no space"),
+    (Ask::Delete("foo"), "5: 1"),
+    (Ask::Status, "5: 384 384"),
+    (Ask::Compact(5), "5"),
+    (Ask::Status, "5: 384 96"),
+    (PUT, "NoSpace"),
+    (CLEAR, "5: no space"),
+    (PUT, "6"),
+    (Ask::Status, "6: 384 288"),
+];
+
+/// A delete of nothing makes no revision. Leases, revisions and absent keys are looked up.
+pub(super) const REFUSALS: [Line; 15] = [
+    (PUT, "2"),
+    (PUT, "3"),
+    (Ask::Delete("fo"), "3: 0"),
+    (Ask::Compact(2), "3"),
+    (Ask::Compact(2), "Compacted"),
+    (Ask::Compact(0), "Compacted"),
+    (Ask::Compact(-1), "Compacted"),
+    (Ask::Compact(4), "Future"),
+    (Ask::Range(1), "Compacted"),
+    (Ask::Range(2), "3: 1"),
+    (Ask::Range(4), "Future"),
+    (PUT_OF_A_LEASE, "LeaseNotFound"),
+    (PUT_OF_AN_ABSENT_KEY, "KeyNotFound"),
+    (PUT_OF_NO_KEY, "NoKey"),
+    (Ask::Range(0), "3: 1"),
+];
+
+/// The alarm refuses a put in either branch, and no delete.
+pub(super) const BRANCHES_UNDER_THE_ALARM: [Line; 6] = [
+    (PUT, "2"),
+    (RAISE, "2: no space"),
+    (Ask::IfLive(Branch::Put, Branch::Nothing), "NoSpace"),
+    (Ask::IfLive(Branch::Nothing, Branch::Put), "NoSpace"),
+    (
+        Ask::IfAbsent(Branch::Nothing, Branch::Delete),
+        "3: failure 1",
+    ),
+    (ALARMS, "3: no space"),
+];
+
+/// A full quota refuses a put in the branch that is taken. It refuses neither one in the other branch nor a delete.
+pub(super) const BRANCHES_AT_A_FULL_QUOTA: [Line; 11] = [
+    (PUT_45_BYTES, "2"),
+    (Ask::IfLive(Branch::Nothing, Branch::Put), "2: success 0"),
+    (Ask::IfAbsent(Branch::Put, Branch::Nothing), "2: failure 0"),
+    (ALARMS, "2: none"),
+    (Ask::IfLive(Branch::Put, Branch::Nothing), "NoSpace"),
+    (CLEAR, "2: no space"),
+    (Ask::IfAbsent(Branch::Nothing, Branch::Put), "NoSpace"),
+    (CLEAR, "2: no space"),
+    (Ask::IfLive(Branch::Delete, Branch::Put), "3: success 1"),
+    (Ask::Status, "3: 192 192"),
+    (ALARMS, "3: none"),
+];
