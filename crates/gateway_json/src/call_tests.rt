@@ -1,10 +1,8 @@
 //! Every call, on bodies with known meaning. What is built so far is not asked.
 use crate::read_step;
-use crate::tests::refusal;
+use crate::tests::{Wanted, assert_bad, assert_read, assert_refusal, refusal};
 use etcd_types::limits::MAX_OPS;
-use etcd_types::{
-    AlarmAction, AlarmKind, AlarmReq, Call, GrantReq, Mem, Op, Operand, Refusal, Step, TxnReq,
-};
+use etcd_types::{Call, Mem, Refusal};
 use std::alloc::Global;
 
 /// What the worked rows are refused for when they are read, if anything.
@@ -151,54 +149,100 @@ const WORKED: [(Call, &str, Option<Refusal>); 45] = [
 #[test]
 fn worked_bodies(rt: HostRuntime) {
     for (call, body, wanted) in WORKED.iter() {
-        assert_eq!(rt;
-            refusal(rt.alloc(), *call, body.as_bytes()),
-            *wanted,
-            "{body}"
-        );
+        let read = read_step(rt.alloc(), *call, body.as_bytes());
+        assert_refusal(&rt, read, *wanted, body);
     }
 }
 
-fn read_txn(alloc: Global, body: &str) -> Result<TxnReq, Refusal> {
-    match read_step(alloc, Call::Txn, body.as_bytes())? {
-        Step::Txn(request) => Ok(request),
-        _ => Err(Refusal::NotOffered),
-    }
-}
+/// Compares that have a number of each kind, and look at the one of their target; and each kind of
+/// operation.
+const TXNS: [(&str, Wanted); 5] = [
+    (
+        "{\"compare\":[{\"key\":\"YQ==\",\"target\":\"VERSION\",\"version\":\"1\",\"create_revision\":\"2\",\"modRevision\":3,\"lease\":\"-4\",\"value\":\"Yg==\"}]}",
+        Wanted::Version(1),
+    ),
+    (
+        "{\"compare\":[{\"key\":\"YQ==\",\"target\":\"CREATE\",\"version\":\"1\",\"create_revision\":\"2\",\"modRevision\":3,\"lease\":\"-4\",\"value\":\"Yg==\"}]}",
+        Wanted::Create(2),
+    ),
+    (
+        "{\"compare\":[{\"key\":\"YQ==\",\"target\":\"MOD\",\"version\":\"1\",\"create_revision\":\"2\",\"modRevision\":3,\"lease\":\"-4\",\"value\":\"Yg==\"}]}",
+        Wanted::Mod(3),
+    ),
+    (
+        "{\"compare\":[{\"key\":\"YQ==\",\"target\":\"LEASE\",\"version\":\"1\",\"create_revision\":\"2\",\"modRevision\":3,\"lease\":\"-4\",\"value\":\"Yg==\"}]}",
+        Wanted::Lease(-4),
+    ),
+    (
+        "{\"success\":[{\"request_range\":{\"key\":\"YQ==\"}},{\"requestPut\":{\"key\":\"Yg==\"}},{\"requestDeleteRange\":{\"key\":\"Yw==\"}}]}",
+        Wanted::EachKind,
+    ),
+];
 
-/// The number that an operand of that target has.
-fn number_of(operand: &Operand, target: &str) -> Option<i64> {
-    match operand {
-        Operand::Version(number) if target == "VERSION" => Some(*number),
-        Operand::Create(number) if target == "CREATE" => Some(*number),
-        Operand::Mod(number) if target == "MOD" => Some(*number),
-        Operand::Lease(number) if target == "LEASE" => Some(*number),
-        _ => None,
-    }
-}
-
-/// The number that a compare of that target looks at: each of the four has another.
-fn number_compared(alloc: Global, target: &str) -> Result<Option<i64>, Refusal> {
-    let Ok(body) = format!(in alloc;
-        "{{\"compare\":[{{\"key\":\"YQ==\",\"target\":\"{target}\",\"version\":\"1\",\"create_revision\":\"2\",\"modRevision\":3,\"lease\":\"-4\",\"value\":\"Yg==\"}}]}}"
-    ) else {
-        return Err(Refusal::Memory);
-    };
-    match read_txn(alloc, body.as_str())?.compare.as_slice() {
-        [compare] => Ok(number_of(&compare.operand, target)),
-        _ => Ok(None),
-    }
-}
+const WATCHES: [(&str, Wanted); 4] = [
+    (
+        "{\"createRequest\":{\"key\":\"YQ==\",\"filters\":[],\"startRevision\":\"4\",\"watch_id\":5}}",
+        Wanted::Watch {
+            no_put: false,
+            no_delete: false,
+        },
+    ),
+    (
+        "{\"createRequest\":{\"key\":\"YQ==\",\"filters\":[\"NOPUT\"],\"startRevision\":\"4\",\"watch_id\":5}}",
+        Wanted::Watch {
+            no_put: true,
+            no_delete: false,
+        },
+    ),
+    (
+        "{\"createRequest\":{\"key\":\"YQ==\",\"filters\":[1],\"startRevision\":\"4\",\"watch_id\":5}}",
+        Wanted::Watch {
+            no_put: false,
+            no_delete: true,
+        },
+    ),
+    (
+        "{\"createRequest\":{\"key\":\"YQ==\",\"filters\":[\"NOPUT\",\"NODELETE\",\"NOPUT\"],\"startRevision\":\"4\",\"watch_id\":5}}",
+        Wanted::Watch {
+            no_put: true,
+            no_delete: true,
+        },
+    ),
+];
 
 #[test]
-fn operands(rt: HostRuntime) {
-    for (target, number) in [("VERSION", 1), ("CREATE", 2), ("MOD", 3), ("LEASE", -4)] {
-        assert_eq!(rt;
-            number_compared(rt.alloc(), target),
-            Ok(Some(number)),
-            "{target}"
-        );
-    }
+fn transactions_and_watches(rt: HostRuntime) {
+    assert_read(&rt, Call::Txn, &TXNS);
+    assert_read(&rt, Call::Watch, &WATCHES);
+}
+
+const BAD_OPERATIONS: [&str; 2] = [
+    "{\"success\":[{\"request_put\":{\"key\":\"YQ==\"},\"request_range\":{\"key\":\"YQ==\"}}]}",
+    "{\"success\":[{\"request_txn\":{},\"request_put\":{\"key\":\"YQ==\"}}]}",
+];
+
+const BAD_FILTERS: [&str; 4] = [
+    "{\"createRequest\":{\"key\":\"YQ==\",\"filters\":[\"noput\"],\"startRevision\":\"4\",\"watch_id\":5}}",
+    "{\"createRequest\":{\"key\":\"YQ==\",\"filters\":[2],\"startRevision\":\"4\",\"watch_id\":5}}",
+    "{\"createRequest\":{\"key\":\"YQ==\",\"filters\":[null],\"startRevision\":\"4\",\"watch_id\":5}}",
+    "{\"createRequest\":{\"key\":\"YQ==\",\"filters\":\"NOPUT\",\"startRevision\":\"4\",\"watch_id\":5}}",
+];
+
+const BAD_MEMBERS: [&str; 7] = [
+    "{\"action\":\"DEACTIVATE\",\"memberID\":\"18446744073709551616\",\"alarm\":1}",
+    "{\"action\":\"DEACTIVATE\",\"memberID\":\"-1\",\"alarm\":1}",
+    "{\"action\":\"DEACTIVATE\",\"memberID\":-1,\"alarm\":1}",
+    "{\"action\":\"DEACTIVATE\",\"memberID\":1.0,\"alarm\":1}",
+    "{\"action\":\"DEACTIVATE\",\"memberID\":1e2,\"alarm\":1}",
+    "{\"action\":\"DEACTIVATE\",\"memberID\":-0,\"alarm\":1}",
+    "{\"action\":\"DEACTIVATE\",\"memberID\":\"+1\",\"alarm\":1}",
+];
+
+#[test]
+fn bad_bodies(rt: HostRuntime) {
+    assert_bad(&rt, Call::Txn, &BAD_OPERATIONS);
+    assert_bad(&rt, Call::Watch, &BAD_FILTERS);
+    assert_bad(&rt, Call::Alarm, &BAD_MEMBERS);
 }
 
 /// A transaction with that many nested ones in its second branch, of which the last has a lone value.
@@ -212,175 +256,76 @@ fn nested(alloc: Global, count: usize) -> Mem<String> {
 }
 
 /// What it is refused for.
-fn nesting_refusal(alloc: Global, count: usize) -> Option<Refusal> {
-    match nested(alloc, count) {
-        Ok(body) => read_txn(alloc, body.as_str()).err(),
-        Err(_) => Some(Refusal::Memory),
-    }
+fn nesting_refusal(alloc: Global, count: usize) -> Mem<Option<Refusal>> {
+    let body = nested(alloc, count)?;
+    Ok(refusal(read_step(alloc, Call::Txn, body.as_bytes())))
 }
 
 #[test]
-fn nested_transactions_count(rt: HostRuntime) {
-    let offered = nesting_refusal(rt.alloc(), MAX_OPS);
+fn nested_transactions_count(rt: HostRuntime) -> Mem<()> {
+    let offered = nesting_refusal(rt.alloc(), MAX_OPS)?;
     assert_eq!(rt; offered, Some(Refusal::NotOffered));
-    let over = nesting_refusal(rt.alloc(), MAX_OPS + 1);
+    let over = nesting_refusal(rt.alloc(), MAX_OPS + 1)?;
     assert_eq!(rt; over, Some(Refusal::TooManyOps));
+    Ok(())
 }
 
-/// Whether a transaction's first branch is a range, a put and a delete.
-fn has_each_kind(alloc: Global, body: &str) -> Result<bool, Refusal> {
-    let request = read_txn(alloc, body)?;
-    Ok(matches!(
-        request.success.as_slice(),
-        [Op::Range(_), Op::Put(_), Op::Delete(_)]
-    ))
-}
+const MEMBERS: [(&str, Wanted); 4] = [
+    (
+        "{\"action\":\"DEACTIVATE\",\"memberID\":\"18446744073709551615\",\"alarm\":1}",
+        Wanted::Clear(u64::MAX),
+    ),
+    (
+        "{\"action\":\"DEACTIVATE\",\"memberID\":18446744073709551615,\"alarm\":1}",
+        Wanted::Clear(u64::MAX),
+    ),
+    (
+        "{\"action\":\"DEACTIVATE\",\"memberID\":\"-0\",\"alarm\":1}",
+        Wanted::Clear(0),
+    ),
+    (
+        "{\"action\":\"DEACTIVATE\",\"memberID\":\"007\",\"alarm\":1}",
+        Wanted::Clear(7),
+    ),
+];
 
-#[test]
-fn operations(rt: HostRuntime) {
-    let body =
-        "{\"success\":[{\"request_range\":{\"key\":\"YQ==\"}},{\"requestPut\":{\"key\":\"Yg==\"}},{\"requestDeleteRange\":{\"key\":\"Yw==\"}}]}";
-    assert_eq!(rt; has_each_kind(rt.alloc(), body), Ok(true));
-    let two =
-        "{\"success\":[{\"request_put\":{\"key\":\"YQ==\"},\"request_range\":{\"key\":\"YQ==\"}}]}";
-    assert_eq!(rt; read_txn(rt.alloc(), two).err(), Some(Refusal::BadBody));
-    let both = "{\"success\":[{\"request_txn\":{},\"request_put\":{\"key\":\"YQ==\"}}]}";
-    assert_eq!(rt; read_txn(rt.alloc(), both).err(), Some(Refusal::BadBody));
-}
+const GRANTS: [(&str, Wanted); 1] = [(
+    "{\"TTL\":\"5\",\"ID\":-1}",
+    Wanted::Grant { ttl: 5, id: -1 },
+)];
 
-/// Which events a watch with such filters leaves out, its start and its number.
-fn read_watch(alloc: Global, filters: &str) -> Result<(bool, bool, i64, i64), Refusal> {
-    let Ok(body) = format!(in alloc;
-        "{{\"createRequest\":{{\"key\":\"YQ==\",\"filters\":{filters},\"startRevision\":\"4\",\"watch_id\":5}}}}"
-    ) else {
-        return Err(Refusal::Memory);
-    };
-    match read_step(alloc, Call::Watch, body.as_bytes())? {
-        Step::Watch(request) => Ok((
-            request.no_put,
-            request.no_delete,
-            request.start_revision,
-            request.watch_id,
-        )),
-        _ => Err(Refusal::NotOffered),
-    }
-}
+const TIMES_TO_LIVE: [(&str, Wanted); 1] = [(
+    "{\"ID\":\"5\",\"keys\":true}",
+    Wanted::TimeToLive { id: 5, keys: true },
+)];
+
+/// The name is not spelled so.
+const REVOKES: [(&str, Wanted); 1] = [("{\"id\":\"5\"}", Wanted::Revoke(0))];
 
 #[test]
-fn filters(rt: HostRuntime) {
-    let cases = [
-        ("[]", false, false),
-        ("[\"NOPUT\"]", true, false),
-        ("[1]", false, true),
-        ("[\"NOPUT\",\"NODELETE\",\"NOPUT\"]", true, true),
-    ];
-    for (filters, no_put, no_delete) in cases {
-        assert_eq!(rt;
-            read_watch(rt.alloc(), filters),
-            Ok((no_put, no_delete, 4, 5)),
-            "{filters}"
-        );
-    }
-    for filters in ["[\"noput\"]", "[2]", "[null]", "\"NOPUT\""] {
-        assert_eq!(rt;
-            read_watch(rt.alloc(), filters),
-            Err(Refusal::BadBody),
-            "{filters}"
-        );
-    }
+fn leases_and_members(rt: HostRuntime) {
+    assert_read(&rt, Call::Alarm, &MEMBERS);
+    assert_read(&rt, Call::Grant, &GRANTS);
+    assert_read(&rt, Call::TimeToLive, &TIMES_TO_LIVE);
+    assert_read(&rt, Call::Revoke, &REVOKES);
 }
 
-fn read_alarm(alloc: Global, member: &str) -> Result<AlarmReq, Refusal> {
-    let Ok(body) = format!(in alloc;
-        "{{\"action\":\"DEACTIVATE\",\"memberID\":{member},\"alarm\":1}}"
-    ) else {
-        return Err(Refusal::Memory);
-    };
-    match read_step(alloc, Call::Alarm, body.as_bytes())? {
-        Step::Alarm(request) => Ok(request),
-        _ => Err(Refusal::NotOffered),
-    }
-}
-
-#[test]
-fn members(rt: HostRuntime) {
-    let cases = [
-        ("\"18446744073709551615\"", u64::MAX),
-        ("18446744073709551615", u64::MAX),
-        ("\"-0\"", 0),
-        ("\"007\"", 7),
-    ];
-    for (text, member) in cases {
-        let wanted = AlarmReq {
-            action: AlarmAction::Deactivate,
-            member,
-            alarm: AlarmKind::NoSpace,
-        };
-        assert_eq!(rt; read_alarm(rt.alloc(), text), Ok(wanted), "{text}");
-    }
-    for text in [
-        "\"18446744073709551616\"",
-        "\"-1\"",
-        "-1",
-        "1.0",
-        "1e2",
-        "-0",
-        "\"+1\"",
-    ] {
-        assert_eq!(rt;
-            read_alarm(rt.alloc(), text),
-            Err(Refusal::BadBody),
-            "{text}"
-        );
-    }
-}
-
-fn read_grant(alloc: Global, body: &[u8]) -> Result<GrantReq, Refusal> {
-    match read_step(alloc, Call::Grant, body)? {
-        Step::Grant(request) => Ok(request),
-        _ => Err(Refusal::NotOffered),
-    }
-}
-
-fn read_revoke(alloc: Global, body: &[u8]) -> Result<i64, Refusal> {
-    match read_step(alloc, Call::Revoke, body)? {
-        Step::Revoke(id) => Ok(id),
-        _ => Err(Refusal::NotOffered),
-    }
-}
-
-/// The lease that is asked for, and whether its keys are.
-fn read_time_to_live(alloc: Global, body: &[u8]) -> Result<(i64, bool), Refusal> {
-    match read_step(alloc, Call::TimeToLive, body)? {
-        Step::TimeToLive { id, keys } => Ok((id, keys)),
-        _ => Err(Refusal::NotOffered),
-    }
-}
-
-#[test]
-fn leases(rt: HostRuntime) {
-    let grant = read_grant(rt.alloc(), b"{\"TTL\":\"5\",\"ID\":-1}");
-    assert_eq!(rt; grant, Ok(GrantReq { ttl: 5, id: -1 }));
-    let asked = read_time_to_live(rt.alloc(), b"{\"ID\":\"5\",\"keys\":true}");
-    assert_eq!(rt; asked, Ok((5, true)));
-    let lower = read_revoke(rt.alloc(), b"{\"id\":\"5\"}");
-    assert_eq!(rt; lower, Ok(0));
-}
+const BAD_TEXTS: [(&str, &[u8]); 3] = [
+    ("the last counts", b"{\"key\":\"YQ==\",\"key\":5}"),
+    ("a lone surrogate", b"{\"key\":\"YQ==\",\"x\":\"\\ud800\"}"),
+    (
+        "a byte that is no text",
+        b"{\"key\":\"YQ==\",\"x\":\"\xff\"}",
+    ),
+];
 
 #[test]
 fn texts(rt: HostRuntime) {
     let twice = b"{\"key\":5,\"key\":\"YQ==\"}";
-    assert_eq!(rt; refusal(rt.alloc(), Call::Range, twice), None);
-    let refused: [&[u8]; 3] = [
-        b"{\"key\":\"YQ==\",\"key\":5}",
-        b"{\"key\":\"YQ==\",\"x\":\"\\ud800\"}",
-        b"{\"key\":\"YQ==\",\"x\":\"\xff\"}",
-    ];
-    for body in refused {
-        assert_eq!(rt;
-            refusal(rt.alloc(), Call::Range, body),
-            Some(Refusal::BadBody),
-            "{body:?}"
-        );
+    let read = read_step(rt.alloc(), Call::Range, twice);
+    assert_refusal(&rt, read, None, "the last counts");
+    for (case, body) in BAD_TEXTS.iter() {
+        let read = read_step(rt.alloc(), Call::Range, body);
+        assert_refusal(&rt, read, Some(Refusal::BadBody), case);
     }
 }

@@ -1,15 +1,17 @@
 //! Texts, targets and bodies with known meaning.
 //!
-//! What is read is let go in the function that looks at it: a test that holds a request is long to
-//! prove.
+//! A test that holds a request is long to prove, so what is read is moved into the function that judges
+//! it, and a case is one line of a table.
+mod wanted;
+
 use crate::{bytes_of_text, call_of, read_call, read_posted, read_step, target_of};
 use etcd_types::limits::MAX_BODY;
-use etcd_types::{
-    AlarmAction, AlarmKind, AlarmReq, Call, Mem, PutReq, RangeReq, Refusal, SortOrder, SortTarget,
-    Step,
-};
+use etcd_types::{Call, Mem, Refusal, SortOrder, SortTarget, Step};
 use std::alloc::Global;
+use std::process::Abort;
 use std::test::Fail;
+pub(crate) use wanted::Wanted;
+use wanted::step_has;
 
 /// The letters by their numbers (RFC 4648, table 1).
 const STANDARD: &[u8; 64] = b"ABCDEFGHIJKLMNOPQRSTUVWXYZabcdefghijklmnopqrstuvwxyz0123456789+/";
@@ -20,50 +22,58 @@ const URL_SAFE: &[u8; 64] = b"ABCDEFGHIJKLMNOPQRSTUVWXYZabcdefghijklmnopqrstuvwx
 /// 29 bytes: the key is `foo`, the value `bar`.
 const PUT: &[u8; 29] = b"{\"key\":\"Zm9v\",\"value\":\"YmFy\"}";
 
-/// What a body is refused for.
-pub(crate) fn refusal(alloc: Global, call: Call, body: &[u8]) -> Option<Refusal> {
-    read_step(alloc, call, body).err()
+/// What a request is refused for.
+pub(crate) fn refusal(read: Result<Step, Refusal>) -> Option<Refusal> {
+    read.err()
 }
 
-/// The same where the call is named by its path.
-fn refusal_at(alloc: Global, path: &[u8], body: &[u8]) -> Option<Refusal> {
-    read_call(alloc, path, body).err()
+/// What was met is what was wanted. The text of a failure is long to prove, so it stands here alone.
+pub(crate) fn assert_met(
+    rt: &impl Abort,
+    met: Option<Refusal>,
+    wanted: Option<Refusal>,
+    case: &str,
+) {
+    assert_eq!(rt; met, wanted, "{case}");
 }
 
-/// The same with the method.
-fn refusal_by(alloc: Global, method: &[u8], path: &[u8], body: &[u8]) -> Option<Refusal> {
-    read_posted(alloc, method, path, body).err()
+/// A request is refused so, and not where it is to be read.
+pub(crate) fn assert_refusal(
+    rt: &impl Abort,
+    read: Result<Step, Refusal>,
+    wanted: Option<Refusal>,
+    case: &str,
+) {
+    assert_met(rt, refusal(read), wanted, case);
 }
 
-/// Whether a body is the put of that key and value.
-fn is_put(alloc: Global, body: &[u8], key: &[u8], value: &[u8]) -> Result<bool, Refusal> {
-    match read_step(alloc, Call::Put, body)? {
-        Step::Put(request) => Ok(
-            request.key.as_slice() == key && request.value.as_slice() == value,
-        ),
-        _ => Ok(false),
+/// Each body of a call is refused as one that can't be read.
+pub(crate) fn assert_bad(rt: &(impl Abort + AllocGlobal), call: Call, bodies: &[&str]) {
+    for body in bodies {
+        let read = read_step(rt.alloc(), call, body.as_bytes());
+        assert_refusal(rt, read, Some(Refusal::BadBody), body);
     }
 }
 
-fn read_range(alloc: Global, body: &str) -> Result<RangeReq, Refusal> {
-    match read_step(alloc, Call::Range, body.as_bytes())? {
-        Step::Range(request) => Ok(request),
-        _ => Err(Refusal::NotOffered),
-    }
+/// Whether a request has what is wanted.
+fn has(read: Result<Step, Refusal>, wanted: &Wanted) -> Result<bool, Refusal> {
+    Ok(step_has(&read?, wanted))
 }
 
-/// The range of the key `a` with one more member.
-fn read_with(alloc: Global, name: &str, value: &str) -> Result<RangeReq, Refusal> {
-    match format!(in alloc; "{{\"key\":\"YQ==\",\"{name}\":{value}}}") {
-        Ok(body) => read_range(alloc, body.as_str()),
-        Err(_) => Err(Refusal::Memory),
-    }
+/// A request is read and has what is wanted.
+fn assert_has(rt: &impl Abort, read: Result<Step, Refusal>, wanted: &Wanted, case: &str) {
+    assert_eq!(rt; has(read, wanted), Ok(true), "{case}");
 }
 
-fn read_key(alloc: Global, text: &str) -> Result<RangeReq, Refusal> {
-    match format!(in alloc; "{{\"key\":\"{text}\"}}") {
-        Ok(body) => read_range(alloc, body.as_str()),
-        Err(_) => Err(Refusal::Memory),
+/// Each body of a call is read and has what is wanted.
+pub(crate) fn assert_read(rt: &(impl Abort + AllocGlobal), call: Call, cases: &[(&str, Wanted)]) {
+    for (body, wanted) in cases {
+        assert_has(
+            rt,
+            read_step(rt.alloc(), call, body.as_bytes()),
+            wanted,
+            body,
+        );
     }
 }
 
@@ -87,162 +97,162 @@ fn letters_are_numbers(rt: HostRuntime) -> Result<(), Fail> {
     Ok(())
 }
 
+/// `PUT` as it is.
+const WHOLE: [(&str, Wanted); 1] = [(
+    "{\"key\":\"Zm9v\",\"value\":\"YmFy\"}",
+    Wanted::Put {
+        key: b"foo",
+        value: b"bar",
+    },
+)];
+
 #[test]
 fn cut_bodies(rt: HostRuntime) {
-    assert_eq!(rt; is_put(rt.alloc(), PUT, b"foo", b"bar"), Ok(true));
-    assert_eq!(rt; refusal(rt.alloc(), Call::Put, b""), Some(Refusal::NoKey));
+    assert_read(&rt, Call::Put, &WHOLE);
+    let empty = read_step(rt.alloc(), Call::Put, b"");
+    assert_refusal(&rt, empty, Some(Refusal::NoKey), "empty");
     for length in 1..PUT.len() {
-        assert_eq!(rt;
-            refusal(rt.alloc(), Call::Put, &PUT[..length]),
-            Some(Refusal::BadBody),
-            "{length}"
-        );
+        let read = read_step(rt.alloc(), Call::Put, &PUT[..length]);
+        assert_refusal(&rt, read, Some(Refusal::BadBody), "cut");
     }
 }
 
-/// Whether a text is read as the key of these bytes.
-fn is_key(alloc: Global, text: &str, key: &[u8]) -> Result<bool, Refusal> {
-    Ok(read_key(alloc, text)?.key.as_slice() == key)
-}
+const KEYS: [(&str, Wanted); 6] = [
+    ("{\"key\":\"Zg\"}", Wanted::Key(b"f")),
+    ("{\"key\":\"Zg==\"}", Wanted::Key(b"f")),
+    ("{\"key\":\"//4=\"}", Wanted::Key(&[255, 254])),
+    ("{\"key\":\"__4\"}", Wanted::Key(&[255, 254])),
+    ("{\"key\":\"_/4=\"}", Wanted::Key(&[255, 254])),
+    ("{\"key\":\"Zm8=\"}", Wanted::Key(b"fo")),
+];
+
+const BAD_KEYS: [&str; 7] = [
+    "{\"key\":\"Zg=\"}",
+    "{\"key\":\"Zh==\"}",
+    "{\"key\":\"Zm9=\"}",
+    "{\"key\":\"Z\"}",
+    "{\"key\":\"====\"}",
+    "{\"key\":\"Z===\"}",
+    "{\"key\":\"Zm9v=\"}",
+];
 
 #[test]
 fn keys(rt: HostRuntime) {
-    for text in ["Zg", "Zg=="] {
-        assert_eq!(rt; is_key(rt.alloc(), text, b"f"), Ok(true), "{text}");
-    }
-    for text in ["//4=", "__4", "_/4="] {
-        assert_eq!(rt; is_key(rt.alloc(), text, &[255, 254]), Ok(true), "{text}");
-    }
-    assert_eq!(rt; is_key(rt.alloc(), "Zm8=", b"fo"), Ok(true));
+    assert_read(&rt, Call::Range, &KEYS);
+    assert_bad(&rt, Call::Range, &BAD_KEYS);
 }
 
-#[test]
-fn bad_keys(rt: HostRuntime) {
-    for text in ["Zg=", "Zh==", "Zm9=", "Z", "====", "Z===", "Zm9v="] {
-        let refusal = read_key(rt.alloc(), text).err();
-        assert_eq!(rt; refusal, Some(Refusal::BadBody), "{text}");
-    }
-}
+const LIMITS: [(&str, Wanted); 6] = [
+    ("{\"key\":\"YQ==\",\"limit\":\"-0\"}", Wanted::Limit(0)),
+    ("{\"key\":\"YQ==\",\"limit\":\"007\"}", Wanted::Limit(7)),
+    (
+        "{\"key\":\"YQ==\",\"limit\":\"9223372036854775807\"}",
+        Wanted::Limit(i64::MAX),
+    ),
+    ("{\"key\":\"YQ==\",\"limit\":1}", Wanted::Limit(1)),
+    ("{\"key\":\"YQ==\",\"limit\":\"1\"}", Wanted::Limit(1)),
+    ("{\"key\":\"YQ==\",\"limit\":null}", Wanted::Limit(0)),
+];
 
-fn read_limit(alloc: Global, text: &str) -> Result<i64, Refusal> {
-    Ok(read_with(alloc, "limit", text)?.limit)
-}
+const BAD_LIMITS: [&str; 6] = [
+    "{\"key\":\"YQ==\",\"limit\":\"+1\"}",
+    "{\"key\":\"YQ==\",\"limit\":\" 1\"}",
+    "{\"key\":\"YQ==\",\"limit\":\"\"}",
+    "{\"key\":\"YQ==\",\"limit\":true}",
+    "{\"key\":\"YQ==\",\"limit\":1.5}",
+    "{\"key\":\"YQ==\",\"limit\":9223372036854775808}",
+];
 
 #[test]
 fn limits(rt: HostRuntime) {
-    let limits = [
-        ("\"-0\"", 0),
-        ("\"007\"", 7),
-        ("\"9223372036854775807\"", i64::MAX),
-        ("1", 1),
-        ("\"1\"", 1),
-        ("null", 0),
-    ];
-    for (text, limit) in limits {
-        assert_eq!(rt; read_limit(rt.alloc(), text), Ok(limit), "{text}");
-    }
+    assert_read(&rt, Call::Range, &LIMITS);
+    assert_bad(&rt, Call::Range, &BAD_LIMITS);
 }
 
-#[test]
-fn bad_limits(rt: HostRuntime) {
-    let limits = [
-        "\"+1\"",
-        "\" 1\"",
-        "\"\"",
-        "true",
-        "1.5",
-        "9223372036854775808",
-    ];
-    for text in limits {
-        assert_eq!(rt;
-            read_limit(rt.alloc(), text),
-            Err(Refusal::BadBody),
-            "{text}"
-        );
-    }
-}
+const CHOICES: [(&str, Wanted); 3] = [
+    (
+        "{\"key\":\"YQ==\",\"sort_order\":\"ASCEND\"}",
+        Wanted::Order(SortOrder::Ascend),
+    ),
+    (
+        "{\"key\":\"YQ==\",\"sortOrder\":2}",
+        Wanted::Order(SortOrder::Descend),
+    ),
+    (
+        "{\"key\":\"YQ==\",\"sort_target\":4}",
+        Wanted::Target(SortTarget::Value),
+    ),
+];
 
-fn read_order(alloc: Global, name: &str, value: &str) -> Result<SortOrder, Refusal> {
-    Ok(read_with(alloc, name, value)?.sort_order)
-}
-
-fn read_target(alloc: Global, name: &str, value: &str) -> Result<SortTarget, Refusal> {
-    Ok(read_with(alloc, name, value)?.sort_target)
-}
+const BAD_CHOICES: [&str; 3] = [
+    "{\"key\":\"YQ==\",\"sort_order\":\"ascend\"}",
+    "{\"key\":\"YQ==\",\"sort_order\":3}",
+    "{\"key\":\"YQ==\",\"sort_order\":\"1\"}",
+];
 
 #[test]
 fn choices(rt: HostRuntime) {
-    let by_name = read_order(rt.alloc(), "sort_order", "\"ASCEND\"");
-    assert_eq!(rt; by_name, Ok(SortOrder::Ascend));
-    let by_number = read_order(rt.alloc(), "sortOrder", "2");
-    assert_eq!(rt; by_number, Ok(SortOrder::Descend));
-    let target = read_target(rt.alloc(), "sort_target", "4");
-    assert_eq!(rt; target, Ok(SortTarget::Value));
-    for text in ["\"ascend\"", "3", "\"1\""] {
-        let order = read_order(rt.alloc(), "sort_order", text);
-        assert_eq!(rt; order, Err(Refusal::BadBody), "{text}");
-    }
+    assert_read(&rt, Call::Range, &CHOICES);
+    assert_bad(&rt, Call::Range, &BAD_CHOICES);
 }
 
-/// Whether a range ends at these bytes.
-fn is_range_end(alloc: Global, body: &str, range_end: &[u8]) -> Result<bool, Refusal> {
-    Ok(read_range(alloc, body)?.range_end.as_slice() == range_end)
-}
+const SPELLINGS: [(&str, Wanted); 3] = [
+    (
+        "{\"key\":\"AA==\",\"rangeEnd\":\"AA==\"}",
+        Wanted::RangeEnd(&[0]),
+    ),
+    (
+        "{\"key\":\"AA==\",\"range_end\":null,\"rangeEnd\":\"AA==\"}",
+        Wanted::RangeEnd(&[0]),
+    ),
+    (
+        "{\"key\":\"AA==\",\"range_end\":\"AA==\",\"rangeEnd\":\"Yg==\"}",
+        Wanted::RangeEnd(&[0]),
+    ),
+];
 
 #[test]
 fn spellings(rt: HostRuntime) {
-    let bodies = [
-        "{\"key\":\"AA==\",\"rangeEnd\":\"AA==\"}",
-        "{\"key\":\"AA==\",\"range_end\":null,\"rangeEnd\":\"AA==\"}",
-        "{\"key\":\"AA==\",\"range_end\":\"AA==\",\"rangeEnd\":\"Yg==\"}",
-    ];
-    for body in bodies {
-        assert_eq!(rt; is_range_end(rt.alloc(), body, &[0]), Ok(true), "{body}");
-    }
+    assert_read(&rt, Call::Range, &SPELLINGS);
 }
+
+const NO_KEYS: [&str; 4] = ["", "null", "{}", "{\"key\":null}"];
+
+const BAD_BODIES: [&str; 4] = ["{", "[]", " ", "{\"key\":\"\",\"limit\":\"x\"}"];
 
 #[test]
 fn bodies(rt: HostRuntime) {
-    for body in ["", "null", "{}", "{\"key\":null}"] {
-        assert_eq!(rt;
-            read_range(rt.alloc(), body).err(),
-            Some(Refusal::NoKey),
-            "{body}"
-        );
+    for body in NO_KEYS.iter() {
+        let read = read_step(rt.alloc(), Call::Range, body.as_bytes());
+        assert_refusal(&rt, read, Some(Refusal::NoKey), body);
     }
-    for body in ["{", "[]", " ", "{\"key\":\"\",\"limit\":\"x\"}"] {
-        assert_eq!(rt;
-            read_range(rt.alloc(), body).err(),
-            Some(Refusal::BadBody),
-            "{body}"
-        );
-    }
+    assert_bad(&rt, Call::Range, &BAD_BODIES);
 }
 
-/// So many arrays, each in the one before it.
+/// The range of the key `a` with so many arrays beside it, each in the one before it.
 fn nested(alloc: Global, arrays: usize) -> Mem<String> {
-    let mut value = String::new(alloc);
+    let mut body = String::from_str(alloc, "{\"key\":\"YQ==\",\"x\":")?;
     for _ in 0..arrays {
-        value.push('[')?;
+        body.push('[')?;
     }
     for _ in 0..arrays {
-        value.push(']')?;
+        body.push(']')?;
     }
-    Ok(value)
+    body.push('}')?;
+    Ok(body)
 }
 
-/// What a range is refused for that has so many nested arrays beside its key.
-fn nesting_refusal(alloc: Global, arrays: usize) -> Option<Refusal> {
-    match nested(alloc, arrays) {
-        Ok(value) => read_with(alloc, "x", value.as_str()).err(),
-        Err(_) => Some(Refusal::Memory),
-    }
+/// What it is refused for.
+fn nesting_refusal(alloc: Global, arrays: usize) -> Mem<Option<Refusal>> {
+    let body = nested(alloc, arrays)?;
+    Ok(refusal(read_step(alloc, Call::Range, body.as_bytes())))
 }
 
 #[test]
-fn nesting(rt: HostRuntime) {
-    assert_eq!(rt; nesting_refusal(rt.alloc(), 126), None);
-    assert_eq!(rt; nesting_refusal(rt.alloc(), 127), Some(Refusal::BadBody));
+fn nesting(rt: HostRuntime) -> Mem<()> {
+    assert_eq!(rt; nesting_refusal(rt.alloc(), 126)?, None);
+    assert_eq!(rt; nesting_refusal(rt.alloc(), 127)?, Some(Refusal::BadBody));
+    Ok(())
 }
 
 /// The put with blanks after it.
@@ -252,147 +262,132 @@ fn padded(alloc: Global, length: usize) -> Mem<Vec<u8>> {
     Ok(body)
 }
 
+/// What it is refused for at a path.
+fn padded_refusal(alloc: Global, path: &[u8], length: usize) -> Mem<Option<Refusal>> {
+    let body = padded(alloc, length)?;
+    Ok(refusal(read_call(alloc, path, &body)))
+}
+
+const SIZES: [(&str, usize, Option<Refusal>); 4] = [
+    ("kv/put", MAX_BODY, None),
+    ("kv/put", MAX_BODY + 1, Some(Refusal::TooLarge)),
+    ("kv/txn", MAX_BODY + 1, Some(Refusal::TooLarge)),
+    ("kv/none", MAX_BODY + 1, Some(Refusal::NoPath)),
+];
+
 #[test]
 fn sizes(rt: HostRuntime) -> Mem<()> {
-    let body = padded(rt.alloc(), MAX_BODY)?;
-    assert_eq!(rt; refusal(rt.alloc(), Call::Put, &body), None);
-    let body = padded(rt.alloc(), MAX_BODY + 1)?;
-    let large = Some(Refusal::TooLarge);
-    assert_eq!(rt; refusal(rt.alloc(), Call::Put, &body), large);
-    assert_eq!(rt; refusal_at(rt.alloc(), b"kv/txn", &body), large);
-    let nowhere = refusal_at(rt.alloc(), b"kv/none", &body);
-    assert_eq!(rt; nowhere, Some(Refusal::NoPath));
+    for (path, length, wanted) in SIZES.iter() {
+        let met = padded_refusal(rt.alloc(), path.as_bytes(), *length)?;
+        assert_met(&rt, met, *wanted, path);
+    }
     Ok(())
 }
+
+const GATED: [(&str, &str, Option<Refusal>); 8] = [
+    ("kv/put", "{\"key\":\"Zm9v\",\"value\":\"YmFy\"}", None),
+    (
+        "kv/range",
+        "{\"key\":\"\",\"limit\":1}",
+        Some(Refusal::NoKey),
+    ),
+    (
+        "kv/range",
+        "{\"key\":\"\",\"limit\":\"x\"}",
+        Some(Refusal::BadBody),
+    ),
+    ("kv/deleterange", "{", Some(Refusal::BadBody)),
+    ("kv/txn", "{", Some(Refusal::BadBody)),
+    ("lease/grant", "{", Some(Refusal::NotOffered)),
+    ("watch", "{", Some(Refusal::NotOffered)),
+    ("kv/none", "{", Some(Refusal::NoPath)),
+];
 
 /// The body of what is built is read, and that of what is not built is not.
 #[test]
 fn gate(rt: HostRuntime) {
-    assert_eq!(rt; refusal_at(rt.alloc(), b"kv/put", PUT), None);
-    let refused = [
-        ("kv/range", "{\"key\":\"\",\"limit\":1}", Refusal::NoKey),
-        (
-            "kv/range",
-            "{\"key\":\"\",\"limit\":\"x\"}",
-            Refusal::BadBody,
-        ),
-        ("kv/deleterange", "{", Refusal::BadBody),
-        ("kv/txn", "{", Refusal::BadBody),
-        ("lease/grant", "{", Refusal::NotOffered),
-        ("watch", "{", Refusal::NotOffered),
-        ("kv/none", "{", Refusal::NoPath),
-    ];
-    for (path, body, refusal) in refused {
-        let met = refusal_at(rt.alloc(), path.as_bytes(), body.as_bytes());
-        assert_eq!(rt; met, Some(refusal), "{path} {body}");
+    for (path, body, wanted) in GATED.iter() {
+        let read = read_call(rt.alloc(), path.as_bytes(), body.as_bytes());
+        assert_refusal(&rt, read, *wanted, path);
     }
 }
 
-/// Whether a posted range is read with all that it names.
-fn is_full_range(alloc: Global) -> Result<bool, Refusal> {
-    let body =
-        b"{\"key\":\"YQ==\",\"range_end\":\"Yg==\",\"limit\":3,\"revision\":\"2\",\"sort_order\":\"DESCEND\",\"sort_target\":\"MOD\",\"keys_only\":true,\"max_create_revision\":7}";
-    match read_posted(alloc, b"POST", b"kv/range", body)? {
-        Step::Range(request) => Ok(matches!(
-            request,
-            RangeReq {
-                limit: 3,
-                revision: 2,
-                sort_order: SortOrder::Descend,
-                sort_target: SortTarget::Mod,
-                keys_only: true,
-                count_only: false,
-                max_create_revision: 7,
-                ..
-            }
-        )),
-        _ => Ok(false),
-    }
-}
-
-/// Whether a posted put is read with all that it names.
-fn is_full_put(alloc: Global) -> Result<bool, Refusal> {
-    let body = b"{\"key\":\"YQ==\",\"lease\":\"5\",\"prev_kv\":true,\"ignore_value\":true}";
-    match read_posted(alloc, b"POST", b"kv/put", body)? {
-        Step::Put(request) => Ok(matches!(
-            request,
-            PutReq {
-                lease: 5,
-                prev_kv: true,
-                ignore_value: true,
-                ignore_lease: false,
-                ..
-            }
-        )),
-        _ => Ok(false),
-    }
-}
-
-/// Whether a posted deleterange is read with its end and what it is to answer.
-fn is_full_delete(alloc: Global) -> Result<bool, Refusal> {
-    let body = b"{\"key\":\"YQ==\",\"range_end\":\"Yg==\",\"prev_kv\":true}";
-    match read_posted(alloc, b"POST", b"kv/deleterange", body)? {
-        Step::Delete(request) => {
-            Ok(request.range_end.as_slice() == b"b".as_slice() && request.prev_kv)
-        }
-        _ => Ok(false),
-    }
-}
-
-/// Whether the body of the call at a path asks for that step.
-fn asks_for(alloc: Global, path: &[u8], body: &[u8], wanted: Step) -> Result<bool, Refusal> {
-    Ok(read_call(alloc, path, body)?.same_as(&wanted))
-}
+/// A posted range, put and delete, each with much that it may name.
+const FULL: [(&str, &str, Wanted); 3] = [
+    (
+        "kv/range",
+        "{\"key\":\"YQ==\",\"range_end\":\"Yg==\",\"limit\":3,\"revision\":\"2\",\"sort_order\":\"DESCEND\",\"sort_target\":\"MOD\",\"keys_only\":true,\"max_create_revision\":7}",
+        Wanted::Full,
+    ),
+    (
+        "kv/put",
+        "{\"key\":\"YQ==\",\"lease\":\"5\",\"prev_kv\":true,\"ignore_value\":true}",
+        Wanted::Full,
+    ),
+    (
+        "kv/deleterange",
+        "{\"key\":\"YQ==\",\"range_end\":\"Yg==\",\"prev_kv\":true}",
+        Wanted::Delete { range_end: b"b" },
+    ),
+];
 
 #[test]
 fn built(rt: HostRuntime) {
-    let alloc = rt.alloc();
-    assert_eq!(rt; is_full_range(alloc), Ok(true));
-    assert_eq!(rt; is_full_put(alloc), Ok(true));
-    assert_eq!(rt; is_full_delete(alloc), Ok(true));
-    let compaction = b"{\"revision\":\"3\",\"physical\":true}";
-    let compacts = asks_for(alloc, b"kv/compaction", compaction, Step::Compact(3));
-    assert_eq!(rt; compacts, Ok(true));
-    let alarm = AlarmReq {
-        action: AlarmAction::Deactivate,
-        member: 2,
-        alarm: AlarmKind::NoSpace,
-    };
-    let body = b"{\"action\":\"DEACTIVATE\",\"memberID\":2,\"alarm\":\"NOSPACE\"}";
-    let clears = asks_for(alloc, b"maintenance/alarm", body, Step::Alarm(alarm));
-    assert_eq!(rt; clears, Ok(true));
-    let status = asks_for(alloc, b"maintenance/status", b"{}", Step::Status);
-    assert_eq!(rt; status, Ok(true));
-    let defragment = asks_for(alloc, b"maintenance/defragment", b"", Step::Defragment);
-    assert_eq!(rt; defragment, Ok(true));
+    for (path, body, wanted) in FULL.iter() {
+        let read = read_posted(rt.alloc(), b"POST", path.as_bytes(), body.as_bytes());
+        assert_has(&rt, read, wanted, path);
+    }
+}
+
+const MAINTENANCE: [(&str, &str, Wanted); 4] = [
+    (
+        "kv/compaction",
+        "{\"revision\":\"3\",\"physical\":true}",
+        Wanted::Compact(3),
+    ),
+    (
+        "maintenance/alarm",
+        "{\"action\":\"DEACTIVATE\",\"memberID\":2,\"alarm\":\"NOSPACE\"}",
+        Wanted::Clear(2),
+    ),
+    ("maintenance/status", "{}", Wanted::Status),
+    ("maintenance/defragment", "", Wanted::Defragment),
+];
+
+#[test]
+fn maintenance(rt: HostRuntime) {
+    for (path, body, wanted) in MAINTENANCE.iter() {
+        let read = read_call(rt.alloc(), path.as_bytes(), body.as_bytes());
+        assert_has(&rt, read, wanted, path);
+    }
 }
 
 #[test]
 fn methods(rt: HostRuntime) {
-    let posted = refusal_by(rt.alloc(), b"POST", b"kv/put", PUT);
-    assert_eq!(rt; posted, None);
-    let got = refusal_by(rt.alloc(), b"GET", b"kv/put", b"{");
-    assert_eq!(rt; got, Some(Refusal::NotPost));
-    let nowhere = refusal_by(rt.alloc(), b"GET", b"kv/none", b"{}");
-    assert_eq!(rt; nowhere, Some(Refusal::NoPath));
+    let posted = read_posted(rt.alloc(), b"POST", b"kv/put", PUT);
+    assert_refusal(&rt, posted, None, "posted");
+    let got = read_posted(rt.alloc(), b"GET", b"kv/put", b"{");
+    assert_refusal(&rt, got, Some(Refusal::NotPost), "got");
+    let nowhere = read_posted(rt.alloc(), b"GET", b"kv/none", b"{}");
+    assert_refusal(&rt, nowhere, Some(Refusal::NoPath), "nowhere");
+}
+
+/// Whether a target names the tenant `one` and the path of a put.
+fn is_put_of_one(target: &str) -> bool {
+    match target_of(target.as_bytes()) {
+        Some(named) => { named.tenant == b"one".as_slice() && named.path == b"kv/put".as_slice() }
+        None => false,
+    }
 }
 
 #[test]
-fn targets(rt: HostRuntime) -> Result<(), Fail> {
-    for target in ["/t/one/v3/kv/put", "/t/one/v3/kv/put?a=/v3/"] {
-        let named = target_of(target.as_bytes()).ok_or("no target")?;
-        assert_eq!(rt; named.tenant, b"one".as_slice(), "{target}");
-        assert_eq!(rt; named.path, b"kv/put".as_slice(), "{target}");
-    }
-    for target in [
-        "/v3/kv/put",
-        "/t//v3/kv/put",
-        "/t/one/v3",
-        "/t/one?/v3/kv/put",
-    ] {
-        assert!(rt; target_of(target.as_bytes()).is_none(), "{target}");
-    }
-    Ok(())
+fn targets(rt: HostRuntime) {
+    assert!(rt; is_put_of_one("/t/one/v3/kv/put"));
+    assert!(rt; is_put_of_one("/t/one/v3/kv/put?a=/v3/"));
+    assert!(rt; target_of(b"/v3/kv/put").is_none());
+    assert!(rt; target_of(b"/t//v3/kv/put").is_none());
+    assert!(rt; target_of(b"/t/one/v3").is_none());
+    assert!(rt; target_of(b"/t/one?/v3/kv/put").is_none());
 }
 
 #[test]

@@ -8,6 +8,7 @@ use etcd_types::{
     Operand, PutReq, RangeReq, Refusal, SortOrder, SortTarget, Step, TxnReq, WatchReq,
 };
 use std::alloc::Global;
+use std::process::Abort;
 
 fn put(alloc: Global, key: &[u8]) -> Mem<PutReq> {
     Ok(PutReq {
@@ -49,14 +50,18 @@ fn range(alloc: Global, key: &[u8]) -> Mem<RangeReq> {
 fn compares(alloc: Global, key: &[u8], count: u8) -> Mem<List<Compare>> {
     let mut compares = List::new(alloc);
     for _ in 0..count {
-        compares.push(Compare {
-            key: List::from_slice(alloc, key)?,
-            range_end: List::new(alloc),
-            wanted: CompareResult::Equal,
-            operand: Operand::Version(0),
-        })?;
+        compares.push(compare(alloc, key)?)?;
     }
     Ok(compares)
+}
+
+fn compare(alloc: Global, key: &[u8]) -> Mem<Compare> {
+    Ok(Compare {
+        key: List::from_slice(alloc, key)?,
+        range_end: List::new(alloc),
+        wanted: CompareResult::Equal,
+        operand: Operand::Version(0),
+    })
 }
 
 /// Puts of the one-byte keys from 1 to `count`.
@@ -68,32 +73,29 @@ fn puts(alloc: Global, count: u8) -> Mem<List<Op>> {
     Ok(ops)
 }
 
-/// Two puts of one key, with another operation between them.
-fn put_twice(alloc: Global) -> Mem<List<Op>> {
-    let mut ops = puts(alloc, 1)?;
-    ops.push(Op::Nested)?;
-    ops.push(Op::Put(put(alloc, &[1])?))?;
-    Ok(ops)
+/// An operation of a branch.
+enum Asked {
+    Put(&'static [u8]),
+    /// A delete of the keys from `a` to `b`.
+    DeleteA,
+    DeleteAll,
+    Nested,
 }
 
-/// A put of a key, and a delete of the keys from `a` to `b`.
-fn put_and_delete(alloc: Global, key: &[u8]) -> Mem<List<Op>> {
-    let mut ops = List::new(alloc);
-    ops.push(Op::Put(put(alloc, key)?))?;
-    ops.push(Op::Delete(delete(alloc, b"a", b"b")?))?;
-    Ok(ops)
+fn op(alloc: Global, asked: &Asked) -> Mem<Op> {
+    match asked {
+        Asked::Put(key) => Ok(Op::Put(put(alloc, key)?)),
+        Asked::DeleteA => Ok(Op::Delete(delete(alloc, b"a", b"b")?)),
+        Asked::DeleteAll => Ok(Op::Delete(delete(alloc, &[0], &[0])?)),
+        Asked::Nested => Ok(Op::Nested),
+    }
 }
 
-/// A delete of all keys.
-fn delete_all(alloc: Global) -> Mem<List<Op>> {
+fn branch(alloc: Global, asked: &[Asked]) -> Mem<List<Op>> {
     let mut ops = List::new(alloc);
-    ops.push(Op::Delete(delete(alloc, &[0], &[0])?))?;
-    Ok(ops)
-}
-
-fn nested(alloc: Global) -> Mem<List<Op>> {
-    let mut ops = List::new(alloc);
-    ops.push(Op::Nested)?;
+    for one in asked {
+        ops.push(op(alloc, one)?)?;
+    }
     Ok(ops)
 }
 
@@ -122,8 +124,17 @@ fn txn_of(alloc: Global, compared: u8, success: u8, failure: u8) -> Mem<TxnReq> 
 fn txn_that_nests(alloc: Global, key: &str) -> Mem<TxnReq> {
     Ok(TxnReq {
         compare: compares(alloc, key.as_bytes(), 1)?,
-        success: nested(alloc)?,
+        success: branch(alloc, &[Asked::Nested])?,
         failure: List::new(alloc),
+    })
+}
+
+/// A transaction with no compares.
+fn txn_of_branches(alloc: Global, success: &[Asked], failure: &[Asked]) -> Mem<TxnReq> {
+    Ok(TxnReq {
+        compare: List::new(alloc),
+        success: branch(alloc, success)?,
+        failure: branch(alloc, failure)?,
     })
 }
 
@@ -137,170 +148,159 @@ fn txn_refusal(request: TxnReq) -> Option<Refusal> {
     txn_fields(&request)
 }
 
-/// What a transaction with no compares is refused for.
-fn branches_refusal(alloc: Global, success: List<Op>, failure: List<Op>) -> Option<Refusal> {
-    txn_refusal(TxnReq {
-        compare: List::new(alloc),
-        success,
-        failure,
-    })
-}
-
-/// What a transaction with one branch is refused for.
-fn success_refusal(alloc: Global, success: List<Op>) -> Option<Refusal> {
-    branches_refusal(alloc, success, List::new(alloc))
-}
-
-/// The same of the other branch.
-fn failure_refusal(alloc: Global, failure: List<Op>) -> Option<Refusal> {
-    branches_refusal(alloc, List::new(alloc), failure)
-}
-
 /// What a step is refused for.
 fn refusal(step: Step) -> Option<Refusal> {
     fields(&step)
 }
 
+/// What was met is what was wanted. The text of a failure is long to prove, so it stands here alone.
+fn assert_met(rt: &impl Abort, met: Option<Refusal>, wanted: Option<Refusal>, case: &str) {
+    assert_eq!(rt; met, wanted, "{case}");
+}
+
+/// The key, the value and the lease of puts that keep both, and what they are refused for.
+const KEPT: [(&str, &str, i64, Option<Refusal>); 5] = [
+    ("foo", "", 0, None),
+    ("foo", "1", 0, Some(Refusal::ValueGiven)),
+    ("foo", "", 77, Some(Refusal::LeaseGiven)),
+    ("foo", "1", 77, Some(Refusal::ValueGiven)),
+    ("", "1", 77, Some(Refusal::NoKey)),
+];
+
 #[test]
 fn puts_that_keep_value_and_lease(rt: HostRuntime) -> Mem<()> {
-    let cases = [
-        ("foo", "", 0, None),
-        ("foo", "1", 0, Some(Refusal::ValueGiven)),
-        ("foo", "", 77, Some(Refusal::LeaseGiven)),
-        ("foo", "1", 77, Some(Refusal::ValueGiven)),
-        ("", "1", 77, Some(Refusal::NoKey)),
-    ];
-    for (key, value, lease, wanted) in cases {
-        assert_eq!(rt;
-            put_refusal(put_that_keeps(rt.alloc(), key, value, lease)?),
-            wanted,
-            "{key} {value} {lease}"
-        );
+    for (key, value, lease, wanted) in KEPT.iter() {
+        let met = put_refusal(put_that_keeps(rt.alloc(), key, value, *lease)?);
+        assert_met(&rt, met, *wanted, value);
     }
     Ok(())
 }
+
+/// So many compares, and puts in each branch.
+const COUNTS: [(u8, u8, u8, Option<Refusal>); 5] = [
+    (128, 128, 128, None),
+    (0, 2, 2, None),
+    (129, 0, 0, Some(Refusal::TooManyOps)),
+    (0, 129, 0, Some(Refusal::TooManyOps)),
+    (0, 0, 129, Some(Refusal::TooManyOps)),
+];
 
 #[test]
 fn at_most_128_in_any_list(rt: HostRuntime) -> Mem<()> {
-    let cases = [
-        (128, 128, 128, None),
-        (129, 0, 0, Some(Refusal::TooManyOps)),
-        (0, 129, 0, Some(Refusal::TooManyOps)),
-        (0, 0, 129, Some(Refusal::TooManyOps)),
-    ];
-    for (compared, success, failure, wanted) in cases {
-        assert_eq!(rt;
-            txn_refusal(txn_of(rt.alloc(), compared, success, failure)?),
-            wanted,
-            "{compared} {success} {failure}"
-        );
+    for (compared, success, failure, wanted) in COUNTS.iter() {
+        let met = txn_refusal(txn_of(rt.alloc(), *compared, *success, *failure)?);
+        assert_met(&rt, met, *wanted, "counts");
     }
     Ok(())
 }
 
-#[test]
-fn duplicates_in_one_branch(rt: HostRuntime) -> Mem<()> {
-    let alloc = rt.alloc();
-    let duplicate = Some(Refusal::DuplicateKey);
-    assert_eq!(rt; failure_refusal(alloc, put_twice(alloc)?), duplicate);
-    assert_eq!(rt;
-        success_refusal(alloc, put_and_delete(alloc, b"a")?),
-        duplicate
-    );
-    assert_eq!(rt; success_refusal(alloc, put_and_delete(alloc, b"b")?), None);
-    Ok(())
-}
+/// Keys that a branch changes twice are refused, and keys that both change are not.
+const BRANCHES: [(&[Asked], &[Asked], Option<Refusal>); 4] = [
+    (
+        &[],
+        &[Asked::Put(&[1]), Asked::Nested, Asked::Put(&[1])],
+        Some(Refusal::DuplicateKey),
+    ),
+    (
+        &[Asked::Put(b"a"), Asked::DeleteA],
+        &[],
+        Some(Refusal::DuplicateKey),
+    ),
+    (&[Asked::Put(b"b"), Asked::DeleteA], &[], None),
+    (
+        &[Asked::Put(&[1]), Asked::Put(&[2])],
+        &[Asked::DeleteAll],
+        None,
+    ),
+];
 
 #[test]
-fn no_duplicates_across_branches(rt: HostRuntime) -> Mem<()> {
-    let alloc = rt.alloc();
-    assert_eq!(rt; txn_refusal(txn_of(alloc, 0, 2, 2)?), None);
-    assert_eq!(rt;
-        branches_refusal(alloc, puts(alloc, 2)?, delete_all(alloc)?),
-        None
-    );
+fn duplicates_in_one_branch(rt: HostRuntime) -> Mem<()> {
+    for (success, failure, wanted) in BRANCHES.iter() {
+        let met = txn_refusal(txn_of_branches(rt.alloc(), success, failure)?);
+        assert_met(&rt, met, *wanted, "branches");
+    }
     Ok(())
 }
 
 #[test]
 fn no_key_before_what_is_not_offered(rt: HostRuntime) -> Mem<()> {
-    for (key, wanted) in [("a", Refusal::NotOffered), ("", Refusal::NoKey)] {
-        assert_eq!(rt;
-            txn_refusal(txn_that_nests(rt.alloc(), key)?),
-            Some(wanted),
-            "{key}"
-        );
-    }
+    let alloc = rt.alloc();
+    let nests = txn_refusal(txn_that_nests(alloc, "a")?);
+    assert_met(&rt, nests, Some(Refusal::NotOffered), "nested");
+    let no_key = txn_refusal(txn_that_nests(alloc, "")?);
+    assert_met(&rt, no_key, Some(Refusal::NoKey), "no key");
     Ok(())
 }
 
 #[test]
 fn reads_and_deletes_without_key(rt: HostRuntime) -> Mem<()> {
     let alloc = rt.alloc();
-    for (key, wanted) in [("a", None), ("", Some(Refusal::NoKey))] {
-        assert_eq!(rt;
-            refusal(Step::Range(range(alloc, key.as_bytes())?)),
-            wanted,
-            "{key}"
-        );
-        assert_eq!(rt;
-            refusal(Step::Delete(delete(alloc, key.as_bytes(), b"b")?)),
-            wanted,
-            "{key}"
-        );
-    }
+    let no_key = Some(Refusal::NoKey);
+    assert_met(&rt, refusal(Step::Range(range(alloc, b"a")?)), None, "read");
+    assert_met(
+        &rt,
+        refusal(Step::Range(range(alloc, b"")?)),
+        no_key,
+        "read",
+    );
+    let delete_a = refusal(Step::Delete(delete(alloc, b"a", b"b")?));
+    assert_met(&rt, delete_a, None, "delete");
+    let delete_none = refusal(Step::Delete(delete(alloc, b"", b"b")?));
+    assert_met(&rt, delete_none, no_key, "delete");
     Ok(())
+}
+
+const ALARMS: [(AlarmAction, AlarmKind, Option<Refusal>); 3] = [
+    (
+        AlarmAction::Activate,
+        AlarmKind::Corrupt,
+        Some(Refusal::NotOffered),
+    ),
+    (AlarmAction::Activate, AlarmKind::NoSpace, None),
+    (AlarmAction::Get, AlarmKind::Corrupt, None),
+];
+
+/// What an alarm is refused for.
+fn alarm_refusal(action: AlarmAction, alarm: AlarmKind) -> Option<Refusal> {
+    refusal(Step::Alarm(AlarmReq {
+        action,
+        member: 2,
+        alarm,
+    }))
+}
+
+/// What a grant is refused for.
+fn grant_refusal(ttl: i64) -> Option<Refusal> {
+    refusal(Step::Grant(GrantReq { ttl, id: 0 }))
 }
 
 #[test]
 fn grants_and_alarms(rt: HostRuntime) {
-    for (ttl, wanted) in [
-        (9_000_000_000, None),
-        (9_000_000_001, Some(Refusal::TtlTooLarge)),
-    ] {
-        assert_eq!(rt;
-            refusal(Step::Grant(GrantReq { ttl, id: 0 })),
-            wanted,
-            "{ttl}"
-        );
-    }
-    let cases = [
-        (
-            AlarmAction::Activate,
-            AlarmKind::Corrupt,
-            Some(Refusal::NotOffered),
-        ),
-        (AlarmAction::Activate, AlarmKind::NoSpace, None),
-        (AlarmAction::Get, AlarmKind::Corrupt, None),
-    ];
-    for (action, alarm, wanted) in cases {
-        let request = AlarmReq {
-            action,
-            member: 2,
-            alarm,
-        };
-        assert_eq!(rt; refusal(Step::Alarm(request)), wanted, "{request:?}");
+    assert_met(&rt, grant_refusal(9_000_000_000), None, "greatest");
+    let above = grant_refusal(9_000_000_001);
+    assert_met(&rt, above, Some(Refusal::TtlTooLarge), "above");
+    for (action, alarm, wanted) in ALARMS.iter() {
+        assert_met(&rt, alarm_refusal(*action, *alarm), *wanted, "alarm");
     }
 }
 
+/// The first key, the end and a candidate, and whether it is among them.
+const INTERVALS: [(&[u8], &[u8], &[u8], bool); 8] = [
+    (b"a", b"", b"a", true),
+    (b"a", b"", b"ab", false),
+    (b"a", b"c", b"a", true),
+    (b"a", b"c", b"bz", true),
+    (b"a", b"c", b"c", false),
+    (b"b", b"a", b"b", false),
+    (b"b", &[0], b"a", false),
+    (&[0], &[0], &[255, 255], true),
+];
+
 #[test]
 fn intervals(rt: HostRuntime) {
-    let cases: [(&[u8], &[u8], &[u8], bool); 8] = [
-        (b"a", b"", b"a", true),
-        (b"a", b"", b"ab", false),
-        (b"a", b"c", b"a", true),
-        (b"a", b"c", b"bz", true),
-        (b"a", b"c", b"c", false),
-        (b"b", b"a", b"b", false),
-        (b"b", &[0], b"a", false),
-        (&[0], &[0], &[255, 255], true),
-    ];
-    for (key, range_end, candidate, wanted) in cases {
-        assert_eq!(rt;
-            is_in(key, range_end, candidate),
-            wanted,
-            "{candidate:?} in {key:?}, {range_end:?}"
-        );
+    for (key, range_end, candidate, wanted) in INTERVALS.iter() {
+        assert!(rt; is_in(key, range_end, candidate) == *wanted);
     }
 }
 

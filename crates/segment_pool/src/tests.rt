@@ -1,7 +1,9 @@
 ghost use Rattle.std.specs.Prelude.{◌≡◌, ◌<◌};
 
 use crate::{Desk, Pool, Short, Stock, Ticket};
-use cell_arena::Segments;
+use cell_arena::{Fields, Kind, Region, Segments};
+use etcd_types::Mem;
+use std::alloc::Global;
 use std::mem;
 use std::test::Fail;
 
@@ -78,5 +80,38 @@ fn a_desk_serves_one_ticket_after_another(rt: HostRuntime) -> Result<(), Fail> {
     assert_eq!(rt; (desk.left(), desk.room()), (2, 0));
     mem::swap(&mut desk.ticket, &mut one);
     assert_eq!(rt; one.reserved(), 2);
+    Ok(())
+}
+
+/// Who drew each segment of a pool, once a region over a desk filled two of them and let the record of one go.
+fn layout_left(alloc: Global, first_goes: bool) -> Mem<Vec<Option<u32>>> {
+    let mut pool = Pool::new(alloc, 3)?;
+    let Ok(ticket) = pool.reserve(2) else {
+        return pool.layout(alloc);
+    };
+    let mut desk = Desk { pool, ticket };
+    let mut region = Region::new(alloc, 128)?;
+    let fields = Fields {
+        revision: 1,
+        create_revision: 1,
+        version: 1,
+        lease: 0,
+    };
+    let value = [7; 3024];
+    let first = region.place(&mut desk, Kind::Put, fields, b"", value.as_slice());
+    let second = region.place(&mut desk, Kind::Put, fields, b"", value.as_slice());
+    let gone = if first_goes { first } else { second };
+    if region.has(gone) {
+        region.release(&mut desk, gone);
+    }
+    desk.pool.layout(alloc)
+}
+
+#[test]
+fn a_region_gives_back_what_it_drew(rt: HostRuntime) -> Result<(), Fail> {
+    let layout = layout_left(rt.alloc(), true)?;
+    assert_eq!(rt; layout.as_slice(), [None, Some(0), None].as_slice());
+    let layout = layout_left(rt.alloc(), false)?;
+    assert_eq!(rt; layout.as_slice(), [None, None, Some(0)].as_slice());
     Ok(())
 }
