@@ -7,6 +7,8 @@ from typing import NamedTuple
 KEY_BYTES = 16
 VALUE_BYTES = 100
 RANGE_KEYS = 100
+# The puts of a transaction, in one work for each.
+TXN_PUTS = [1, 10, 100]
 CELL_BYTES = 48
 # A record of such a key and value is one cell and three for its bytes; its delete would be one and one.
 RECORD_CELLS = 6
@@ -109,6 +111,41 @@ def overwritten(count):
         if number == count // 10:
             ends.append(len(calls))
     return [Phase("overwrite", calls[: ends[0]]), Phase("overwrite", calls[ends[0] :])]
+
+
+def txn(rows, revision):
+    """Puts rows whose first key has to be new."""
+    first, _ = rows[0]
+    compare = {"key": text_of(first), "result": "EQUAL", "target": "VERSION", "version": "0"}
+    puts = [{"request_put": {"key": text_of(key), "value": text_of(value)}} for key, value in rows]
+    wanted = {**header(revision), "responses": [{"response_put": header(revision)}] * len(rows), "succeeded": True}
+    return Call("kv/txn", body_of({"compare": [compare], "success": puts}), wanted)
+
+
+def txn_label(puts):
+    return f"txn of {puts}"
+
+
+def txn_count(count, puts):
+    """The works of all sizes put as many records, but for what is left of a transaction."""
+    return count // 4 // puts
+
+
+def transactions(count, puts):
+    """Transactions of as many puts of new keys, in a scattered order."""
+    chance = random.Random(3)
+    order = iter(chance.sample(range(count), count))
+    calls = []
+    for number in range(txn_count(count, puts)):
+        rows = [(b"key/%0*d" % (KEY_BYTES - 4, next(order)), chance.randbytes(VALUE_BYTES)) for _ in range(puts)]
+        calls.append(txn(rows, FIRST_REVISION + 1 + number))
+    return [Phase(txn_label(puts), calls)]
+
+
+def works(count):
+    """The phases of each work, by its name. A work begins with fresh programs."""
+    sizes = {txn_label(puts): transactions(count, puts) for puts in TXN_PUTS}
+    return {"filled": filled(count), "overwritten": overwritten(count), **sizes}
 
 
 def in_use(who, call, status, body):

@@ -69,16 +69,16 @@ class Connection:
         return responses, time.perf_counter() - started
 
 
-def is_whole(response):
-    """Whether a response has ended: by its length, or by its last chunk where it has none."""
-    head = response.find(HEAD_END)
+def is_whole(message):
+    """Whether a request or a response has ended: by its length, or by its last chunk where it has none."""
+    head = message.find(HEAD_END)
     if head < 0:
         return False
-    at = response.find(LENGTH, 0, head)
+    at = message.find(LENGTH, 0, head)
     if at < 0:
-        return response.endswith(LAST_CHUNK)
-    length = response[at + len(LENGTH) : response.index(b"\r\n", at)]
-    return len(response) >= head + len(HEAD_END) + int(length)
+        return message.endswith(LAST_CHUNK)
+    length = message[at + len(LENGTH) : message.index(b"\r\n", at)]
+    return len(message) >= head + len(HEAD_END) + int(length)
 
 
 def read_response(response):
@@ -106,10 +106,10 @@ def free_ports(count):
 
 
 class Etcd:
-    """etcd with one member, its settings as they come, and its files in memory."""
+    """etcd with one member, its settings as they come, and its files in memory where no folder is named for them."""
 
-    def __init__(self):
-        self.folder = tempfile.mkdtemp(prefix="bench_replay.", dir=MEMORY_FILES)
+    def __init__(self, folder=MEMORY_FILES):
+        self.folder = tempfile.mkdtemp(prefix="bench_replay.", dir=folder)
         self.child = self.connection = None
         try:
             self.start()
@@ -118,8 +118,8 @@ class Etcd:
             raise
 
     def start(self):
-        port, peer_port = free_ports(2)
-        client, peer = f"http://127.0.0.1:{port}", f"http://127.0.0.1:{peer_port}"
+        self.port, peer_port = free_ports(2)
+        client, peer = f"http://127.0.0.1:{self.port}", f"http://127.0.0.1:{peer_port}"
         words = ["etcd", "--name", "one", "--data-dir", self.file("data")]
         words += ["--listen-client-urls", client, "--advertise-client-urls", client]
         words += ["--listen-peer-urls", peer, "--initial-advertise-peer-urls", peer]
@@ -128,15 +128,15 @@ class Etcd:
             self.child = subprocess.Popen(
                 words, stdin=subprocess.DEVNULL, stdout=log, stderr=log, env={"PATH": os.environ["PATH"]}
             )
-        self.connection = self.connected(port)
+        self.connection = self.connected()
 
-    def connected(self, port):
+    def connected(self):
         """A connection, once etcd answers a range."""
         ready = b"POST /v3/kv/range HTTP/1.1\r\nHost: etcd\r\nContent-Length: 14\r\n\r\n" + b'{"key":"Zm9v"}'
         end = time.monotonic() + PATIENCE
         while time.monotonic() < end and self.child.poll() is None:
             try:
-                connection = Connection(port)
+                connection = Connection(self.port)
                 if read_response(connection.ask(ready))[0] == 200:
                     return connection
                 connection.socket.close()
@@ -184,8 +184,7 @@ def respond(listener, response):
     asked = b""
     while piece := connection.recv(1 << 16):
         asked += piece
-        # A body ends so, and a head does not.
-        if asked.endswith(b"}"):
+        if is_whole(asked):
             connection.sendall(response)
             asked = b""
 

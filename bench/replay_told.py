@@ -1,10 +1,12 @@
 """What bench/replay prints."""
 from statistics import median
 
-from replay_calls import CELL_BYTES, KEY_BYTES, RANGE_KEYS, RECORD_CELLS, VALUE_BYTES, compaction_interval, range_count
+from replay_calls import CELL_BYTES, KEY_BYTES, RANGE_KEYS, RECORD_CELLS, TXN_PUTS, VALUE_BYTES
+from replay_calls import compaction_interval, range_count, txn_count, txn_label
 
 # The work of each line, and the label of its phases.
 ROWS = [("filled", "put"), ("filled", "read"), ("filled", "range"), ("overwritten", "overwrite")]
+ROWS += [(txn_label(puts), txn_label(puts)) for puts in TXN_PUTS]
 
 OURS = """\
 ours: one process that reads a script from a pipe: JSON read, the machine, JSON written. No HTTP, no disk, no consensus
@@ -26,6 +28,8 @@ def told_rows(count):
     yield f"read {count:,} keys, one by one"
     yield f"{range_count(count):,} ranges of {RANGE_KEYS} keys"
     yield f"put one key {count:,} times, compacted after each {compaction_interval(count):,}"
+    for puts in TXN_PUTS:
+        yield f"{txn_count(count, puts):,} transactions of {puts} put{'s' if puts > 1 else ''}"
 
 
 def table(heads, rows):
@@ -116,6 +120,7 @@ def tell(options, quota, version, lack, runs, feeder):
     rounds = "one run" if options.rounds == 1 else f"the middle of {options.rounds} runs, and the least to the greatest"
     print(f"{options.program or 'The proved replay program'}, {rounds}.")
     print(f"Keys of {KEY_BYTES} bytes in a scattered order, values of {VALUE_BYTES} bytes.")
+    print("A transaction compares the version of its first key with 0, and its keys are new.")
     print(f"A record takes {RECORD_CELLS} cells of {CELL_BYTES} bytes; the quota is {quota:,} cells.")
     if lack:
         print(f"{lack}: the replay program alone.")
