@@ -4,7 +4,6 @@ use Rattle.std.specs.Prelude.{◌||◌, ◌&&◌, Some, None, Result, Ok, Err, I
 use Rattle.std.specs.List.{list_any}
 use Rattle.std.proofs.Math.Bool.{or-true}
 use Rattle.std.proofs.lemmas.Bool.{cases_Bool, true≢false}
-use Rattle.std.proofs.lemmas.List.{append-nil}
 use Rattle.std.proofs.lemmas.List.Folds.{list_any-append}
 use Rattle.etcd_types.specs.declared.txn.Op.{Op}
 use Rattle.etcd_types.specs.declared.txn.Op.TheVariants.{Range as RangeOp, Put as PutOp, Delete as DeleteOp, Nested}
@@ -17,10 +16,11 @@ use Rattle.etcd_model.specs.declared.state.Change.{Change}
 use Rattle.etcd_model.specs.Compares.{all_hold}
 use Rattle.etcd_model.specs.Fields.{is_empty}
 use Rattle.etcd_model.specs.Operations.{adds_any, branch, ops_refusal, pending_after}
-use Rattle.etcd_model.specs.Reads.{Look, Reads}
+use Rattle.etcd_model.specs.Reads.{Reads}
 use Rattle.etcd_model.specs.Stepping.{transaction, within_quota, writes, writes_op}
 use Rattle.etcd_model.specs.Store.{IsStore, after, cells, kept_store}
 use Rattle.etcd_model.specs.Tenant.{used}
+use Rattle.model_laws.proofs.RevisionLaws.{nothing_pending}
 use Rattle.model_laws.proofs.SpaceLaws.{no_put_takes_none}
 use Rattle.revision_store.specs.Stored.{StoreState, changes_of, look, reads}
 use Rattle.revision_store.specs.declared.plan.Write.{Write}
@@ -34,14 +34,6 @@ use Rattle.tenant_machine.proofs.DecidingOps.{does_as}
 use Rattle.tenant_machine.proofs.Gates.{done_past_gate, refused_past_gate}
 
 -- ---- what a branch writes
-
--- operations of which none is a put or a delete change nothing
-none_writes : (seen : Look) (pending : List Change) (ops : List Op) → list_any writes_op ops ≡ false → pending_after seen pending ops ≡ pending
-none_writes seen pending [] none = refl
-none_writes seen pending (RangeOp q ∷ ops) none = none_writes seen (pending ++ []) ops none ∙ append-nil pending
-none_writes seen pending (PutOp p ∷ ops) none = absurd (true≢false none)
-none_writes seen pending (DeleteOp d ∷ ops) none = absurd (true≢false none)
-none_writes seen pending (Nested ∷ ops) none = none_writes seen (pending ++ []) ops none ∙ append-nil pending
 
 -- a put is a write
 adds_is_write : (ops : List Op) → adds_any ops ≡ true → list_any writes_op ops ≡ true
@@ -72,7 +64,7 @@ module _ (store : StoreState) (q : TxnReq) (planned : PlannedTxn) (is : IsTxn st
   pub changing_writes : is_empty planned.plan ≡ false → writes (Txn q) ≡ true
   changing_writes some = elim (cases_Bool (list_any writes_op (branch (reads store) q))) [
     | inl one ↦ branch_writes (reads store) q one
-    | inr none ↦ absurd (true≢false (sym (no_changes store planned.plan (is.changes ∙ none_writes (look store) [] (branch (reads store) q) none)) ∙ some))
+    | inr none ↦ absurd (true≢false (sym (no_changes store planned.plan (is.changes ∙ nothing_pending (look store) [] (branch (reads store) q) none)) ∙ some))
   ]
 
   -- without a put as many cells are in use then as before
