@@ -28,7 +28,7 @@ use Rattle.model_laws.proofs.RowLaws.{has_key, live-key, rows_by_their_keys, row
 use Rattle.model_laws.proofs.SpaceLaws.{after_is_store}
 use Rattle.revision_store.specs.Plans.{change_in}
 use Rattle.revision_store.specs.Stored.{StoreState, Follows, IsPlanFor, cells, changes_of, look, row_at}
-use Rattle.revision_store.specs.Pending.{IsPending, is_erased, left_by, left_cells, put_at, puts_inside, row_put_to, rows_at}
+use Rattle.revision_store.specs.Pending.{IsPending, is_erased, left_by, left_cells, put_at, put_row, puts_inside, row_put_to, rows_at}
 use Rattle.revision_store.specs.declared.plan.Write.{Write}
 use Rattle.revision_store.specs.declared.plan.Write.TheVariants.{Put, Delete}
 use Rattle.revision_store.proofs.PendingReads.{one_revision, row_more, none_put, none_where_live, after_deletes, find_filtered, found_inside, none_found}
@@ -144,6 +144,12 @@ no_put_inside store ws (i ∷ is) p key inside h =
     at_place (Delete c ∷ vs) zero row h e = let bad : ⊥ = cc in absurd bad
     at_place (Put q ∷ vs) (suc i) row h e = at_place vs i row (or_parts (p q.key) (list_any (λ c. is_put c && p (key_of c)) (changes_of store vs)) h).1 e
     at_place (Delete c ∷ vs) (suc i) row h e = at_place vs i row h e
+
+-- deletes put nothing
+no_puts : (ws : List Write) (cs : List ℕ) → filter_map put_row (ws ++ map Delete cs) ≡ filter_map put_row ws
+no_puts [] [] = refl
+no_puts [] (c ∷ cs) = no_puts [] cs
+no_puts (w ∷ ws) cs = ap (cons_option (put_row w)) (no_puts ws cs)
 
 module _ (store : StoreState) (ws : List Write) (places : List ℕ) (deletes : List DeleteReq) (is : IsPending store ws places deletes) (d : DeleteReq) (free : puts_inside d (changes_of store ws) ≡ false) where
   abbrev old : List Change
@@ -264,6 +270,7 @@ module _ (store : StoreState) (ws : List Write) (places : List ℕ) (deletes : L
       plan = deletes_are_plan;
       short = omega (arith, room, one_revision store.kept (changes_of store (ws ++ map Delete cs)));
       within = all_weaker (λ place. place < length ws) (λ place. place < length (ws ++ map Delete cs)) (λ place h. omega (arith, h, length-append ws (map Delete cs))) places is.within;
+      puts = rows_at-more ws (map Delete cs) places is.within ∙ is.puts ∙ sym (no_puts ws cs);
       seen = λ key.
           ap (λ qs. option_or (row_put_to key qs) (left_by (deletes ++ d ∷ []) store key)) (rows_at-more ws (map Delete cs) places is.within)
           ∙ ap (λ o. option_or (row_put_to key (rows_at ws places)) o) (left_more key)

@@ -99,6 +99,7 @@ module _ (store : StoreState) (ws : List Write) (row : KeyValue) (free : changes
     plan = put_is_plan is.plan;
     short = omega (arith, room, one_revision store.kept (changes_of store (ws ++ Put row ∷ [])));
     within = all_push (λ place. place < length (ws ++ Put row ∷ [])) places (length ws) (all_weaker (λ place. place < length ws) (λ place. place < length (ws ++ Put row ∷ [])) (λ place h. omega (arith, h, longer)) places is.within) (omega (arith, longer));
+    puts = rows_at-put ws row places is.within ∙ ap (λ rs. rs ++ row ∷ []) is.puts ∙ sym (filter_map-append put_row ws (Put row ∷ []));
     seen = λ key.
         let rs = rows_at ws places in
         let left = left_by deletes store key in

@@ -1,11 +1,9 @@
 -- The rows that a range reads with changes pending.
 use Rattle.std.proofs.Common.{◌≡◌, ℕ, zero, suc, ◌+◌, ◌<◌, ◌≤◌, List, [], ◌∷◌, ◌++◌, refl, ap, ◌∙◌, sym, arith}
-use Rattle.std.specs.Prelude.{Bool, true, false, ◌&&◌, ◌||◌, ℤ, pos, negsuc, Some, None, nat_le, nat_lt, int_lt, if◌then◌else◌}
-use Rattle.std.specs.List.{list_any}
+use Rattle.std.specs.Prelude.{Bool, true, false, ◌&&◌, ℤ, pos, negsuc, Some, None, nat_le, nat_lt, int_lt, if◌then◌else◌}
 use Rattle.std.specs.List.Sorted.{IsStrictlySortedBy}
-use Rattle.std.specs.Cmp.Lexicographic.{bytes_decides}
 use Rattle.std.specs.Str.{bytes_eq}
-use Rattle.std.proofs.lemmas.Bool.{le-leb, leb-true, or_parts, false_from_ne_true, true≢false}
+use Rattle.std.proofs.lemmas.Bool.{le-leb, leb-true, false_from_ne_true, true≢false}
 use Rattle.std.proofs.lemmas.Bool.Decides.{nat_tests}
 use Rattle.etcd_types.specs.declared.refusal.Refusal.TheVariants.{Compacted, Future}
 use Rattle.etcd_model.specs.declared.state.Change.{Change}
@@ -16,10 +14,8 @@ use Rattle.etcd_model.specs.Reads.{Reads, revision_read, rows_read, unreadable}
 use Rattle.etcd_model.specs.Store.{Store, IsStore, after, reads_of}
 use Rattle.model_laws.specs.Recording.{by_key}
 use Rattle.model_laws.proofs.RecordedLaws.{live_push}
-use Rattle.model_laws.proofs.RowLaws.{rows_by_their_keys, rows_rise, same_rows}
+use Rattle.model_laws.proofs.RowLaws.{rows_rise, same_rows}
 use Rattle.model_laws.proofs.SpaceLaws.{after_is_store, own_pend}
-use Rattle.revision_store.specs.Pending.{changes_key, changes_within}
-use Rattle.revision_store.proofs.PendingReads.{row_untouched, found_inside}
 
 -- ---- revisions before the pending one
 
@@ -74,25 +70,6 @@ pub rows_newest : (R : Reads) (key end : List ℕ) (revision : ℤ) → int_lt (
 rows_newest R key end (negsuc n) above = refl
 rows_newest R key end (pos zero) above = refl
 rows_newest R key end (pos (suc n)) above = absurd (true≢false (sym (le-leb 1 (suc n) (omega arith)) ∙ above))
-
--- changes of keys outside an interval leave its rows
-no_change_inside : (key : List ℕ) (interval : List ℕ → Bool) (cs : List Change) → interval key ≡ true → list_any (λ c. interval (key_of c)) cs ≡ false → changes_key key cs ≡ false
-no_change_inside key interval [] inside none = refl
-no_change_inside key interval (c ∷ cs) inside none =
-    let parts = or_parts (interval (key_of c)) (list_any (λ d. interval (key_of d)) cs) none in
-    let apart : bytes_eq (key_of c) key ≡ false = false_from_ne_true (bytes_eq (key_of c) key) (λ t. true≢false (sym inside ∙ ap interval (sym ((bytes_decides (key_of c) key).0 t)) ∙ parts.0)) in
-    ap (λ b. b || changes_key key cs) apart ∙ no_change_inside key interval cs inside parts.1
-
-pub rows_outside : (s : Store) (cs : List Change) (key end : List ℕ) → IsStore s → changes_within key end cs ≡ false → (reads_of (after s cs)).rows key end ≡ (reads_of s).rows key end
-rows_outside s cs key end is none =
-    let t = after s cs in
-    let own = (after_is_store s cs is).own in
-    rows_by_their_keys ((reads_of t).rows key end) ((reads_of s).rows key end) (rows_rise t.changes own t.current (is_in key end)) (rows_rise s.changes is.own s.current (is_in key end))
-    (λ k. found_inside k (is_in key end) t.current t.changes own ∙ same k (is_in key end k) refl ∙ sym (found_inside k (is_in key end) s.current s.changes is.own))
-  where
-    same : (k : List ℕ) (b : Bool) → is_in key end k ≡ b → (if b then (reads_of (after s cs)).row k else None) ≡ (if b then (reads_of s).row k else None)
-    same k true inside = row_untouched s cs k is (no_change_inside k (is_in key end) cs inside none)
-    same k false inside = refl
 
 -- they ascend
 pub rows_ascend : (s : Store) (cs : List Change) (key end : List ℕ) → IsStore s → IsStrictlySortedBy by_key ((reads_of (after s cs)).rows key end)

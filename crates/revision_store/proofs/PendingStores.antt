@@ -1,6 +1,6 @@
 -- What a store is, to changes that are pending.
 use Rattle.std.proofs.Common.{◌≡◌, ℕ, ◌≤◌, List, [], ◌∷◌, length, refl, ap, ◌∙◌, sym, subst, arith, map}
-use Rattle.std.specs.Prelude.{◌||◌, Result, Ok, Err, IfOk, Option, Some, None, IfSome, IsSome, option_map, option_and_then, unwrap_or}
+use Rattle.std.specs.Prelude.{◌||◌, filter_map, Result, Ok, Err, IfOk, Option, Some, None, IfSome, IsSome, option_map, option_and_then, unwrap_or}
 use Rattle.std.specs.List.{AllByRecursion, cons_option, list_any}
 use Rattle.std.specs.FinMap.{FinMap, get}
 use Rattle.std.specs.Ordering.{nat_cmp, is_eq, is_ge, is_le, ordering_reverse}
@@ -23,8 +23,8 @@ use Rattle.key_index.specs.Entries.{Cells, Entry, change_at}
 use Rattle.key_index.specs.Order.{changes_in}
 use Rattle.revision_store.specs.Plans.{key_at}
 use Rattle.revision_store.specs.Recorded.{cells_of, entry_by, entry_of}
-use Rattle.revision_store.specs.Stored.{StoreState, Follows, cells, changes_of, row_at}
-use Rattle.revision_store.specs.Pending.{IsThere, is_put_in, left_cells, puts_within}
+use Rattle.revision_store.specs.Stored.{StoreState, cells, changes_of, row_at}
+use Rattle.revision_store.specs.Pending.{is_row_in, left_cells, put_row, puts_within}
 use Rattle.revision_store.specs.declared.plan.Write.{Write}
 use Rattle.revision_store.specs.declared.plan.Write.TheVariants.{Put as PutWrite, Delete as DeleteWrite}
 
@@ -59,14 +59,8 @@ own_cells store c row e = by (change_at (cells store) c) refl e
 
 -- ---- writes of a plan
 
--- what they delete is there
-pub all_there : (store : StoreState) (ws : List Write) → AllByRecursion (Follows store) ws → AllByRecursion (IsThere (cells store)) ws
-all_there store [] h = tt
-all_there store (PutWrite row ∷ ws) h = (tt, all_there store ws h.1)
-all_there store (DeleteWrite c ∷ ws) h = (subst (λ o. IsSome o) (sym h.0.1) refl, all_there store ws h.1)
-
--- the puts are those of their changes
-pub puts_are : (store : StoreState) (key end : List ℕ) (ws : List Write) → list_any (is_put_in key end) ws ≡ puts_within key end (changes_of store ws)
+-- their puts are those of their changes
+pub puts_are : (store : StoreState) (key end : List ℕ) (ws : List Write) → list_any (is_row_in key end) (filter_map put_row ws) ≡ puts_within key end (changes_of store ws)
 puts_are store key end [] = refl
 puts_are store key end (PutWrite row ∷ ws) = ap (λ b. is_in key end row.key || b) (puts_are store key end ws)
 puts_are store key end (DeleteWrite c ∷ ws) = puts_are store key end ws

@@ -1,5 +1,5 @@
 -- Changes that are pending over a store, as reads find them: the last that touches a key says what it is.
-use Rattle.std.specs.Prelude.{◌≡◌, ℕ, ◌+◌, ◌*◌, ◌<◌, ◌^◌, ◌&&◌, ◌||◌, ◌⊎◌, ℤ, pos, Bool, false, not, List, [], length, filter, filter_map, option_and_then, option_map, Option, Some, None, IsSome, slice_get, if◌then◌else◌, refl}
+use Rattle.std.specs.Prelude.{◌≡◌, ℕ, ◌+◌, ◌*◌, ◌<◌, ◌^◌, ◌&&◌, ◌||◌, ◌⊎◌, ℤ, pos, Bool, not, List, [], length, filter, filter_map, option_and_then, option_map, Option, Some, None, IsSome, slice_get, if◌then◌else◌, refl}
 use mathlib.Core.Logic.{inl, inr}
 use Rattle.std.specs.List.{AllByRecursion, list_any}
 use Rattle.std.specs.Option.{option_or}
@@ -64,10 +64,7 @@ pending_reads p = look p.store p.changes
 abbrev pub changes_key : List ℕ → List Change → Bool
 changes_key key cs = list_any (λ c. bytes_eq (key_of c) key) cs
 
--- some change is of a key of the interval, and some is a put of one
-abbrev pub changes_within : List ℕ → List ℕ → List Change → Bool
-changes_within key end cs = list_any (λ c. is_in key end (key_of c)) cs
-
+-- some change is a put of a key of the interval
 abbrev pub puts_within : List ℕ → List ℕ → List Change → Bool
 puts_within key end cs = list_any (λ c. is_put c && is_in key end (key_of c)) cs
 
@@ -88,15 +85,9 @@ put_at writes place = option_and_then put_row (slice_get writes place)
 abbrev pub rows_at : List Write → List ℕ → List KeyValue
 rows_at writes places = filter_map (put_at writes) places
 
--- a write is a put of a key of the interval
-abbrev pub is_put_in : List ℕ → List ℕ → Write → Bool
-is_put_in key end (Put row) = is_in key end row.key
-is_put_in key end (Delete cell) = false
-
--- what it deletes is there
-abbrev pub IsThere : Cells → Write → Type 0
-IsThere cells (Put row) = Unit {0}
-IsThere cells (Delete cell) = IsSome (row_at cells cell)
+-- the row is of a key of the interval
+abbrev pub is_row_in : List ℕ → List ℕ → KeyValue → Bool
+is_row_in key end row = is_in key end row.key
 
 -- the row that the last put of a key leaves to it
 abbrev pub row_put_to : List ℕ → List KeyValue → Option KeyValue
@@ -137,6 +128,7 @@ pub record IsPending (store : StoreState) (writes : List Write) (places : List �
   pub plan : IsPlanFor store writes
   pub short : (look store (changes_of store writes)).current < 2 ^ 63
   pub within : AllByRecursion (λ place. place < length writes) places
+  pub puts : rows_at writes places ≡ filter_map put_row writes
   pub seen : (key : List ℕ) → shown store (rows_at writes places) deletes key ≡ (look store (changes_of store writes)).row key
 
 -- ---- a put

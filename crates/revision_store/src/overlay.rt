@@ -43,7 +43,7 @@ fn is_from(log: &Log, cell: CellNo, key: &[u8]) -> bool
 }
 
 /// Whether it lies in an interval.
-pub(crate) fn lies_in(log: &Log, cell: CellNo, key: &[u8], range_end: &[u8]) -> bool
+fn lies_in(log: &Log, cell: CellNo, key: &[u8], range_end: &[u8]) -> bool
     requires { IsSome (row_at (cells_of log.now.records) cell) }
     ensures { result ≡ is_in key.now range_end.now (key_at (cells_of log.now.records) cell) }
 {

@@ -6,14 +6,14 @@ ghost use Rattle.etcd_model.specs.Changes.{version_of};
 ghost use Rattle.etcd_model.specs.Operations.{and_changes, op_reply};
 ghost use Rattle.etcd_model.specs.Reads.{revision_read, unreadable};
 ghost use Rattle.revision_store.specs.Stored.{IsPlanFor, cells, changes_of, look, reads, row_at};
-ghost use Rattle.revision_store.specs.Pending.{changes_key, changes_within, pending_reads, present, puts_inside, puts_within, row_put, value_put};
+ghost use Rattle.revision_store.specs.Pending.{changes_key, pending_reads, present, puts_inside, puts_within, row_put, value_put};
 ghost use Rattle.std.specs.Option.{option_copied};
 
 use crate::overlay::{left_cells, push_deletes, rows_asked, rows_under};
 use crate::plan::{Plan, Write};
 use crate::ranging::{range_reply, rows_reply};
 use crate::store::Store;
-use crate::touching::{changes_in, put_rows, puts_in};
+use crate::touching::{put_rows, puts_in};
 use etcd_types::{CellNo, CopyOf, DeleteReq, KeyValue, List, Mem, OpReply, PutReq, RangeReq};
 use std::alloc::Global;
 use std::marker::Model;
@@ -90,24 +90,16 @@ impl<'a> Pending<'a> {
     {
         let key = request.key.as_slice();
         let range_end = request.range_end.as_slice();
-        if request.revision > 0 || !self.changes_in(key, range_end) {
+        if request.revision > 0 {
             return self.store.range_at(alloc, request, self.current());
         }
-        if puts_in(&self.writes, key, range_end) {
+        if puts_in(&self.writes, &self.puts, key, range_end) {
             let rows = self.rows(alloc, key, range_end)?;
             return rows_reply(alloc, request, rows, self.current());
         }
         let store = self.store;
         let cells = self.live_cells(alloc, key, range_end)?;
         range_reply(alloc, &store.log, request, cells, self.current())
-    }
-
-    /// Whether a change of a key of an interval is pending.
-    fn changes_in(&self, key: &[u8], range_end: &[u8]) -> bool
-        ensures { result ≡ changes_within key.now range_end.now self.now.changes }
-    {
-        let store = self.store;
-        changes_in(&store.log, &self.writes, key, range_end)
     }
 
     /// Puts a key that nothing pending changes, and answers as if it was done. Without memory nothing changes.

@@ -1,60 +1,18 @@
 //! What pending puts and deletes make of a key, and of the rows of an interval.
 ghost use Rattle.std.specs.Prelude.{◌≡◌, ◌<◌, ◌≤◌, length, map, filter, fold, set, OnOk, MatchResult};
-ghost use Rattle.std.specs.List.{AllByRecursion, insert, list_any};
+ghost use Rattle.std.specs.List.{insert, list_any};
 ghost use Rattle.std.specs.List.Sorted.{IsStrictlySortedBy};
 ghost use Rattle.std.specs.Option.{option_copied};
-ghost use Rattle.etcd_model.specs.History.{key_of};
 ghost use Rattle.etcd_model.specs.Interval.{is_in};
 ghost use Rattle.etcd_model.specs.Order.{put_in};
 ghost use Rattle.model_laws.specs.Recording.{by_key};
-ghost use Rattle.revision_store.specs.Plans.{change_in};
-ghost use Rattle.revision_store.specs.Recorded.{cells_of};
-ghost use Rattle.revision_store.specs.Pending.{changes_within, is_put_in, IsThere, put_at, rows_at};
+ghost use Rattle.revision_store.specs.Pending.{is_row_in, put_at, rows_at};
 
-use crate::log::Log;
-use crate::overlay::lies_in;
 use crate::plan::Write;
 use etcd_types::{CopyOf, KeyValue, Mem};
 use request_checks::is_in;
 use std::alloc::Global;
 use std::cmp::Ordering;
-
-/// A write is of a key of an interval.
-fn is_write_in(log: &Log, write: &Write, key: &[u8], range_end: &[u8]) -> bool
-    requires { IsThere (cells_of log.now.records) write.now }
-    ensures { result ≡ is_in key.now range_end.now (key_of (change_in (cells_of log.now.records) write.now)) }
-{
-    match write {
-        Write::Put(row) => is_in(key, range_end, row.key.as_slice()),
-        Write::Delete(cell) => lies_in(log, *cell, key, range_end),
-    }
-}
-
-/// Whether some write is of a key of an interval.
-pub(crate) fn changes_in(log: &Log, writes: &[Write], key: &[u8], range_end: &[u8]) -> bool
-    requires { AllByRecursion (IsThere (cells_of log.now.records)) writes.now }
-    ensures { result ≡ changes_within key.now range_end.now (map (change_in (cells_of log.now.records)) writes.now) }
-{
-    for write in writes {
-        if is_write_in(log, write, key, range_end) {
-            return true;
-        }
-    }
-    false
-}
-
-/// Whether some write puts a key of an interval.
-pub(crate) fn puts_in(writes: &[Write], key: &[u8], range_end: &[u8]) -> bool
-    ensures { result ≡ list_any (is_put_in key.now range_end.now) writes.now }
-{
-    for write in writes {
-        match write {
-            Write::Put(row) if is_in(key, range_end, row.key.as_slice()) => return true,
-            _ => {}
-        }
-    }
-    false
-}
 
 /// The row of a put that stands at a place.
 fn put_at(writes: &[Write], place: usize) -> Option<&KeyValue>
@@ -64,6 +22,19 @@ fn put_at(writes: &[Write], place: usize) -> Option<&KeyValue>
         Write::Put(row) => Some(row),
         Write::Delete(_) => None,
     }
+}
+
+/// Whether a put of a key of an interval is pending.
+pub(crate) fn puts_in(writes: &[Write], places: &[usize], key: &[u8], range_end: &[u8]) -> bool
+    ensures { result ≡ list_any (is_row_in key.now range_end.now) (rows_at writes.now places.now) }
+{
+    for place in places {
+        match put_at(writes, *place) {
+            Some(row) if is_in(key, range_end, row.key.as_slice()) => return true,
+            _ => {}
+        }
+    }
+    false
 }
 
 /// Where a row stands among rows that ascend, or where it is to stand.

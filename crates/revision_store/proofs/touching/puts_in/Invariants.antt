@@ -1,7 +1,7 @@
 use Rattle.std.proofs.Common.{◌≡◌, drop}
 use Rattle.std.specs.List.{list_any}
-use Rattle.revision_store.specs.Pending.{is_put_in}
+use Rattle.revision_store.specs.Pending.{is_row_in, rows_at}
 use Rattle.revision_store.proofs.touching.puts_in.Given as goal
 
-abbrev pub invariant-loop-write : goal.invariant-loop-write
-invariant-loop-write l = list_any (is_put_in l.key l.range_end) (drop l.write-index l.writes) ≡ list_any (is_put_in l.key l.range_end) l.writes
+abbrev pub invariant-loop-place : goal.invariant-loop-place
+invariant-loop-place l = list_any (is_row_in l.key l.range_end) (rows_at l.writes (drop l.place-index l.places)) ≡ list_any (is_row_in l.key l.range_end) (rows_at l.writes l.places)

@@ -1,5 +1,6 @@
 use Rattle.std.proofs.Common.{◌≡◌, ℕ, ◌∙◌, List, false, ap, sym, subst, w64, to_z, of_z, rules}
 use Rattle.std.specs.Prelude.{int_lt, pos, Result, IfOk}
+use Rattle.std.specs.List.{list_any}
 use Rattle.std.specs.List.Sorted.{IsStrictlySortedBy}
 use Rattle.std.proofs.lemmas.Result.{IfOk-weaker}
 use Rattle.etcd_types.specs.declared.key_value.KeyValue.{KeyValue}
@@ -11,13 +12,12 @@ use Rattle.etcd_model.specs.Reads.{Reads, rows_read}
 use Rattle.etcd_model.specs.Store.{IsStore}
 use Rattle.model_laws.specs.Recording.{by_key}
 use Rattle.revision_store.specs.Stored.{StoreState, cells, changes_of, look, reads, row_at}
-use Rattle.revision_store.specs.Pending.{PendingState, changes_within, pending_reads}
+use Rattle.revision_store.specs.Pending.{PendingState, is_row_in, pending_reads}
 use Rattle.revision_store.specs.Ranging.{range_answer, rows_of}
 use Rattle.revision_store.proofs.RangingCells.{all_show, filter_map-is}
 use Rattle.revision_store.proofs.PendingStores.{puts_are}
-use Rattle.revision_store.proofs.PendingRanges.{rows_ascend, rows_named, rows_newest, rows_outside}
+use Rattle.revision_store.proofs.PendingRanges.{rows_ascend, rows_named, rows_newest}
 use Rattle.revision_store.proofs.pending.Pending.range.Goals as goal
-use Rattle.revision_store.proofs.pending.Pending.range.Goals.{then-request-gt0-via-then-request-gt0, then-request-gt0-via-else-request-gt0+then-not-changes_in}
 
 -- where no revision is named, the newest rows are answered
 newest : {E : Type 0} (R : Reads) (q : RangeReq) (result : Result OpReply E) (n : ℕ) (rows : List KeyValue) → int_lt (pos 0) q.revision ≡ false → n ≡ R.current → rows ≡ R.rows q.key q.range_end
@@ -26,7 +26,7 @@ newest R q result n rows none current are =
     IfOk-weaker result (λ reply. reply ≡ range_answer q n rows) (λ reply. reply ≡ op_reply R R.current (RangeOp q))
     (λ reply h. h ∙ ap (λ m. range_answer q m rows) current ∙ ap (range_answer q R.current) (are ∙ sym (rows_newest R q.key q.range_end q.revision none)))
 
--- a revision is named, or nothing of the interval is pending
+-- a revision is named
 pub returns-then-request-gt0 : goal.returns-then-request-gt0
 returns-then-request-gt0 c =
     let p = c.args.self.now in
@@ -35,13 +35,7 @@ returns-then-request-gt0 c =
     let store = c.self.inside.store.now in
     let is : IsStore p.store.kept = subst (λ (s : PendingState). IsStore s.store.kept) c.self.view_is c.self.invariant.sound.kept in
     let bits : to_z w64 (of_z w64 q.revision) ≡ q.revision = search rules in
-    let same : rows_read R q.key q.range_end q.revision ≡ rows_read (reads p.store) q.key q.range_end q.revision = elim c.then-request-gt0.branch [
-      | then-request-gt0-via-then-request-gt0 w ↦ rows_named p.store.kept p.changes q.key q.range_end q.revision is (ap (int_lt (pos 0)) (sym bits) ∙ w.if-request-gt0.true) c.requires
-      | then-request-gt0-via-else-request-gt0+then-not-changes_in w ↦
-          let none = ap (int_lt (pos 0)) (sym bits) ∙ w.if-request-gt0.false in
-          let outside : changes_within q.key q.range_end p.changes ≡ false = rw (c.as_slice-key.ensures, c.as_slice-range_end.ensures) at (sym w.changes_in.ensures ∙ w.if-not-changes_in.true) in
-          rows_newest R q.key q.range_end q.revision none ∙ rows_outside p.store.kept p.changes q.key q.range_end is outside ∙ sym (rows_newest (reads p.store) q.key q.range_end q.revision none)
-    ] in
+    let same : rows_read R q.key q.range_end q.revision ≡ rows_read (reads p.store) q.key q.range_end q.revision = rows_named p.store.kept p.changes q.key q.range_end q.revision is (ap (int_lt (pos 0)) (sym bits) ∙ c.if-request-gt0.true) c.requires in
     let stored : rows_read (reads store) q.key q.range_end q.revision ≡ rows_read R q.key q.range_end q.revision = ap (λ (s : PendingState). rows_read (reads s.store) q.key q.range_end q.revision) c.self.view_is ∙ sym same in
     IfOk-weaker c.range_at.result (λ reply. reply ≡ op_reply (reads store) c.current.result (RangeOp q)) (λ reply. reply ≡ op_reply R R.current (RangeOp q))
     (λ reply h. h ∙ ap (λ n. range_answer q n (rows_read (reads store) q.key q.range_end q.revision)) c.current.ensures.current ∙ ap (range_answer q R.current) stored)
@@ -66,7 +60,13 @@ returns-then-puts_in c =
 -- nothing of it is
 pub live_cells-requires : goal.live_cells-requires
 live_cells-requires c =
-    rw (← c.self.view_is) (sym (puts_are c.self.inside.store.now c.as_slice-key.result.now c.as_slice-range_end.result.now c.self.inside.writes.items) ∙ (rw (c.deref.ensures.value) at (sym c.puts_in.ensures)) ∙ c.if-puts_in.false)
+    let key = c.as_slice-key.result.now in
+    let end = c.as_slice-range_end.result.now in
+    rw (← c.self.view_is)
+    (sym (puts_are c.self.inside.store.now key end c.self.inside.writes.items)
+    ∙ ap (list_any (is_row_in key end)) (sym c.self.invariant.puts)
+    ∙ (rw (c.deref.ensures.value, c.deref-2.ensures.value) at (sym c.puts_in.ensures))
+    ∙ c.if-puts_in.false)
 
 pub range_reply-requires-clause-rows : goal.range_reply-requires-clause-rows
 range_reply-requires-clause-rows c =
