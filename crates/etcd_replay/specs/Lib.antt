@@ -5,3 +5,4 @@ pub mod Bodies
 pub mod Replaying
 pub mod Written
 pub mod Going
+pub mod Faults

@@ -1,4 +1,7 @@
 //! Why a script ends early.
+ghost use Rattle.std.specs.Prelude.{◌≡◌};
+ghost use Rattle.etcd_replay.specs.Faults.{status_of};
+
 use thiserror::Error;
 
 /// Why a script ends early.
@@ -12,4 +15,17 @@ pub enum ReplayFault {
     /// A line can't be held.
     #[error("out of memory")]
     Memory,
+}
+
+impl ReplayFault {
+    /// The status that the program ends with.
+    pub fn status(self) -> u8
+        ensures { result ≡ status_of self }
+    {
+        match self {
+            ReplayFault::Line(_) => 2,
+            ReplayFault::Io => 3,
+            ReplayFault::Memory => 4,
+        }
+    }
 }

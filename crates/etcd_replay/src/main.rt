@@ -41,9 +41,5 @@ fn main(rt: HostRuntime) -> ExitCode {
 fn report(rt: &HostRuntime, fault: ReplayFault) -> ExitCode {
     // Where that can't be said either, the status still tells.
     let _ = eprintln!(rt; "etcd_replay: {fault}");
-    ExitCode::from(match fault {
-        ReplayFault::Line(_) => 2,
-        ReplayFault::Io => 3,
-        ReplayFault::Memory => 4,
-    })
+    ExitCode::from(fault.status())
 }

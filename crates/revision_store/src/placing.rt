@@ -1,5 +1,5 @@
 //! Placing the record of a change.
-ghost use Rattle.std.specs.Prelude.{◌≡◌, ◌+◌, ◌≤◌, ℕ, max, None};
+ghost use Rattle.std.specs.Prelude.{◌≡◌, ◌+◌, ◌≤◌, ℕ, max, None, pos};
 ghost use Rattle.std.specs.FinMap.{get};
 ghost use Rattle.cell_arena.specs.Held.{used_cells};
 ghost use Rattle.cell_arena.specs.Table.{segments_for};
@@ -59,7 +59,7 @@ fn put_fields(row: &KeyValue) -> Fields
 
 /// A delete has its revision alone.
 fn delete_fields(revision: u64) -> Fields
-    ensures { result.revision ≡ revision }
+    ensures { result ≡ record { revision = revision; create_revision = 0; version = 0; lease = pos 0 } }
 {
     Fields {
         revision,

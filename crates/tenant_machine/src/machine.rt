@@ -8,7 +8,6 @@ ghost use Rattle.etcd_model.specs.Machine.{opening};
 ghost use Rattle.etcd_model.specs.Held.{Holds};
 ghost use Rattle.etcd_model.specs.Store.{kept_store, reserved_cells};
 ghost use Rattle.etcd_model.specs.Tenant.{used};
-ghost use Rattle.revision_store.specs.Pending.{IsSound};
 ghost use Rattle.tenant_machine.specs.Deciding.{is_stopped};
 ghost use Rattle.tenant_machine.specs.Held.{IsLent, tenant};
 ghost use Rattle.tenant_machine.specs.Plans.{Fits, FitsCompaction, FitsWrite, IsAfter, Plans, Steps, takes_memory, written};
@@ -48,13 +47,6 @@ pub fn segments_for(quota: u32) -> u32
     ensures { result ≡ segments_for quota }
 {
     quota.div_ceil(SEGMENT_CELLS)
-}
-
-/// The store is one that writes and compactions make, with as many cells free as its records leave.
-pub(crate) fn keep_sound(store: &Store)
-    ensures { IsSound store.now }
-{
-    store.current();
 }
 
 impl Machine {
@@ -163,7 +155,7 @@ impl Machine {
         ensures room { S.room segments.new + self.old.store.drawn ≡ S.room segments.old + self.new.store.drawn }
         ensures others { S.others segments.new ≡ S.others segments.old }
     {
-        keep_sound(&self.store);
+        self.store.keep_sound();
         let before = self.store.used_cells();
         self.store.compact(segments, revision);
         let freed = before - self.store.used_cells();

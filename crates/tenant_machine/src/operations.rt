@@ -12,7 +12,7 @@ ghost use Rattle.tenant_machine.specs.Deciding.{Does, answer, header_at, past_ga
 ghost use Rattle.tenant_machine.specs.Held.{tenant};
 ghost use Rattle.tenant_machine.specs.Plans.{Fits, written};
 
-use crate::machine::{Machine, keep_sound};
+use crate::machine::Machine;
 use crate::planned::{Effect, Planned};
 use etcd_types::{DeleteReq, Header, Mem, OpReply, PutReq, RangeReq, Refusal, Reply, TxnReq};
 use revision_store::{Plan, PlannedOp};
@@ -53,7 +53,7 @@ impl Machine {
         ensures does { IfOk result (λ p. Does self.now p (past_gate (tenant self.now) (Delete request.now))) }
         ensures fits { IfOk result (λ p. Fits self.now p) }
     {
-        keep_sound(&self.store);
+        self.store.keep_sound();
         let PlannedOp { plan, reply } = self.store.plan_delete(alloc, request)?;
         Ok(self.writing(plan, self.answer(reply), self.quota.used))
     }
@@ -79,7 +79,7 @@ impl Machine {
         ensures sure { is_some (look_up kept.kept_store (tenant self.now) (Txn request.now)) ≡ true → IsOk result }
         ensures fits { IfOk result (λ p. Fits self.now p) }
     {
-        keep_sound(&self.store);
+        self.store.keep_sound();
         Ok(match txn_plan::plan(alloc, &self.store, request)? {
             Ok(planned) => self.transaction(planned),
             Err(refusal) => Planned::refused(refusal),
@@ -146,7 +146,7 @@ impl Machine {
         ensures planned { result ≡ record { effect = Effect.Write plan used; reply = reply } }
         ensures fits { Fits self.now result }
     {
-        keep_sound(&self.store);
+        self.store.keep_sound();
         Planned {
             effect: Effect::Write { plan, used },
             reply,

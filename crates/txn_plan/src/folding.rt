@@ -4,7 +4,6 @@ ghost use Rattle.std.specs.List.{list_any};
 ghost use Rattle.etcd_model.specs.Fields.{has_duplicate, is_nested};
 ghost use Rattle.etcd_model.specs.Operations.{and_changes, op_refusal, op_reply, ops_refusal, pending_after, replies};
 ghost use Rattle.etcd_model.specs.Stepping.{writes_op};
-ghost use Rattle.revision_store.specs.Pending.{IsSound};
 ghost use Rattle.revision_store.specs.Stored.{look, reads};
 ghost use Rattle.txn_plan.specs.Planned.{IsApart};
 
@@ -28,20 +27,13 @@ pub(crate) fn fold<'a>(alloc: Global, store: &'a Store, ops: &'a [Op]) -> Mem<Fo
     ensures changes { IfOk result (λ folded. folded.pending ≡ record { store = store.now; changes = pending_after (look store.now) [] ops.now }) }
     ensures replies { IfOk result (λ folded. folded.replies ≡ replies (look store.now) [] ops.now) }
 {
-    keep_sound(store);
+    store.keep_sound();
     let mut pending = Pending::new(alloc, store);
     let mut replies = List::new(alloc);
     for op in ops {
         replies.push(add(alloc, &mut pending, op)?)?;
     }
     Ok(Folded { pending, replies })
-}
-
-/// The store is one that appends and compactions make.
-fn keep_sound(store: &Store)
-    ensures { IsSound store.now }
-{
-    store.current();
 }
 
 /// Runs one more operation, and answers as if it was done.

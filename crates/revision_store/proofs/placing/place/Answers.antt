@@ -1,4 +1,5 @@
-use Rattle.std.proofs.Common.{◌≡◌, None, IsSome, sym, subst}
+use Rattle.std.proofs.Common.{◌≡◌, None, ap, IsSome, sym, subst}
+use Rattle.cell_arena.specs.declared.cell.Fields.{Fields}
 use Rattle.key_index.specs.Order.{with_record}
 use Rattle.revision_store.specs.declared.plan.Write.{Write}
 use Rattle.revision_store.specs.Plans.{IsOf, recorded_in}
@@ -34,7 +35,7 @@ returns-in-Delete-clause-placed g c =
     let n = c.place_delete.new.self.records in
     let some : IsSome (cells_of m c.in-Delete.cell) = subst (IsOf (cells_of m) c.args.revision) c.in-Delete.is c.requires.of in
     subst (λ (w : Write). cells_of n ≡ with_record (cells_of m) c.place_delete.result (record { change = recorded_in (cells_of m) c.args.revision w; older = None })) (sym c.in-Delete.is)
-    (delete_cells m n c.in-Delete.cell c.place_delete.result c.delete_fields.result some c.place_delete.ensures.placed c.args.revision c.delete_fields.ensures)
+    (delete_cells m n c.in-Delete.cell c.place_delete.result c.delete_fields.result some c.place_delete.ensures.placed c.args.revision (ap (λ (f : Fields). f.revision) c.delete_fields.ensures))
 
 pub returns-in-Delete-clause-leases : goal.returns-in-Delete-clause-leases
 returns-in-Delete-clause-leases g c =
