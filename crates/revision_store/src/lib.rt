@@ -5,8 +5,9 @@ mod answering;
 mod comparing;
 mod cutting;
 mod log;
-mod overlay;
 mod pending;
+mod pending_deletes;
+mod pending_puts;
 mod placing;
 mod plan;
 mod planning;
@@ -16,7 +17,6 @@ mod records;
 mod sorting;
 mod space;
 mod store;
-mod touching;
 mod walking;
 
 pub use pending::Pending;

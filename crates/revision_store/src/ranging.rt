@@ -15,7 +15,7 @@ ghost use Rattle.revision_store.specs.Stored.{reads, row_at};
 
 use crate::answering::{is_by_key, is_cut, is_wanted, limit_of, ordered, wants_all};
 use crate::log::Log;
-use crate::overlay::rows_under;
+use crate::pending_deletes::rows_under;
 use crate::store::Store;
 use etcd_types::{CellNo, KeyValue, List, Mem, OpReply, RangeReq, Refusal, SortTarget};
 use std::alloc::Global;

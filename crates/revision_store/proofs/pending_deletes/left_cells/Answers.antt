@@ -2,7 +2,7 @@ use Rattle.std.proofs.Common.{◌≡◌, sym, arith, length}
 use Rattle.std.proofs.lemmas.Bool.Decides.{nat_tests}
 use Rattle.revision_store.specs.Recorded.{cells_of}
 use Rattle.revision_store.proofs.PendingStores.{none_erased}
-use Rattle.revision_store.proofs.overlay.left_cells.Goals as goal
+use Rattle.revision_store.proofs.pending_deletes.left_cells.Goals as goal
 
 pub returns-then-is_empty : goal.returns-then-is_empty
 returns-then-is_empty c =

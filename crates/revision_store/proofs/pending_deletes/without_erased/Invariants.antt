@@ -1,7 +1,7 @@
 use Rattle.std.proofs.Common.{◌≡◌, ◌++◌, drop, map}
 use Rattle.revision_store.specs.Recorded.{cells_of}
 use Rattle.revision_store.specs.Pending.{AreRows, left_cells}
-use Rattle.revision_store.proofs.overlay.without_erased.Given as goal
+use Rattle.revision_store.proofs.pending_deletes.without_erased.Given as goal
 
 abbrev pub invariant-loop-cell : goal.invariant-loop-cell
 invariant-loop-cell l = record {

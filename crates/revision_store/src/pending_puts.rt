@@ -1,4 +1,4 @@
-//! What pending puts and deletes make of a key, and of the rows of an interval.
+//! The rows of pending puts, in their places among those of an interval.
 ghost use Rattle.std.specs.Prelude.{◌≡◌, ◌<◌, ◌≤◌, length, map, filter, fold, set, OnOk, MatchResult};
 ghost use Rattle.std.specs.List.{insert, list_any};
 ghost use Rattle.std.specs.List.Sorted.{IsStrictlySortedBy};

@@ -1,7 +1,7 @@
 use Rattle.std.proofs.Common.{◌≡◌, ◌≤◌, ◌-◌, ◌∷◌, ◌++◌, drop, take, length}
 use Rattle.etcd_model.specs.Order.{put_in}
 use Rattle.model_laws.specs.Recording.{by_key}
-use Rattle.revision_store.proofs.touching.place_of.Given as goal
+use Rattle.revision_store.proofs.pending_puts.place_of.Given as goal
 
 abbrev pub invariant-loop-low : goal.invariant-loop-low
 invariant-loop-low l = record {

@@ -1,4 +1,4 @@
-//! What is pending, as reads look at it.
+//! The rows of the store that pending deletes leave.
 ghost use Rattle.std.specs.Prelude.{◌≡◌, ◌++◌, [], map, Some, IsSome, IfOk, OnOk, OnErr, if◌then◌else◌};
 ghost use Rattle.std.specs.Str.{bytes_eq};
 ghost use Rattle.etcd_model.specs.Interval.{is_in};

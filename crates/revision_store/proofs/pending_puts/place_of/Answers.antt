@@ -3,7 +3,7 @@ use Rattle.std.specs.declared.cmp.Ordering.TheVariants.{Equal, Greater}
 use Rattle.etcd_types.specs.declared.key_value.KeyValue.{KeyValue}
 use Rattle.etcd_model.specs.Order.{key_cmp}
 use Rattle.revision_store.proofs.RowPlaces.{put_equal, put_greater}
-use Rattle.revision_store.proofs.touching.place_of.Goals as goal
+use Rattle.revision_store.proofs.pending_puts.place_of.Goals as goal
 
 pub returns-in-Equal-clause-place : goal.returns-in-Equal-clause-place
 returns-in-Equal-clause-place c =

@@ -4,7 +4,7 @@ use Rattle.std.specs.List.Sorted.{IsStrictlySortedBy}
 use Rattle.etcd_model.specs.Order.{put_in}
 use Rattle.model_laws.specs.Recording.{by_key}
 use Rattle.revision_store.proofs.RowPlaces.{sorted_with}
-use Rattle.revision_store.proofs.touching.put_in.Goals as goal
+use Rattle.revision_store.proofs.pending_puts.put_in.Goals as goal
 
 pub returns-in-Ok-clause-ascend : goal.returns-in-Ok-clause-ascend
 returns-in-Ok-clause-ascend c =

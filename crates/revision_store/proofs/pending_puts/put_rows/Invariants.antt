@@ -5,7 +5,7 @@ use Rattle.etcd_model.specs.Interval.{is_in}
 use Rattle.etcd_model.specs.Order.{put_in}
 use Rattle.model_laws.specs.Recording.{by_key}
 use Rattle.revision_store.specs.Pending.{rows_at}
-use Rattle.revision_store.proofs.touching.put_rows.Given as goal
+use Rattle.revision_store.proofs.pending_puts.put_rows.Given as goal
 
 abbrev pub invariant-loop-place : goal.invariant-loop-place
 invariant-loop-place l = record {

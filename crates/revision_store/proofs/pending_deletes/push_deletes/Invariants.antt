@@ -1,6 +1,6 @@
 use Rattle.std.proofs.Common.{◌≡◌, ◌+◌, ◌≤◌, ◌++◌, drop, length, map, vec_len, vec_capacity}
 use Rattle.revision_store.specs.declared.plan.Write.TheVariants.{Delete}
-use Rattle.revision_store.proofs.overlay.push_deletes.Given as goal
+use Rattle.revision_store.proofs.pending_deletes.push_deletes.Given as goal
 
 abbrev pub invariant-loop-cell : goal.invariant-loop-cell
 invariant-loop-cell l = record {
