@@ -5,6 +5,7 @@ pub mod FreeList
 pub mod Freeing
 pub mod Fronts
 pub mod Inserted
+pub mod Loans
 pub mod Records
 pub mod Rewriting
 pub mod Starting

@@ -12,7 +12,8 @@ use Rattle.std.proofs.Common.{map as list_map}
 use Rattle.cell_arena.specs.declared.cell.HeadCell.{HeadCell}
 use Rattle.cell_arena.specs.declared.cell.Kind.{Kind}
 use Rattle.cell_arena.specs.declared.table.Table.{Table}
-use Rattle.cell_arena.specs.Table.{IsTable, table_at, slot_cells, hidden}
+use Rattle.cell_arena.specs.Loan.{Loan, IsLent, Settles, KeepsShare}
+use Rattle.cell_arena.specs.Table.{IsTable, table_at, share_of, slot_cells, hidden}
 use Rattle.cell_arena.specs.Chain.{is_head, cell_at, IsChain, chain_bytes, IsLinked, head_pieces, record_with, record_of, record_at, Record, SameRecordsBut, cost_at}
 use Rattle.cell_arena.proofs.Chains.{bytes_next}
 use Rattle.cell_arena.specs.Held.{entries_below, entry_before, records_of, Held, held_of, cost}
@@ -169,11 +170,30 @@ seen_cost t seen k n is linked more head = subst (λ (h : Held). IfSome (get h.r
 pub seen_free : (t : Table) (seen : Held) → held_of t ≡ seen → seen.free ≡ 64 * t.reserved - t.used
 seen_free t seen is = sym (ap (λ (h : Held). h.free) is)
 
-pub seen_reserved : (t : Table) (seen : Held) → held_of t ≡ seen → seen.reserved ≡ t.reserved
-seen_reserved t seen is = sym (ap (λ (h : Held). h.reserved) is)
+-- what is seen of the segments is what the table has of them
+pub seen_share : (t : Table) (seen : Held) → IsTable t → held_of t ≡ seen → KeepsShare (share_of t) seen.share
+seen_share t seen table is = record {
+  reserved = sym (ap (λ (h : Held). h.share.reserved) is);
+  drawn = sym (ap (λ (h : Held). h.share.drawn) is) ∙ sym table.busy;
+}
 
-pub seen_drawn : (t : Table) (seen : Held) → IsTable t → held_of t ≡ seen → seen.drawn ≡ t.drawn
-seen_drawn t seen table is = sym (ap (λ (h : Held). h.drawn) is) ∙ sym table.busy
+pub share_seen : (t : Table) → IsTable t → KeepsShare (share_of t) (held_of t).share
+share_seen t table = record { reserved = refl; drawn = sym table.busy }
+
+-- a loan is lent and settled as it is seen
+pub seen_lent : (t : Table) (seen : Held) (l : Loan) → IsTable t → held_of t ≡ seen → IsLent seen.share l → IsLent (share_of t) l
+seen_lent t seen l table is lent = let e = seen_share t seen table is in record {
+  left = omega (arith, lent.left, e.reserved, e.drawn);
+  room = omega (arith, lent.room, e.drawn);
+}
+
+pub seen_settles : (t u : Table) (seen : Held) (k l : Loan) → IsTable t → IsTable u → held_of t ≡ seen → Settles (share_of t) k (share_of u) l → Settles seen.share k (held_of u).share l
+seen_settles t u seen k l table after is settles = let e = seen_share t seen table is in let f = share_seen u after in record {
+  reserved = omega (arith, settles.reserved, e.reserved);
+  left = omega (arith, settles.left, e.drawn, f.drawn);
+  room = omega (arith, settles.room, e.drawn, f.drawn);
+  others = settles.others;
+}
 
 -- what holds of the record of a head
 pub at_some : (at : ℕ → Cell) (k : ℕ) (kind : Kind) (head : HeadCell) (P : Record → Type 0) → at k ≡ Head kind head → P (record_with kind head (chain_bytes at (head_pieces head) head.first)) → IfSome (record_at at k) P

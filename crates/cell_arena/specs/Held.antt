@@ -1,5 +1,5 @@
 -- What a contract sees of a region.
-use Rattle.std.specs.Prelude.{◌≡◌, ℕ, zero, suc, ◌+◌, ◌-◌, ◌*◌, List, [], ◌∷◌, ◌++◌, take, length, sum_by, Option, Some, None, ℤ, refl}
+use Rattle.std.specs.Prelude.{◌≡◌, ℕ, zero, suc, ◌+◌, ◌-◌, ◌*◌, ◌/◌, List, [], ◌∷◌, ◌++◌, take, length, sum_by, Option, Some, None, ℤ, refl}
 use Rattle.std.specs.Ordering.{nat_cmp}
 use Rattle.std.specs.FinMap.{FinMap, from_entries}
 use Rattle.std.specs.Coded.{Coded, code_by, coded×, coded_ℕ, coded_ℤ, coded_list, coded_option}
@@ -10,15 +10,23 @@ use Rattle.cell_arena.specs.declared.cell.Kind.TheVariants.{Put, Delete, Lease}
 use Rattle.cell_arena.specs.declared.cell.Fields.{Fields}
 use Rattle.cell_arena.specs.declared.table.Table.{Table}
 use Rattle.cell_arena.specs.Chain.{IsLinked, record_at, Record, pieces}
+use Rattle.cell_arena.specs.Loan.{Share, share_code}
 use Rattle.cell_arena.specs.Table.{IsTable, table_at, busy_of}
 
--- the records by their head cells, how many cells are free of those reserved, how many segments
--- are reserved, and how many have a cell in use, which are the drawn ones
+-- the records by their head cells, how many cells are free of those reserved, and how many segments
+-- are reserved and drawn: the drawn ones are those with a cell in use
 pub record Held : Type 0 where
   pub records : FinMap nat_cmp Record
   pub free : ℕ
-  pub reserved : ℕ
-  pub drawn : ℕ
+  pub share : Share
+
+-- no records, over so many cells, with nothing drawn
+abbrev pub no_records : ℕ → Held
+no_records cells = record {
+  records = map.empty;
+  free = cells;
+  share = record { reserved = cells / 64; drawn = 0 };
+}
 
 abbrev pub kind_number : Kind → ℕ
 kind_number Put = 0
@@ -54,9 +62,9 @@ record_code =
 
 abbrev pub held_code : Coded Held
 held_code =
-    code_by (FinMap nat_cmp Record × (ℕ × (ℕ × ℕ))) (coded× (map.code coded_ℕ record_code) (coded× coded_ℕ (coded× coded_ℕ coded_ℕ)))
-    (λ h. (h.records, (h.free, (h.reserved, h.drawn))))
-    (λ p. record { records = p.0; free = p.1.0; reserved = p.1.1.0; drawn = p.1.1.1 })
+    code_by (FinMap nat_cmp Record × (ℕ × Share)) (coded× (map.code coded_ℕ record_code) (coded× coded_ℕ share_code))
+    (λ h. (h.records, (h.free, h.share)))
+    (λ p. record { records = p.0; free = p.1.0; share = p.1.1 })
     (λ _. refl)
 
 -- how many cells a record takes
@@ -79,13 +87,12 @@ abbrev pub held_of : Table → Held
 held_of t = record {
   records = records_of (table_at t) (64 * length t.slots.items);
   free = 64 * t.reserved - t.used;
-  reserved = t.reserved;
-  drawn = sum_by busy_of t.slots.items;
+  share = record { reserved = t.reserved; drawn = sum_by busy_of t.slots.items };
 }
 
 -- how many cells are in use
 abbrev pub used_cells : Held → ℕ
-used_cells held = 64 * held.reserved - held.free
+used_cells held = 64 * held.share.reserved - held.free
 
 pub record IsSound (t : Table) : Type 0 where
   pub table : IsTable t

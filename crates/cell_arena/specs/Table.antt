@@ -5,6 +5,7 @@ use Rattle.cell_arena.specs.declared.cell.Cell.TheVariants.{Free, Head, Rest}
 use Rattle.cell_arena.specs.declared.slot.Slot.{Slot}
 use Rattle.cell_arena.specs.declared.table.Table.{Table}
 use Rattle.cell_arena.specs.Chain.{cell_at, IsListed}
+use Rattle.cell_arena.specs.Loan.{Share}
 use Rattle.cell_arena.specs.Order.{IsOrder, count_of, place_of}
 
 -- a cell, without the link of a free one
@@ -55,6 +56,15 @@ pub record IsTable (t : Table) : Type 0 where
   pub held : t.used ≡ sum_by used_of t.slots.items
   pub used : t.used + sum_by free_of t.slots.items ≡ 64 * t.drawn
 
--- how many segments so many cells fill
-abbrev pub segments_for : ℕ → ℕ
-segments_for cells = (cells + 63) / 64
+-- so many more cells fit
+abbrev pub HasSpace : Table → ℕ → Type 0
+HasSpace t cells = t.used + cells ≤ 64 * t.reserved
+
+-- how many segments are reserved and drawn
+abbrev pub share_of : Table → Share
+share_of t = record { reserved = t.reserved; drawn = t.drawn }
+
+-- one more is drawn
+pub record DrawsOne (old new : Share) : Type 0 where
+  pub reserved : new.reserved ≡ old.reserved
+  pub drawn : new.drawn ≡ old.drawn + 1

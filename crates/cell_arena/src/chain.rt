@@ -1,7 +1,8 @@
 //! Records as chains of cells.
 ghost use Rattle.std.specs.Prelude.{◌≡◌, ◌+◌, ◌*◌, ◌<◌, ◌≤◌, ◌++◌, ◌-◌, ℕ, max, length, true, Some, None, IfSome};
 ghost use Rattle.cell_arena.specs.Chain.{is_head, IsLinked, IsChain, IsLoose, SameRecords, SameRecordsBut, chain_bytes, pieces as cells_for, record_at, cost_at};
-ghost use Rattle.cell_arena.specs.Table.{IsTable, table_at, segments_for};
+ghost use Rattle.cell_arena.specs.Loan.{IsLent, Settles, KeepsShare, DrawsFor, DrawsNone};
+ghost use Rattle.cell_arena.specs.Table.{IsTable, table_at, HasSpace, share_of};
 ghost use Rattle.cell_arena.specs.Storing.{IsStored};
 ghost use Rattle.cell_arena.specs.Part.{IsPart, part_bytes};
 
@@ -55,17 +56,15 @@ fn free_chain<S: Segments>(table: &mut Table, segments: &mut S, first: Link, cou
     requires linked { IsLinked (table_at table.old) }
     requires chain { IsChain (table_at table.old) count first }
     requires loose { IsLoose (table_at table.old) first }
-    requires room { table.old.drawn ≤ S.room segments.old }
+    requires lent { IsLent (share_of table.old) (S.loan segments.old) }
     ensures table { IsTable table.new }
     ensures linked { IsLinked (table_at table.new) }
     ensures used { table.new.used + count ≡ table.old.used }
     ensures kept { SameRecords (table_at table.old) (table_at table.new) }
-    ensures reserved { table.new.reserved ≡ table.old.reserved }
     ensures length { length table.new.slots.items ≡ length table.old.slots.items }
-    ensures left { S.left segments.new + table.new.drawn ≡ S.left segments.old + table.old.drawn }
-    ensures room { S.room segments.new + table.old.drawn ≡ S.room segments.old + table.new.drawn }
-    ensures others { S.others segments.new ≡ S.others segments.old }
-    ensures fewer { table.new.drawn ≤ table.old.drawn }
+    ensures settles { Settles (share_of table.old) (S.loan segments.old)
+        (share_of table.new) (S.loan segments.new) }
+    ensures none_drawn { DrawsNone (share_of table.old) (share_of table.new) }
 {
     let mut link = first;
     'freeing: for _i in 0..count {
@@ -80,18 +79,16 @@ pub(crate) fn release<S: Segments>(table: &mut Table, segments: &mut S, at: Cell
     requires table { IsTable table.old }
     requires linked { IsLinked (table_at table.old) }
     requires head { is_head (table_at table.old at) ≡ true }
-    requires room { table.old.drawn ≤ S.room segments.old }
+    requires lent { IsLent (share_of table.old) (S.loan segments.old) }
     ensures table { IsTable table.new }
     ensures linked { IsLinked (table_at table.new) }
     ensures used { table.new.used + cost_at (table_at table.old at) ≡ table.old.used }
     ensures gone { record_at (table_at table.new) at ≡ None }
     ensures kept { SameRecordsBut at (table_at table.old) (table_at table.new) }
-    ensures reserved { table.new.reserved ≡ table.old.reserved }
     ensures length { length table.new.slots.items ≡ length table.old.slots.items }
-    ensures left { S.left segments.new + table.new.drawn ≡ S.left segments.old + table.old.drawn }
-    ensures room { S.room segments.new + table.old.drawn ≡ S.room segments.old + table.new.drawn }
-    ensures others { S.others segments.new ≡ S.others segments.old }
-    ensures fewer { table.new.drawn ≤ table.old.drawn }
+    ensures settles { Settles (share_of table.old) (S.loan segments.old)
+        (share_of table.new) (S.loan segments.new) }
+    ensures none_drawn { DrawsNone (share_of table.old) (share_of table.new) }
 {
     let (_kind, head) = head_at(table, at);
     let first = head.first;
@@ -104,13 +101,12 @@ pub(crate) fn release<S: Segments>(table: &mut Table, segments: &mut S, at: Cell
 fn store_bytes<S: Segments>(table: &mut Table, segments: &mut S, key: &[u8], value: &[u8]) -> Link
     requires table { IsTable table.old }
     requires linked { IsLinked (table_at table.old) }
-    requires room { table.old.used + cells_for (length key.now + length value.now) ≤ 64 * table.old.reserved }
-    requires left { S.left segments.old + table.old.drawn ≡ table.old.reserved }
+    requires space { HasSpace table.old (cells_for (length key.now + length value.now)) }
+    requires lent { IsLent (share_of table.old) (S.loan segments.old) }
     ensures stored { IsStored table.old table.new result (cells_for (length key.now + length value.now)) (key.now ++ value.now) }
-    ensures left { S.left segments.new + table.new.drawn ≡ S.left segments.old + table.old.drawn }
-    ensures room { S.room segments.new + table.old.drawn ≡ S.room segments.old + table.new.drawn }
-    ensures others { S.others segments.new ≡ S.others segments.old }
-    ensures draws { table.new.drawn ≡ max table.old.drawn (segments_for table.new.used) }
+    ensures settles { Settles (share_of table.old) (S.loan segments.old)
+        (share_of table.new) (S.loan segments.new) }
+    ensures draws { DrawsFor table.new.used (share_of table.old) (share_of table.new) }
 {
     let mut next = Link::none();
     let mut left = pieces(key.len() + value.len());
@@ -133,20 +129,18 @@ pub(crate) fn place<S: Segments>(
 ) -> CellNo
     requires table { IsTable table.old }
     requires linked { IsLinked (table_at table.old) }
-    requires room { table.old.used + (1 + cells_for (length key.now + length value.now)) ≤ 64 * table.old.reserved }
-    requires left { S.left segments.old + table.old.drawn ≡ table.old.reserved }
+    requires space { HasSpace table.old (1 + cells_for (length key.now + length value.now)) }
+    requires lent { IsLent (share_of table.old) (S.loan segments.old) }
     ensures table { IsTable table.new }
     ensures linked { IsLinked (table_at table.new) }
     ensures used { table.new.used ≡ table.old.used + (1 + cells_for (length key.now + length value.now)) }
     ensures fresh { record_at (table_at table.old) result ≡ None }
     ensures placed { record_at (table_at table.new) result ≡ Some (record { kind = kind; fields = fields; key = key.now; value = value.now; older = None }) }
     ensures kept { SameRecordsBut result (table_at table.old) (table_at table.new) }
-    ensures reserved { table.new.reserved ≡ table.old.reserved }
     ensures length { length table.new.slots.items ≡ length table.old.slots.items }
-    ensures left { S.left segments.new + table.new.drawn ≡ S.left segments.old + table.old.drawn }
-    ensures room { S.room segments.new + table.old.drawn ≡ S.room segments.old + table.new.drawn }
-    ensures others { S.others segments.new ≡ S.others segments.old }
-    ensures draws { table.new.drawn ≡ max table.old.drawn (segments_for table.new.used) }
+    ensures settles { Settles (share_of table.old) (S.loan segments.old)
+        (share_of table.new) (S.loan segments.new) }
+    ensures draws { DrawsFor table.new.used (share_of table.old) (share_of table.new) }
 {
     let first = store_bytes(table, segments, key, value);
     table::put(
@@ -208,8 +202,7 @@ pub(crate) fn set_older(table: &mut Table, at: CellNo, older: Link)
     ensures set { IfSome (record_at (table_at table.old) at) (λ r. record_at (table_at table.new) at ≡ Some (record r { older = older })) }
     ensures kept { SameRecordsBut at (table_at table.old) (table_at table.new) }
     ensures used { table.new.used ≡ table.old.used }
-    ensures drawn { table.new.drawn ≡ table.old.drawn }
-    ensures reserved { table.new.reserved ≡ table.old.reserved }
+    ensures share { KeepsShare (share_of table.old) (share_of table.new) }
     ensures length { length table.new.slots.items ≡ length table.old.slots.items }
 {
     let (kind, head) = head_at(table, at);

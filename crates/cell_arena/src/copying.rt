@@ -2,7 +2,8 @@
 ghost use Rattle.std.specs.Prelude.{◌≡◌, ◌+◌, ◌*◌, ◌≤◌, max, length, take, [], true, None, Some, IfSome};
 ghost use Rattle.cell_arena.specs.declared.cell.Kind.{Kind};
 ghost use Rattle.cell_arena.specs.Chain.{is_head, IsLinked, IsChain, IsLoose, SameRecords, SameRecordsBut, chain_bytes, turned_bytes, pieces as cells_for, record_at};
-ghost use Rattle.cell_arena.specs.Table.{IsTable, table_at, segments_for};
+ghost use Rattle.cell_arena.specs.Loan.{IsLent, Settles, KeepsShare, DrawsFor};
+ghost use Rattle.cell_arena.specs.Table.{IsTable, table_at, HasSpace, share_of};
 
 use crate::cell::{Cell, Fields, HeadCell, Kind};
 use crate::chain::{head_at, rest_at};
@@ -24,8 +25,8 @@ fn copy_cells<S: Segments>(
     requires linked { IsLinked (table_at table.old) }
     requires chain { IsChain (table_at table.old) cells first }
     requires fits { count ≤ cells }
-    requires room { table.old.used + count ≤ 64 * table.old.reserved }
-    requires left { S.left segments.old + table.old.drawn ≡ table.old.reserved }
+    requires space { HasSpace table.old count }
+    requires lent { IsLent (share_of table.old) (S.loan segments.old) }
     ensures table { IsTable table.new }
     ensures linked { IsLinked (table_at table.new) }
     ensures chain { IsChain (table_at table.new) count result }
@@ -33,12 +34,10 @@ fn copy_cells<S: Segments>(
     ensures bytes { turned_bytes (table_at table.new) count result ≡ take (count * 48) (chain_bytes (table_at table.old) cells first) }
     ensures used { table.new.used ≡ table.old.used + count }
     ensures kept { SameRecords (table_at table.old) (table_at table.new) }
-    ensures reserved { table.new.reserved ≡ table.old.reserved }
     ensures length { length table.new.slots.items ≡ length table.old.slots.items }
-    ensures left { S.left segments.new + table.new.drawn ≡ S.left segments.old + table.old.drawn }
-    ensures room { S.room segments.new + table.old.drawn ≡ S.room segments.old + table.new.drawn }
-    ensures others { S.others segments.new ≡ S.others segments.old }
-    ensures draws { table.new.drawn ≡ max table.old.drawn (segments_for table.new.used) }
+    ensures settles { Settles (share_of table.old) (S.loan segments.old)
+        (share_of table.new) (S.loan segments.new) }
+    ensures draws { DrawsFor table.new.used (share_of table.old) (share_of table.new) }
 {
     let mut source = first;
     let mut back = Link::none();
@@ -63,9 +62,8 @@ fn turn_chain(table: &mut Table, first: Link, count: usize) -> Link
     ensures loose { IsLoose (table_at table.new) result }
     ensures bytes { chain_bytes (table_at table.new) count result ≡ turned_bytes (table_at table.old) count first }
     ensures used { table.new.used ≡ table.old.used }
-    ensures drawn { table.new.drawn ≡ table.old.drawn }
+    ensures share { KeepsShare (share_of table.old) (share_of table.new) }
     ensures kept { SameRecords (table_at table.old) (table_at table.new) }
-    ensures reserved { table.new.reserved ≡ table.old.reserved }
     ensures length { length table.new.slots.items ≡ length table.old.slots.items }
 {
     let mut back = first;
@@ -90,20 +88,18 @@ pub(crate) fn place_delete<S: Segments>(
     requires table { IsTable table.old }
     requires linked { IsLinked (table_at table.old) }
     requires head { is_head (table_at table.old of) ≡ true }
-    requires room { IfSome (record_at (table_at table.old) of) (λ r. table.old.used + (1 + cells_for (length r.key)) ≤ 64 * table.old.reserved) }
-    requires left { S.left segments.old + table.old.drawn ≡ table.old.reserved }
+    requires space { IfSome (record_at (table_at table.old) of) (λ r. HasSpace table.old (1 + cells_for (length r.key))) }
+    requires lent { IsLent (share_of table.old) (S.loan segments.old) }
     ensures table { IsTable table.new }
     ensures linked { IsLinked (table_at table.new) }
     ensures used { IfSome (record_at (table_at table.old) of) (λ r. table.new.used ≡ table.old.used + (1 + cells_for (length r.key))) }
     ensures fresh { record_at (table_at table.old) result ≡ None }
     ensures placed { IfSome (record_at (table_at table.old) of) (λ r. record_at (table_at table.new) result ≡ Some (record { kind = Kind.Delete; fields = fields; key = r.key; value = []; older = None })) }
     ensures kept { SameRecordsBut result (table_at table.old) (table_at table.new) }
-    ensures reserved { table.new.reserved ≡ table.old.reserved }
     ensures length { length table.new.slots.items ≡ length table.old.slots.items }
-    ensures left { S.left segments.new + table.new.drawn ≡ S.left segments.old + table.old.drawn }
-    ensures room { S.room segments.new + table.old.drawn ≡ S.room segments.old + table.new.drawn }
-    ensures others { S.others segments.new ≡ S.others segments.old }
-    ensures draws { table.new.drawn ≡ max table.old.drawn (segments_for table.new.used) }
+    ensures settles { Settles (share_of table.old) (S.loan segments.old)
+        (share_of table.new) (S.loan segments.new) }
+    ensures draws { DrawsFor table.new.used (share_of table.old) (share_of table.new) }
 {
     let (_kind, head) = head_at(table, of);
     let key_len = head.key_len;

@@ -5,8 +5,8 @@ ghost use Rattle.std.specs.Cmp.Lexicographic.{slice_cmp};
 ghost use Rattle.std.specs.FinMap as map;
 ghost use Rattle.cell_arena.specs.declared.cell.Kind.{Kind};
 ghost use Rattle.cell_arena.specs.Chain.{pieces as cells_for};
-ghost use Rattle.cell_arena.specs.Table.{segments_for};
-ghost use Rattle.cell_arena.specs.Held.{cost, used_cells, IsFrontOf};
+ghost use Rattle.cell_arena.specs.Loan.{IsLent, Settles, KeepsShare, DrawsFor, DrawsNone, IsBusy};
+ghost use Rattle.cell_arena.specs.Held.{cost, no_records, used_cells, IsFrontOf};
 
 use crate::cell::{Fields, Kind};
 use crate::link::Link;
@@ -46,7 +46,7 @@ impl Region {
     pub fn new(alloc: Global, cells: u32) -> Mem<Region>
         requires whole { cells % 64 ≡ 0 }
         requires few { cells ≤ 2 ^ 20 }
-        ensures { IfOk result (λ r. r ≡ record { records = map.empty; free = cells; reserved = cells / 64; drawn = 0 }) }
+        ensures { IfOk result (λ r. r ≡ no_records cells) }
     {
         Ok(Region {
             table: table::new(alloc, cells / 64)?,
@@ -56,7 +56,7 @@ impl Region {
     /// How many more cells fit in the reserved segments.
     pub fn free_cells(&self) -> u32
         ensures free { result ≡ self.now.free }
-        ensures small { result ≤ 64 * self.now.reserved }
+        ensures small { result ≤ 64 * self.now.share.reserved }
     {
         64 * self.table.reserved - self.table.used
     }
@@ -81,15 +81,12 @@ impl Region {
         value: &[u8],
     ) -> CellNo
         requires space { 1 + cells_for (length key.now + length value.now) ≤ self.old.free }
-        requires left { S.left segments.old + self.old.drawn ≡ self.old.reserved }
+        requires lent { IsLent self.old.share (S.loan segments.old) }
         ensures fresh { map.get self.old.records result ≡ None }
         ensures placed { self.new.records ≡ map.insert self.old.records result (record { kind = kind; fields = fields; key = key.now; value = value.now; older = None }) }
         ensures free { self.new.free + (1 + cells_for (length key.now + length value.now)) ≡ self.old.free }
-        ensures reserved { self.new.reserved ≡ self.old.reserved }
-        ensures draws { self.new.drawn ≡ max self.old.drawn (segments_for (used_cells self.new)) }
-        ensures left { S.left segments.new + self.new.drawn ≡ self.new.reserved }
-        ensures room { S.room segments.new + self.old.drawn ≡ S.room segments.old + self.new.drawn }
-        ensures others { S.others segments.new ≡ S.others segments.old }
+        ensures settles { Settles self.old.share (S.loan segments.old) self.new.share (S.loan segments.new) }
+        ensures draws { DrawsFor (used_cells self.new) self.old.share self.new.share }
     {
         chain::place(&mut self.table, segments, kind, fields, key, value)
     }
@@ -105,15 +102,12 @@ impl Region {
     ) -> CellNo
         requires head { IsSome (map.get self.old.records of) }
         requires space { IfSome (map.get self.old.records of) (λ r. 1 + cells_for (length r.key) ≤ self.old.free) }
-        requires left { S.left segments.old + self.old.drawn ≡ self.old.reserved }
+        requires lent { IsLent self.old.share (S.loan segments.old) }
         ensures fresh { map.get self.old.records result ≡ None }
         ensures placed { IfSome (map.get self.old.records of) (λ r. self.new.records ≡ map.insert self.old.records result (record { kind = Kind.Delete; fields = fields; key = r.key; value = []; older = None })) }
         ensures free { IfSome (map.get self.old.records of) (λ r. self.new.free + (1 + cells_for (length r.key)) ≡ self.old.free) }
-        ensures reserved { self.new.reserved ≡ self.old.reserved }
-        ensures draws { self.new.drawn ≡ max self.old.drawn (segments_for (used_cells self.new)) }
-        ensures left { S.left segments.new + self.new.drawn ≡ self.new.reserved }
-        ensures room { S.room segments.new + self.old.drawn ≡ S.room segments.old + self.new.drawn }
-        ensures others { S.others segments.new ≡ S.others segments.old }
+        ensures settles { Settles self.old.share (S.loan segments.old) self.new.share (S.loan segments.new) }
+        ensures draws { DrawsFor (used_cells self.new) self.old.share self.new.share }
     {
         copying::place_delete(&mut self.table, segments, of, fields)
     }
@@ -122,15 +116,12 @@ impl Region {
     /// all that they hold.
     pub fn release<S: Segments>(&mut self, segments: &mut S, cell: CellNo)
         requires head { IsSome (map.get self.old.records cell) }
-        requires room { self.old.drawn ≤ S.room segments.old }
+        requires lent { IsLent self.old.share (S.loan segments.old) }
         ensures gone { self.new.records ≡ map.remove self.old.records cell }
         ensures free { IfSome (map.get self.old.records cell) (λ r. self.new.free ≡ self.old.free + cost r) }
-        ensures reserved { self.new.reserved ≡ self.old.reserved }
-        ensures fewer { self.new.drawn ≤ self.old.drawn }
-        ensures busy { self.new.drawn ≤ used_cells self.new }
-        ensures left { S.left segments.new + self.new.drawn ≡ S.left segments.old + self.old.drawn }
-        ensures room { S.room segments.new + self.old.drawn ≡ S.room segments.old + self.new.drawn }
-        ensures others { S.others segments.new ≡ S.others segments.old }
+        ensures settles { Settles self.old.share (S.loan segments.old) self.new.share (S.loan segments.new) }
+        ensures none_drawn { DrawsNone self.old.share self.new.share }
+        ensures busy { IsBusy (used_cells self.new) self.new.share }
     {
         chain::release(&mut self.table, segments, cell);
     }
@@ -191,8 +182,7 @@ impl Region {
         requires { IsSome (map.get self.old.records cell) }
         ensures set { IfSome (map.get self.old.records cell) (λ r. self.new.records ≡ map.insert self.old.records cell (record r { older = older })) }
         ensures free { self.new.free ≡ self.old.free }
-        ensures reserved { self.new.reserved ≡ self.old.reserved }
-        ensures drawn { self.new.drawn ≡ self.old.drawn }
+        ensures share { KeepsShare self.old.share self.new.share }
     {
         chain::set_older(&mut self.table, cell, Link::of(older));
     }

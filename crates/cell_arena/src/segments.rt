@@ -1,5 +1,6 @@
 //! What is drawn and given back.
-ghost use Rattle.std.specs.Prelude.{◌≡◌, ◌+◌, ◌<◌, ℕ, List, length, replicate, IfOk};
+ghost use Rattle.std.specs.Prelude.{◌≡◌, ◌<◌, length, replicate, IfOk};
+ghost use Rattle.cell_arena.specs.Loan.{Loan, Draws};
 
 use crate::cell::Cell;
 use etcd_types::Mem;
@@ -27,34 +28,24 @@ impl Segment {
 
 /// Where a region draws its segments, and gives them back.
 pub trait Segments {
-    /// How many may still be drawn.
-    ghost left: { Self → ℕ };
-
-    /// How many may still be given back.
-    ghost room: { Self → ℕ };
-
-    /// What no draw and no give-back changes.
-    ghost others: { Self → List ℕ };
+    /// What it has: how many may still be drawn and given back, and what neither changes.
+    ghost loan: { Self → Loan };
 
     /// How many may still be drawn.
     fn left(&self) -> u32
-        ensures { result ≡ left self.now };
+        ensures { result ≡ (loan self.now).left };
 
     /// How many may still be given back.
     fn room(&self) -> u32
-        ensures { result ≡ room self.now };
+        ensures { result ≡ (loan self.now).room };
 
     /// Takes one segment, whatever its cells hold.
     fn draw(&mut self) -> Segment
-        requires { 0 < left self.old }
-        ensures left { left self.new + 1 ≡ left self.old }
-        ensures room { room self.new ≡ room self.old + 1 }
-        ensures others { others self.new ≡ others self.old };
+        requires { 0 < (loan self.old).left }
+        ensures { Draws (loan self.old) (loan self.new) };
 
     /// Gives one segment back, as it is.
     fn give_back(&mut self, segment: Segment)
-        requires { 0 < room self.old }
-        ensures left { left self.new ≡ left self.old + 1 }
-        ensures room { room self.new + 1 ≡ room self.old }
-        ensures others { others self.new ≡ others self.old };
+        requires { 0 < (loan self.old).room }
+        ensures { Draws (loan self.new) (loan self.old) };
 }

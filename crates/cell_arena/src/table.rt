@@ -2,7 +2,8 @@
 ghost use Rattle.std.specs.Prelude.{◌≡◌, ◌+◌, ◌*◌, ◌<◌, ◌≤◌, ◌/◌, ◌^◌, IfOk, max, length, false, true, ◌==◌, ◌≢◌, slice_index_or, None, MatchOption};
 ghost use Rattle.cell_arena.specs.declared.slot.Slot.{Slot};
 ghost use Rattle.cell_arena.specs.Chain.{is_free, Writes, AllBare};
-ghost use Rattle.cell_arena.specs.Table.{IsTable, hidden, table_at, segments_for};
+ghost use Rattle.cell_arena.specs.Loan.{IsLent, Settles, KeepsShare, DrawsFor, DrawsNone, Draws};
+ghost use Rattle.cell_arena.specs.Table.{IsTable, hidden, table_at, HasSpace, share_of, DrawsOne};
 
 use crate::cell::Cell;
 use crate::order::{self, Order};
@@ -71,8 +72,7 @@ fn put_open(table: &mut Table, cell: Cell) -> CellNo
     ensures was_free { is_free (table_at table.old result) ≡ true }
     ensures written { Writes (table_at table.old) (table_at table.new) result cell }
     ensures used { table.new.used ≡ table.old.used + 1 }
-    ensures drawn { table.new.drawn ≡ table.old.drawn }
-    ensures reserved { table.new.reserved ≡ table.old.reserved }
+    ensures share { KeepsShare (share_of table.old) (share_of table.new) }
     ensures length { length table.new.slots.items ≡ length table.old.slots.items }
 {
     let number = table.order.order[0];
@@ -93,18 +93,15 @@ fn put_drawn<S: Segments>(table: &mut Table, segments: &mut S, cell: Cell) -> Ce
     requires table { IsTable table.old }
     requires none_ready { table.old.ready ≡ 0 }
     requires some { table.old.drawn < table.old.reserved }
-    requires left { 0 < S.left segments.old }
+    requires left { 0 < (S.loan segments.old).left }
     requires used { is_free cell ≡ false }
     ensures table { IsTable table.new }
     ensures was_free { is_free (table_at table.old result) ≡ true }
     ensures written { Writes (table_at table.old) (table_at table.new) result cell }
     ensures used { table.new.used ≡ table.old.used + 1 }
-    ensures drawn { table.new.drawn ≡ table.old.drawn + 1 }
-    ensures reserved { table.new.reserved ≡ table.old.reserved }
+    ensures more { DrawsOne (share_of table.old) (share_of table.new) }
     ensures length { length table.new.slots.items ≡ length table.old.slots.items }
-    ensures left { S.left segments.new + 1 ≡ S.left segments.old }
-    ensures room { S.room segments.new ≡ S.room segments.old + 1 }
-    ensures others { S.others segments.new ≡ S.others segments.old }
+    ensures draws { Draws (S.loan segments.old) (S.loan segments.new) }
 {
     let number = table.order.order[table.drawn as usize];
     let mut slot = slot::clean(segments.draw());
@@ -120,19 +117,17 @@ fn put_drawn<S: Segments>(table: &mut Table, segments: &mut S, cell: Cell) -> Ce
 /// Writes a free cell. A segment is drawn only where no cell of the drawn ones is free.
 pub(crate) fn put<S: Segments>(table: &mut Table, segments: &mut S, cell: Cell) -> CellNo
     requires table { IsTable table.old }
-    requires room { table.old.used < 64 * table.old.reserved }
-    requires left { S.left segments.old + table.old.drawn ≡ table.old.reserved }
+    requires space { HasSpace table.old 1 }
+    requires lent { IsLent (share_of table.old) (S.loan segments.old) }
     requires used { is_free cell ≡ false }
     ensures table { IsTable table.new }
     ensures was_free { is_free (table_at table.old result) ≡ true }
     ensures written { Writes (table_at table.old) (table_at table.new) result cell }
     ensures used { table.new.used ≡ table.old.used + 1 }
-    ensures reserved { table.new.reserved ≡ table.old.reserved }
     ensures length { length table.new.slots.items ≡ length table.old.slots.items }
-    ensures left { S.left segments.new + table.new.drawn ≡ S.left segments.old + table.old.drawn }
-    ensures room { S.room segments.new + table.old.drawn ≡ S.room segments.old + table.new.drawn }
-    ensures others { S.others segments.new ≡ S.others segments.old }
-    ensures draws { table.new.drawn ≡ max table.old.drawn (segments_for table.new.used) }
+    ensures settles { Settles (share_of table.old) (S.loan segments.old)
+        (share_of table.new) (S.loan segments.new) }
+    ensures draws { DrawsFor table.new.used (share_of table.old) (share_of table.new) }
 {
     if table.ready > 0 {
         put_open(table, cell)
@@ -150,8 +145,7 @@ fn free_in(table: &mut Table, number: u32, place: u32)
     ensures table { IsTable table.new }
     ensures written { Writes (table_at table.old) (table_at table.new) (number * 64 + place) (Cell.Free None) }
     ensures used { table.new.used + 1 ≡ table.old.used }
-    ensures drawn { table.new.drawn ≡ table.old.drawn }
-    ensures reserved { table.new.reserved ≡ table.old.reserved }
+    ensures share { KeepsShare (share_of table.old) (share_of table.new) }
     ensures length { length table.new.slots.items ≡ length table.old.slots.items }
 {
     let slot = &mut table.slots[number as usize];
@@ -172,16 +166,13 @@ fn empty_slot<S: Segments>(table: &mut Table, segments: &mut S, number: u32, pla
     requires small { place < 64 }
     requires used { is_free (table_at table.old (number * 64 + place)) ≡ false }
     requires last { (c : Slot) → slice_index_or table.old.slots.items number c ≡ c → c.free ≡ 63 }
-    requires room { 0 < S.room segments.old }
+    requires room { 0 < (S.loan segments.old).room }
     ensures table { IsTable table.new }
     ensures written { Writes (table_at table.old) (table_at table.new) (number * 64 + place) (Cell.Free None) }
     ensures used { table.new.used + 1 ≡ table.old.used }
-    ensures drawn { table.new.drawn + 1 ≡ table.old.drawn }
-    ensures reserved { table.new.reserved ≡ table.old.reserved }
+    ensures fewer { DrawsOne (share_of table.new) (share_of table.old) }
     ensures length { length table.new.slots.items ≡ length table.old.slots.items }
-    ensures left { S.left segments.new ≡ S.left segments.old + 1 }
-    ensures room { S.room segments.new + 1 ≡ S.room segments.old }
-    ensures others { S.others segments.new ≡ S.others segments.old }
+    ensures returns { Draws (S.loan segments.new) (S.loan segments.old) }
 {
     let nothing = slot::none(table.alloc);
     let Slot {
@@ -206,16 +197,14 @@ fn empty_slot<S: Segments>(table: &mut Table, segments: &mut S, number: u32, pla
 pub(crate) fn free<S: Segments>(table: &mut Table, segments: &mut S, at: CellNo)
     requires table { IsTable table.old }
     requires used { is_free (table_at table.old at) ≡ false }
-    requires room { table.old.drawn ≤ S.room segments.old }
+    requires lent { IsLent (share_of table.old) (S.loan segments.old) }
     ensures table { IsTable table.new }
     ensures written { Writes (table_at table.old) (table_at table.new) at (Cell.Free None) }
     ensures used { table.new.used + 1 ≡ table.old.used }
-    ensures reserved { table.new.reserved ≡ table.old.reserved }
     ensures length { length table.new.slots.items ≡ length table.old.slots.items }
-    ensures left { S.left segments.new + table.new.drawn ≡ S.left segments.old + table.old.drawn }
-    ensures room { S.room segments.new + table.old.drawn ≡ S.room segments.old + table.new.drawn }
-    ensures others { S.others segments.new ≡ S.others segments.old }
-    ensures fewer { table.new.drawn ≤ table.old.drawn }
+    ensures settles { Settles (share_of table.old) (S.loan segments.old)
+        (share_of table.new) (S.loan segments.new) }
+    ensures none_drawn { DrawsNone (share_of table.old) (share_of table.new) }
 {
     let number = at.slot();
     if table.slots[number as usize].free == 63 {
@@ -233,8 +222,7 @@ pub(crate) fn rewrite(table: &mut Table, at: CellNo, cell: Cell)
     ensures table { IsTable table.new }
     ensures written { Writes (table_at table.old) (table_at table.new) at cell }
     ensures used { table.new.used ≡ table.old.used }
-    ensures drawn { table.new.drawn ≡ table.old.drawn }
-    ensures reserved { table.new.reserved ≡ table.old.reserved }
+    ensures share { KeepsShare (share_of table.old) (share_of table.new) }
     ensures length { length table.new.slots.items ≡ length table.old.slots.items }
 {
     let slot = &mut table.slots[at.slot() as usize];

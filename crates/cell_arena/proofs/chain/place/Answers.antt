@@ -7,7 +7,7 @@ pub returns-clause-linked : goal.returns-clause-linked
 returns-clause-linked g c =
     let stored = c.store_bytes-first.ensures.stored in
     let all = stored_all _ _ _ _ _ stored in
-    head_linked _ _ _ _ _ c.put.ensures.written stored.linked c.put.ensures.was_free all.0 stored.loose (short_text c.args.table.now _ c.requires.table c.requires.room)
+    head_linked _ _ _ _ _ c.put.ensures.written stored.linked c.put.ensures.was_free all.0 stored.loose (short_text c.args.table.now _ c.requires.table c.requires.space)
 
 pub returns-clause-placed : goal.returns-clause-placed
 returns-clause-placed g c =

@@ -1,6 +1,7 @@
 use Rattle.std.proofs.Common.{◌≡◌, ◌<◌, ◌+◌, ◌-◌, ◌*◌, take, suc, Some, refl, arith, subst, ◌∙◌}
 use Rattle.cell_arena.specs.Chain.{IsChain, chain_bytes, turned_bytes}
 use Rattle.cell_arena.specs.Table.{table_at}
+use Rattle.cell_arena.proofs.Loans.{settles_none, settles_both, lent_still}
 use Rattle.cell_arena.proofs.Turning.{IsCopying, copying_none, copied_more, copied_same, copied_bytes}
 use Rattle.cell_arena.proofs.copying.copy_cells.Goals as goal
 
@@ -12,22 +13,19 @@ copying-init g c =
       copying = subst (λ n. IsCopying (table_at c.args.table.now) 0 n c.none-back.result c.args.first (chain_bytes (table_at c.args.table.now) c.args.cells c.args.first)) e (copying_none (table_at c.args.table.now) c.args.cells c.none-back.result c.args.first c.requires.linked c.none-back.ensures c.requires.chain);
       used = omega arith;
       kept = λ q. refl;
-      reserved = refl;
       size = refl;
-      left = refl;
-      room = refl;
-      others = refl;
+      settles = settles_none _ _;
       draws = omega (arith, c.requires.table.used);
     }
 
 pub rest_at-at-requires : goal.rest_at-at-requires
 rest_at-at-requires g c = (c.args.cells - c.copying._i, omega (arith, c.requires.fits), c.copying.invariant.copying.rest)
 
-pub put-requires-clause-room : goal.put-requires-clause-room
-put-requires-clause-room g c = omega (arith, c.requires.room, c.copying.invariant.used, c.copying.invariant.reserved)
+pub put-requires-clause-space : goal.put-requires-clause-space
+put-requires-clause-space g c = omega (arith, c.requires.space, c.copying.invariant.used, c.copying.invariant.settles.reserved)
 
-pub put-requires-clause-left : goal.put-requires-clause-left
-put-requires-clause-left g c = omega (arith, c.requires.left, c.copying.invariant.left, c.copying.invariant.reserved)
+pub put-requires-clause-lent : goal.put-requires-clause-lent
+put-requires-clause-lent g c = lent_still _ _ _ _ c.requires.lent c.copying.invariant.settles
 
 pub copying-preserved : goal.copying-preserved
 copying-preserved g c =
@@ -45,11 +43,8 @@ copying-preserved g c =
       copying = rw c.to-back.ensures (subst (λ n. IsCopying (table_at c.put.new.table) (c.copying._i + 1) n (Some c.put.result) c.rest_at-at.result.2 bytes) fewer (subst (λ n. IsCopying (table_at c.put.new.table) n (left - 1) (Some c.put.result) c.rest_at-at.result.2 bytes) done more));
       used = omega (arith, was.used, c.put.ensures.used);
       kept = λ q. same q ∙ was.kept q;
-      reserved = c.put.ensures.reserved ∙ was.reserved;
       size = c.put.ensures.length ∙ was.size;
-      left = omega (arith, was.left, c.put.ensures.left);
-      room = omega (arith, was.room, c.put.ensures.room);
-      others = c.put.ensures.others ∙ was.others;
+      settles = settles_both _ _ _ _ _ _ was.settles c.put.ensures.settles;
       draws = omega (arith, was.draws, was.used, c.put.ensures.draws, c.put.ensures.used);
     }
 

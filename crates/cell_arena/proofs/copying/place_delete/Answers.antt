@@ -3,6 +3,7 @@ use Rattle.cell_arena.specs.declared.cell.Kind.TheVariants.{Delete}
 use Rattle.cell_arena.specs.Chain.{Record, IsChain, chain_bytes, head_pieces, record_at}
 use Rattle.cell_arena.specs.Table.{table_at}
 use Rattle.cell_arena.proofs.Chains.{record_kept}
+use Rattle.cell_arena.proofs.Loans.{settles_both, settles_kept, lent_still}
 use Rattle.cell_arena.proofs.Records.{at_some, some_at, key_size, head_size}
 use Rattle.cell_arena.proofs.Storing.{head_linked, head_stands, free_unlinked, free_is_none}
 use Rattle.cell_arena.proofs.Turning.{delete_bytes}
@@ -20,20 +21,20 @@ copy_cells-back-requires-clause-chain g c = rw c.pieces-cells.ensures (c.require
 pub copy_cells-back-requires-clause-fits : goal.copy_cells-back-requires-clause-fits
 copy_cells-back-requires-clause-fits g c = omega (arith, c.pieces-cells.ensures, c.pieces-count.ensures)
 
-pub copy_cells-back-requires-clause-room : goal.copy_cells-back-requires-clause-room
-copy_cells-back-requires-clause-room g c =
+pub copy_cells-back-requires-clause-space : goal.copy_cells-back-requires-clause-space
+copy_cells-back-requires-clause-space g c =
     let at = table_at c.args.table.now in
-    let room = some_at at c.args.of c.head_at-kind.result.0 c.head_at-kind.result.1.now (λ (r : Record). c.args.table.now.used + (1 + (length r.key + 47) / 48) ≤ 64 * c.args.table.now.reserved) c.head_at-kind.ensures c.requires.room in
+    let room = some_at at c.args.of c.head_at-kind.result.0 c.head_at-kind.result.1.now (λ (r : Record). c.args.table.now.used + (1 + (length r.key + 47) / 48) ≤ 64 * c.args.table.now.reserved) c.head_at-kind.ensures c.requires.space in
     omega (arith, room, key_size at c.args.of c.head_at-kind.result.0 c.head_at-kind.result.1.now c.requires.linked c.head_at-kind.ensures, c.pieces-count.ensures)
 
-pub put-requires-clause-room : goal.put-requires-clause-room
-put-requires-clause-room g c =
+pub put-requires-clause-space : goal.put-requires-clause-space
+put-requires-clause-space g c =
     let at = table_at c.args.table.now in
-    let room = some_at at c.args.of c.head_at-kind.result.0 c.head_at-kind.result.1.now (λ (r : Record). c.args.table.now.used + (1 + (length r.key + 47) / 48) ≤ 64 * c.args.table.now.reserved) c.head_at-kind.ensures c.requires.room in
-    omega (arith, room, key_size at c.args.of c.head_at-kind.result.0 c.head_at-kind.result.1.now c.requires.linked c.head_at-kind.ensures, c.pieces-count.ensures, c.copy_cells-back.ensures.used, c.copy_cells-back.ensures.reserved, c.turn_chain-first.ensures.used, c.turn_chain-first.ensures.reserved)
+    let room = some_at at c.args.of c.head_at-kind.result.0 c.head_at-kind.result.1.now (λ (r : Record). c.args.table.now.used + (1 + (length r.key + 47) / 48) ≤ 64 * c.args.table.now.reserved) c.head_at-kind.ensures c.requires.space in
+    omega (arith, room, key_size at c.args.of c.head_at-kind.result.0 c.head_at-kind.result.1.now c.requires.linked c.head_at-kind.ensures, c.pieces-count.ensures, c.copy_cells-back.ensures.used, c.copy_cells-back.ensures.settles.reserved, c.turn_chain-first.ensures.used, c.turn_chain-first.ensures.share.reserved)
 
-pub put-requires-clause-left : goal.put-requires-clause-left
-put-requires-clause-left g c = omega (arith, c.requires.left, c.copy_cells-back.ensures.left, c.copy_cells-back.ensures.reserved, c.turn_chain-first.ensures.drawn, c.turn_chain-first.ensures.reserved)
+pub put-requires-clause-lent : goal.put-requires-clause-lent
+put-requires-clause-lent g c = lent_still _ _ _ _ c.requires.lent (settles_kept _ _ _ _ _ c.copy_cells-back.ensures.settles c.turn_chain-first.ensures.share)
 
 pub returns-clause-linked : goal.returns-clause-linked
 returns-clause-linked g c =
@@ -71,11 +72,8 @@ pub returns-clause-kept : goal.returns-clause-kept
 returns-clause-kept g c q other =
     record_kept _ _ c.put.result _ c.put.ensures.written c.turn_chain-first.ensures.linked (free_unlinked _ _ c.turn_chain-first.ensures.linked c.put.ensures.was_free) q other ∙ c.turn_chain-first.ensures.kept q ∙ c.copy_cells-back.ensures.kept q
 
-pub returns-clause-left : goal.returns-clause-left
-returns-clause-left g c = omega (arith, c.copy_cells-back.ensures.left, c.turn_chain-first.ensures.drawn, c.put.ensures.left)
-
-pub returns-clause-room : goal.returns-clause-room
-returns-clause-room g c = omega (arith, c.copy_cells-back.ensures.room, c.turn_chain-first.ensures.drawn, c.put.ensures.room)
+pub returns-clause-settles : goal.returns-clause-settles
+returns-clause-settles g c = settles_both _ _ _ _ _ _ (settles_kept _ _ _ _ _ c.copy_cells-back.ensures.settles c.turn_chain-first.ensures.share) c.put.ensures.settles
 
 pub returns-clause-draws : goal.returns-clause-draws
-returns-clause-draws g c = omega (arith, c.copy_cells-back.ensures.draws, c.turn_chain-first.ensures.drawn, c.turn_chain-first.ensures.used, c.put.ensures.draws, c.put.ensures.used)
+returns-clause-draws g c = omega (arith, c.copy_cells-back.ensures.draws, c.turn_chain-first.ensures.share.drawn, c.turn_chain-first.ensures.used, c.put.ensures.draws, c.put.ensures.used)

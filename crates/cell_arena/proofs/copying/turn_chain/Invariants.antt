@@ -1,6 +1,7 @@
 use Rattle.std.proofs.Common.{◌≡◌, ◌-◌, ◌++◌, [], length}
 use Rattle.cell_arena.specs.Chain.{turned_bytes, SameRecords}
-use Rattle.cell_arena.specs.Table.{IsTable, table_at}
+use Rattle.cell_arena.specs.Loan.{KeepsShare}
+use Rattle.cell_arena.specs.Table.{IsTable, table_at, share_of}
 use Rattle.cell_arena.proofs.Turning.{IsTurning}
 use Rattle.cell_arena.proofs.copying.turn_chain.Given as goal
 
@@ -9,8 +10,7 @@ invariant-turning l = record {
   table : IsTable l.table;
   turning : IsTurning (table_at l.table) l._i (l.count - l._i) l.next l.back (turned_bytes (table_at l.initial.table) l.count l.fn.first ++ []);
   used : l.table.used ≡ l.initial.table.used;
-  drawn : l.table.drawn ≡ l.initial.table.drawn;
+  share : KeepsShare (share_of l.initial.table) (share_of l.table);
   kept : SameRecords (table_at l.initial.table) (table_at l.table);
-  reserved : l.table.reserved ≡ l.initial.table.reserved;
   size : length l.table.slots.items ≡ length l.initial.table.slots.items;
 }

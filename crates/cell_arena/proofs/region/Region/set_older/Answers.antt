@@ -3,7 +3,7 @@ use Rattle.std.specs.FinMap.{insert}
 use Rattle.cell_arena.specs.Chain.{Record, record_at}
 use Rattle.cell_arena.specs.Table.{table_at}
 use Rattle.cell_arena.specs.Held.{held_of}
-use Rattle.cell_arena.proofs.Records.{seen_head, seen_if, seen_insert, seen_free, seen_reserved, seen_drawn}
+use Rattle.cell_arena.proofs.Records.{seen_head, seen_if, seen_insert, seen_free, seen_share}
 use Rattle.cell_arena.proofs.region.Region.set_older.Goals as goal
 
 pub set_older-requires-clause-head : goal.set_older-requires-clause-head
@@ -14,10 +14,12 @@ returns-clause-set c =
     rw (← c.of.ensures) (seen_if c.self.inside.table _ c.args.cell (λ (r : Record). record_at (table_at c.set_older.new.table) c.args.cell ≡ Some (record r { older = c.of.result })) (λ (r : Record). (held_of c.set_older.new.table).records ≡ insert c.args.self.now.records c.args.cell (record r { older = c.of.result })) c.self.view_is (λ r here. seen_insert c.self.inside.table c.set_older.new.table _ c.args.cell _ c.self.view_is here c.set_older.ensures.kept) c.set_older.ensures.set)
 
 pub returns-clause-free : goal.returns-clause-free
-returns-clause-free c = omega (arith, seen_free c.self.inside.table _ c.self.view_is, c.set_older.ensures.used, c.set_older.ensures.reserved)
+returns-clause-free c = omega (arith, seen_free c.self.inside.table _ c.self.view_is, c.set_older.ensures.used, c.set_older.ensures.share.reserved)
 
-pub returns-clause-reserved : goal.returns-clause-reserved
-returns-clause-reserved c = omega (arith, seen_reserved c.self.inside.table _ c.self.view_is, c.set_older.ensures.reserved)
-
-pub returns-clause-drawn : goal.returns-clause-drawn
-returns-clause-drawn c = omega (arith, c.set_older.ensures.table.busy, seen_drawn c.self.inside.table _ c.self.invariant.table c.self.view_is, c.set_older.ensures.drawn)
+pub returns-clause-share : goal.returns-clause-share
+returns-clause-share c =
+    let e = seen_share c.self.inside.table _ c.self.invariant.table c.self.view_is in
+    record {
+      reserved = omega (arith, e.reserved, c.set_older.ensures.share.reserved);
+      drawn = omega (arith, c.set_older.ensures.table.busy, e.drawn, c.set_older.ensures.share.drawn);
+    }

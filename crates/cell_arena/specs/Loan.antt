@@ -1,0 +1,63 @@
+-- Segments that are lent to a region's calls.
+use Rattle.std.specs.Prelude.{◌≡◌, ℕ, ◌+◌, ◌/◌, ◌≤◌, max, List, refl}
+use Rattle.std.specs.Coded.{Coded, code_by, coded×, coded_ℕ}
+
+-- what a source of segments has: how many may still be drawn, how many may still be given back, and
+-- what no draw and no give-back changes
+pub record Loan : Type 0 where
+  pub left : ℕ
+  pub room : ℕ
+  pub others : List ℕ
+
+-- one segment is drawn; the other way round, one is given back
+pub record Draws (old new : Loan) : Type 0 where
+  pub left : new.left + 1 ≡ old.left
+  pub room : new.room ≡ old.room + 1
+  pub others : new.others ≡ old.others
+
+-- what a region has of its source: how many segments are reserved, and how many of these are drawn
+pub record Share : Type 0 where
+  pub reserved : ℕ
+  pub drawn : ℕ
+
+abbrev pub share_code : Coded Share
+share_code =
+    code_by (ℕ × ℕ) (coded× coded_ℕ coded_ℕ)
+    (λ s. (s.reserved, s.drawn))
+    (λ p. record { reserved = p.0; drawn = p.1 })
+    (λ _. refl)
+
+-- What a call asks of a loan: what is reserved and not drawn may be drawn, and what is drawn may be
+-- given back.
+pub record IsLent (share : Share) (loan : Loan) : Type 0 where
+  pub left : loan.left + share.drawn ≡ share.reserved
+  pub room : share.drawn ≤ loan.room
+
+-- What a call leaves of a loan: the reservation stays, each segment that was drawn or given back
+-- counts on both sides, and nothing else of the source changes. So what was lent is lent still.
+pub record Settles (old : Share) (from : Loan) (new : Share) (to : Loan) : Type 0 where
+  pub reserved : new.reserved ≡ old.reserved
+  pub left : to.left + new.drawn ≡ from.left + old.drawn
+  pub room : to.room + old.drawn ≡ from.room + new.drawn
+  pub others : to.others ≡ from.others
+
+-- as many segments are reserved and drawn as before
+pub record KeepsShare (old new : Share) : Type 0 where
+  pub reserved : new.reserved ≡ old.reserved
+  pub drawn : new.drawn ≡ old.drawn
+
+-- how many segments so many cells fill
+abbrev pub segments_for : ℕ → ℕ
+segments_for cells = (cells + 63) / 64
+
+-- segments were drawn only because the drawn ones have too few cells, and no more than those in use need
+abbrev pub DrawsFor : ℕ → Share → Share → Type 0
+DrawsFor used old new = new.drawn ≡ max old.drawn (segments_for used)
+
+-- no segment was drawn
+abbrev pub DrawsNone : Share → Share → Type 0
+DrawsNone old new = new.drawn ≤ old.drawn
+
+-- each drawn segment has a cell in use
+abbrev pub IsBusy : ℕ → Share → Type 0
+IsBusy used share = share.drawn ≤ used
