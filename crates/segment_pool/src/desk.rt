@@ -14,11 +14,12 @@ pub struct Desk {
 }
 
 impl Segments for Desk {
-    ghost left = { λ d. d.ticket.reserved - d.ticket.drawn };
-
-    ghost room = { λ d. d.ticket.drawn };
-
-    ghost others = { λ d. d.ticket.number ∷ d.ticket.reserved ∷ (d.pool.promised + d.ticket.drawn) ∷ (d.pool.free + d.ticket.drawn) ∷ (d.pool.out - d.ticket.drawn) ∷ d.pool.reservations };
+    ghost loan = { λ d. record {
+      left = d.ticket.reserved - d.ticket.drawn;
+      room = d.ticket.drawn;
+      others = d.ticket.number ∷ d.ticket.reserved ∷ (d.pool.promised + d.ticket.drawn)
+        ∷ (d.pool.free + d.ticket.drawn) ∷ (d.pool.out - d.ticket.drawn) ∷ d.pool.reservations;
+    } };
 
     fn left(&self) -> u32 {
         self.ticket.reserved() - self.ticket.drawn()

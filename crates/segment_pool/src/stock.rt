@@ -71,11 +71,7 @@ impl Stock {
 }
 
 impl Segments for Stock {
-    ghost left = { λ s. s.held };
-
-    ghost room = { λ s. s.room };
-
-    ghost others = { λ s. (s.held + s.room) ∷ [] };
+    ghost loan = { λ s. record { left = s.held; room = s.room; others = (s.held + s.room) ∷ [] } };
 
     fn left(&self) -> u32 {
         self.held()

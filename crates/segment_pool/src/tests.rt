@@ -58,10 +58,8 @@ fn moves_segments_between_stocks(rt: HostRuntime) -> Result<(), Fail> {
 
 /// What a region does with the segments that it is lent.
 fn draw_one<S: Segments>(segments: &mut S)
-    requires { 0 < S.left segments.old }
-    ensures left { S.left segments.new ≡ S.left segments.old }
-    ensures room { S.room segments.new ≡ S.room segments.old }
-    ensures others { S.others segments.new ≡ S.others segments.old }
+    requires { 0 < (S.loan segments.old).left }
+    ensures { (share : Share) → Settles share (S.loan segments.old) share (S.loan segments.new) }
 {
     let segment = segments.draw();
     segments.give_back(segment);

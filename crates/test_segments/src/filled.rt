@@ -1,5 +1,6 @@
 //! Gives segments that come filled with stray cells and bytes `0xA5`.
-ghost use Rattle.std.specs.Prelude.{◌≡◌, ◌+◌, ◌∷◌, [], IfOk};
+ghost use Rattle.std.specs.Prelude.{◌≡◌, IfOk};
+ghost use Rattle.test_segments.specs.Shelf.{all_held, loan_of};
 
 use crate::shelf::{Fill, Shelf};
 use cell_arena::{Segment, Segments};
@@ -15,7 +16,7 @@ pub struct Filled {
 impl Filled {
     /// So many segments.
     pub fn new(alloc: Global, segments: u32) -> Mem<Filled>
-        ensures { IfOk result (λ s. s.shelf ≡ record { held = segments; room = 0 }) }
+        ensures { IfOk result (λ s. s.shelf ≡ all_held segments) }
     {
         Ok(Filled {
             shelf: Shelf::new(alloc, segments, Fill::Stray)?,
@@ -24,11 +25,7 @@ impl Filled {
 }
 
 impl Segments for Filled {
-    ghost left = { λ s. s.shelf.held };
-
-    ghost room = { λ s. s.shelf.room };
-
-    ghost others = { λ s. (s.shelf.held + s.shelf.room) ∷ [] };
+    ghost loan = { λ s. loan_of s.shelf };
 
     fn left(&self) -> u32 {
         self.shelf.held()

@@ -1,5 +1,6 @@
 //! Gives the free segment of the lowest number.
-ghost use Rattle.std.specs.Prelude.{◌≡◌, ◌+◌, ◌∷◌, [], IfOk};
+ghost use Rattle.std.specs.Prelude.{◌≡◌, IfOk};
+ghost use Rattle.test_segments.specs.Shelf.{all_held, loan_of};
 
 use crate::shelf::{Fill, Shelf};
 use cell_arena::{Segment, Segments};
@@ -15,7 +16,7 @@ pub struct Lowest {
 impl Lowest {
     /// So many segments.
     pub fn new(alloc: Global, segments: u32) -> Mem<Lowest>
-        ensures { IfOk result (λ s. s.shelf ≡ record { held = segments; room = 0 }) }
+        ensures { IfOk result (λ s. s.shelf ≡ all_held segments) }
     {
         Ok(Lowest {
             shelf: Shelf::new(alloc, segments, Fill::Free)?,
@@ -24,11 +25,7 @@ impl Lowest {
 }
 
 impl Segments for Lowest {
-    ghost left = { λ s. s.shelf.held };
-
-    ghost room = { λ s. s.shelf.room };
-
-    ghost others = { λ s. (s.shelf.held + s.shelf.room) ∷ [] };
+    ghost loan = { λ s. loan_of s.shelf };
 
     fn left(&self) -> u32 {
         self.shelf.held()

@@ -1,5 +1,7 @@
 //! The free segments of a source.
-ghost use Rattle.std.specs.Prelude.{◌≡◌, ◌+◌, ◌<◌, IfOk, length};
+ghost use Rattle.std.specs.Prelude.{◌≡◌, ◌<◌, IfOk, length};
+ghost use Rattle.cell_arena.specs.Loan.{Draws};
+ghost use Rattle.test_segments.specs.Shelf.{all_held, loan_of};
 
 use cell_arena::{Cell, Fields, HeadCell, Kind, Link, Segment};
 use etcd_types::{CellNo, Mem};
@@ -35,7 +37,7 @@ impl Model for Shelf {
 impl Shelf {
     /// So many segments, filled like this.
     pub fn new(alloc: Global, count: u32, fill: Fill) -> Mem<Shelf>
-        ensures { IfOk result (λ s. s ≡ record { held = count; room = 0 }) }
+        ensures { IfOk result (λ s. s ≡ all_held count) }
     {
         let mut segments = Vec::with_capacity(alloc, count as usize)?;
         'making: for number in 0..count {
@@ -59,8 +61,7 @@ impl Shelf {
     /// Takes the segment of the lowest number.
     pub fn take_lowest(&mut self) -> Segment
         requires { 0 < self.old.held }
-        ensures held { self.new.held + 1 ≡ self.old.held }
-        ensures room { self.new.room ≡ self.old.room + 1 }
+        ensures { Draws (loan_of self.old) (loan_of self.new) }
     {
         let at = lowest(self.segments.as_slice());
         self.segments.remove(at)
@@ -69,8 +70,7 @@ impl Shelf {
     /// Takes the segment of the highest number.
     pub fn take_highest(&mut self) -> Segment
         requires { 0 < self.old.held }
-        ensures held { self.new.held + 1 ≡ self.old.held }
-        ensures room { self.new.room ≡ self.old.room + 1 }
+        ensures { Draws (loan_of self.old) (loan_of self.new) }
     {
         let at = highest(self.segments.as_slice());
         self.segments.remove(at)
@@ -79,8 +79,7 @@ impl Shelf {
     /// Puts a segment back.
     pub fn put(&mut self, segment: Segment)
         requires { 0 < self.old.room }
-        ensures held { self.new.held ≡ self.old.held + 1 }
-        ensures room { self.new.room + 1 ≡ self.old.room }
+        ensures { Draws (loan_of self.new) (loan_of self.old) }
     {
         self.segments.push_reserved(segment);
     }
