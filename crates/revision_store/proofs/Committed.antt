@@ -1,6 +1,8 @@
 -- What a commit records is what the plan's changes make of the store.
-use Rattle.std.proofs.Common.{◌≡◌, ℕ, ◌+◌, ◌^◌, ◌==◌, ◌<◌, ◌≤◌, List, [], ◌∷◌, ◌++◌, map, filter, length, true, false, refl, ap, sym, subst, ◌∙◌, arith}
+use Rattle.std.proofs.Common.{◌≡◌, ℕ, ◌+◌, ◌^◌, ◌==◌, ◌<◌, ◌≤◌, List, [], ◌∷◌, ◌++◌, map, filter, length, true, false, IsSome, Option, Some, None, option_map, refl, ap, sym, subst, ◌∙◌, arith}
+use Rattle.std.specs.Prelude.{option_and_then}
 use Rattle.std.specs.List.{AllByRecursion}
+use Rattle.etcd_types.specs.declared.key_value.KeyValue.{KeyValue}
 use Rattle.std.proofs.lemmas.Bool.{ne_eqb}
 use Rattle.std.specs.Str.{bytes_eq}
 use Rattle.std.specs.Cmp.Lexicographic.{bytes_decides}
@@ -14,12 +16,14 @@ use Rattle.model_laws.proofs.HistoryKeptLaws.{no_more, fewer}
 use Rattle.model_laws.proofs.NumberLaws.{recorded_have_numbers}
 use Rattle.model_laws.proofs.OnceStoreLaws.{keys_apart, recorded_where_once}
 use Rattle.model_laws.proofs.RecordedLaws.{all_append, all_push, all_weaker, live_later}
-use Rattle.key_index.specs.Entries.{Cells}
+use Rattle.key_index.specs.Entries.{Cells, Entry}
 use Rattle.revision_store.specs.declared.plan.Write.{Write}
 use Rattle.revision_store.specs.declared.plan.Write.TheVariants.{Put, Delete}
 use Rattle.revision_store.specs.Logged.{LogState}
-use Rattle.revision_store.specs.Plans.{AreFresh, change_in, deletes, recorded_in}
-use Rattle.revision_store.specs.Stored.{Follows, IsKept, IsPlanFor, StoreState, cells, changes_of}
+use Rattle.revision_store.specs.Plans.{AreFresh, IsOf, change_in, deletes, recorded_in}
+use Rattle.revision_store.specs.Stored.{CanCommit, Follows, IsKept, IsPlanFor, StoreState, cells, changes_of, store_of}
+use Rattle.revision_store.specs.Appending.{CanAppend}
+use Rattle.revision_store.specs.Recorded.{cells_of}
 
 -- ---- each key once
 
@@ -99,9 +103,9 @@ pub some_deletes : (heads : List ℕ) → 0 < length heads → (length (deletes 
 some_deletes [] some = absurd (omega (arith, some))
 some_deletes (c ∷ cs) some = ne_eqb (length (deletes (c ∷ cs))) 0 (λ none. absurd (omega (arith, none)))
 
--- a plan for a store, as its parts see both
-pub plan_inside : (inside store : StoreState) (writes plan : List Write) → inside ≡ store → writes ≡ plan → IsPlanFor store plan → IsPlanFor inside writes
-plan_inside inside store writes plan same is h = subst (IsPlanFor inside) (sym is) (subst (λ s. IsPlanFor s plan) (sym same) h)
+-- writes that can be committed, as the parts of a store see them
+pub can_inside : (inside store : StoreState) (writes plan : List Write) → inside ≡ store → writes ≡ plan → CanCommit store plan → CanCommit inside writes
+can_inside inside store writes plan same is h = subst (CanCommit inside) (sym is) (subst (λ s. CanCommit s plan) (sym same) h)
 
 -- what a log is after the plan's revision
 pub kept_after : (store : StoreState) (new : LogState) (compacted : ℕ) (writes : List Write) → IsPlanFor store writes → AllByRecursion (λ x. x.revision ≤ store.kept.current) store.kept.changes → AllByRecursion HasNumbers store.kept.changes
@@ -120,3 +124,25 @@ kept_after store new compacted writes plan up numbers within short is = record {
     at_revision : (ws : List Write) → AllByRecursion (λ x. x.revision ≤ store.kept.current + 1) (map (recorded_in (cells store) (store.kept.current + 1)) ws)
     at_revision [] = tt
     at_revision (w ∷ ws) = (here w, at_revision ws)
+
+-- what follows the store is of its next revision
+follows_of : (store : StoreState) (write : Write) → Follows store write → IsOf (cells store) (store.kept.current + 1) write
+follows_of store (Put row) follows = let same = ap row_revision follows in cc
+  where
+    row_revision : Option KeyValue → ℕ
+    row_revision None = 0
+    row_revision (Some r) = r.mod_revision
+follows_of store (Delete c) follows = some_cell (cells store c) follows.1
+  where
+    some_cell : (o : Option Entry) → option_and_then (λ x. x.row) (option_map (λ e. e.change) o) ≡ Some follows.0 → IsSome o
+    some_cell None is = absurd (cc)
+    some_cell (Some e) is = refl
+
+-- a plan for a store can be appended to its log
+pub can_append : (log : LogState) (current compacted : ℕ) (writes : List Write) → IsKept log current compacted → CanCommit (store_of log current compacted) writes → CanAppend log (current + 1) writes
+can_append log current compacted writes kept can = record {
+  of = all_weaker _ _ (follows_of (store_of log current compacted)) writes can.plan.follow;
+  later = all_weaker _ _ (λ x le. omega (arith, le)) log.changes kept.up;
+  fresh = fresh_of_once (cells_of log.records) (current + 1) log.changes writes (all_weaker _ _ (λ x le. omega (arith, le)) log.changes kept.up) can.plan.once;
+  space = can.space;
+}

@@ -9,7 +9,7 @@ use Rattle.std.proofs.lemmas.Bool.{cases_eq}
 use Rattle.std.proofs.lemmas.List.Elements.{All-head, All-tail}
 use Rattle.std.proofs.lemmas.List.Sums.{sum_by-cons, sum_by_push}
 use Rattle.cell_arena.specs.Chain.{Record}
-use Rattle.cell_arena.specs.Held.{Held}
+use Rattle.cell_arena.specs.Held.{Held, no_records}
 use Rattle.etcd_types.specs.declared.key_value.KeyValue.{KeyValue}
 use Rattle.etcd_model.specs.Changes.{Recorded, Rises, change_by, change_of}
 use Rattle.etcd_model.specs.Kept.{cost}
@@ -41,9 +41,9 @@ no_entry c e at = let none = no_change c in cc
 no_lease : (c : ℕ) → leases_of map.empty c ≡ None
 no_lease c = ap (option_and_then (λ (r : Record). lease_by r.kind r)) (get-empty nat_cmp c)
 
-pub empty_log : (cells room places : ℕ) → cells % 64 ≡ 0 → cells ≤ 2 ^ 20 → cells ≤ room → cells ≤ places
-    → IsLog (record { records = map.empty; free = cells; reserved = cells / 64; drawn = 0 }) (record { cells = []; room = room }) [] places 0
-empty_log cells room places whole few has_room has_places = record {
+pub empty_is_log : (cells room places : ℕ) → cells % 64 ≡ 0 → cells ≤ 2 ^ 20 → cells ≤ room → cells ≤ places
+    → IsLog (no_records cells) (record { cells = []; room = room }) [] places 0
+empty_is_log cells room places whole few has_room has_places = record {
   index = record {
     newest = λ i lt. absurd (omega (arith, lt));
     sorted = λ i j e f below lt. absurd (omega (arith, lt));
@@ -152,7 +152,7 @@ module _ {r0 : Held} (r1 : Held) {heads0 : Heads} {order : List ℕ} {places lea
 
     pub log_more : (heads2 : Heads) → AllByRecursion (λ x. x.revision ≤ revision) (changes_in (cells_of r0.records) order)
         → IsIndexOf (cells_of r2.records) heads2.cells → IsChained (cells_of r2.records) → heads2.room ≡ heads0.room
-        → leases_of r2.records ≡ leases_of r0.records → ArePlain r2.records → r2.free ≡ r1.free → r2.reserved ≡ r0.reserved
+        → leases_of r2.records ≡ leases_of r0.records → ArePlain r2.records → r2.free ≡ r1.free → r2.share.reserved ≡ r0.share.reserved
         → IsLog r2 heads2 (order ++ c ∷ []) places leases
     log_more heads2 up index chained room same_leases plain same_free reserved =
         let cells : record_cells (changes_in (cells_of r2.records) (order ++ c ∷ [])) ≡ record_cells (changes_in (cells_of r0.records) order ++ new_change ∷ []) = ap record_cells changes_more in
@@ -174,7 +174,7 @@ module _ {r0 : Held} (r1 : Held) {heads0 : Heads} {order : List ℕ} {places lea
 
 -- ---- one lease more or fewer
 
-module _ {r0 : Held} (r1 : Held) {heads : Heads} {order : List ℕ} {places leases : ℕ} (c : ℕ) (log : IsLog r0 heads order places leases) (cells : cells_of r1.records ≡ cells_of r0.records) (plain : ArePlain r1.records) (reserved : r1.reserved ≡ r0.reserved) where
+module _ {r0 : Held} (r1 : Held) {heads : Heads} {order : List ℕ} {places leases : ℕ} (c : ℕ) (log : IsLog r0 heads order places leases) (cells : cells_of r1.records ≡ cells_of r0.records) (plain : ArePlain r1.records) (reserved : r1.share.reserved ≡ r0.share.reserved) where
   with_counted : (now : ℕ) → AreCounted (leases_of r1.records) now → r1.free + now ≡ r0.free + leases → IsLog r1 heads order places now
   with_counted now counted space =
       let same : record_cells (changes_in (cells_of r1.records) order) ≡ record_cells (changes_in (cells_of r0.records) order) = ap (λ (m : Cells). record_cells (changes_in m order)) cells in

@@ -8,10 +8,10 @@ use Rattle.model_laws.proofs.RecordedLaws.{all_push}
 use Rattle.key_index.specs.Entries.{Cells, Entry, change_at}
 use Rattle.revision_store.specs.declared.plan.Write.{Write}
 use Rattle.revision_store.specs.declared.plan.Write.TheVariants.{Put, Delete}
-use Rattle.revision_store.specs.Recorded.{cells_of, leases_of}
+use Rattle.revision_store.specs.Recorded.{cells_of}
 use Rattle.revision_store.specs.Logged.{LogState, AllStay}
 use Rattle.revision_store.specs.Plans.{AreFresh, IsOf, deletes, cost_in, key_at, recorded_in}
-use Rattle.revision_store.specs.Appending.{IsAppending}
+use Rattle.revision_store.specs.Appending.{CanAppend, Appends, IsAppending}
 
 change_there : (cells : Cells) (c : ℕ) → IsSome (cells c) → (x : Recorded) × (change_at cells c ≡ Some x)
 change_there cells c some = by_case (cells c) some
@@ -40,43 +40,66 @@ cost_stays old new revision (Delete c) stay of = ap (λ key. cost_in_delete key)
 -- one more of the writes ahead is recorded
 pub appended : (old now new : LogState) (revision : ℕ) (writes ahead : List Write) (write : Write)
     → IsAppending old now revision writes (write ∷ ahead)
-    → new.changes ≡ now.changes ++ recorded_in (cells_of now.records) revision write ∷ []
-    → AllStay (cells_of now.records) (cells_of new.records)
-    → new.free + cost_in (cells_of now.records) write ≡ now.free
-    → leases_of new.records ≡ leases_of now.records → new.lease_cells ≡ now.lease_cells → new.reserved ≡ now.reserved
+    → Appends now new revision (write ∷ [])
     → IsAppending old new revision writes ahead
-appended old now new revision writes ahead write before changes stay free leases lease_cells reserved =
+appended old now new revision writes ahead write before one =
+    let one_cost = sum_by-cons (cost_in (cells_of now.records)) write [] in
     let same = recorded_stays (cells_of old.records) (cells_of now.records) revision write before.stay before.of.0 in
     let cost = cost_stays (cells_of old.records) (cells_of now.records) revision write before.stay before.of.0 in
-    let now_changes : new.changes ≡ now.changes ++ recorded_in (cells_of old.records) revision write ∷ [] = changes ∙ ap (λ x. now.changes ++ x ∷ []) same in
+    let now_changes : new.changes ≡ now.changes ++ recorded_in (cells_of old.records) revision write ∷ [] = one.changes ∙ ap (λ x. now.changes ++ x ∷ []) same in
     let ahead_changes = map (recorded_in (cells_of old.records) revision) ahead in
     record {
       of = before.of.1;
       fresh = subst (λ xs. AreFresh (cells_of old.records) revision xs ahead) (sym now_changes) before.fresh.1;
       later = subst (AllByRecursion (λ x. x.revision ≤ revision)) (sym now_changes) (all_push (λ x. x.revision ≤ revision) now.changes (recorded_in (cells_of old.records) revision write) before.later (at_revision (cells_of old.records) write));
       changes = ap (λ xs. xs ++ ahead_changes) now_changes ∙ append_assoc now.changes (recorded_in (cells_of old.records) revision write ∷ []) ahead_changes ∙ before.changes;
-      stay = λ c x is. stay c x (before.stay c x is);
-      costs = omega (arith, before.costs, sum_by-cons (cost_in (cells_of old.records)) write ahead, cost, free);
-      free = omega (arith, before.free, before.costs, sum_by-cons (cost_in (cells_of old.records)) write ahead, cost, free);
-      leases = leases ∙ before.leases;
-      lease_cells = lease_cells ∙ before.lease_cells;
-      reserved = reserved ∙ before.reserved;
+      stay = λ c x is. one.stay c x (before.stay c x is);
+      costs = omega (arith, before.costs, sum_by-cons (cost_in (cells_of old.records)) write ahead, cost, one_cost, one.free);
+      free = omega (arith, before.free, before.costs, sum_by-cons (cost_in (cells_of old.records)) write ahead, cost, one_cost, one.free);
+      leases = one.leases ∙ before.leases;
+      lease_cells = one.lease_cells ∙ before.lease_cells;
     }
   where
     at_revision : (cells : Cells) (w : Write) → (recorded_in cells revision w).revision ≤ revision
     at_revision cells (Put row) = omega arith
     at_revision cells (Delete c) = omega arith
 
-pub fresh_here : (old now : LogState) (revision : ℕ) (writes ahead : List Write) (write : Write) → IsAppending old now revision writes (write ∷ ahead)
-    → AllByRecursion (λ x. x.key ≡ (recorded_in (cells_of now.records) revision write).key → x.revision < revision) now.changes
-fresh_here old now revision writes ahead write before =
-    let same = recorded_stays (cells_of old.records) (cells_of now.records) revision write before.stay before.of.0 in
-    subst (λ (y : Recorded). AllByRecursion (λ x. x.key ≡ y.key → x.revision < revision) now.changes) (sym same) before.fresh.0
+of_stays : (old new : Cells) (revision : ℕ) (write : Write) → AllStay old new → IsOf old revision write → IsOf new revision write
+of_stays old new revision (Put row) stay of = of
+of_stays old new revision (Delete c) stay of =
+    let there = change_there old c of in
+    some_entry (new c) there.0 (stay c there.0 there.1)
+  where
+    some_entry : (o : Option Entry) (x : Recorded) → option_map (λ e. e.change) o ≡ Some x → IsSome o
+    some_entry None x is = absurd (cc)
+    some_entry (Some e) x is = refl
 
-pub costs_here : (old now : LogState) (revision : ℕ) (writes ahead : List Write) (write : Write) → IsAppending old now revision writes (write ∷ ahead)
-    → cost_in (cells_of now.records) write ≤ now.free
-costs_here old now revision writes ahead write before =
-    omega (arith, before.costs, sum_by-cons (cost_in (cells_of old.records)) write ahead, cost_stays (cells_of old.records) (cells_of now.records) revision write before.stay before.of.0)
+pub starting : (log : LogState) (revision : ℕ) (writes : List Write) → CanAppend log revision writes → IsAppending log log revision writes writes
+starting log revision writes can = record {
+  of = can.of;
+  fresh = can.fresh;
+  later = can.later;
+  changes = refl;
+  stay = λ c x is. is;
+  costs = can.space;
+  free = refl;
+  leases = refl;
+  lease_cells = refl;
+}
+
+-- the next write can be recorded
+pub next_fits : (old now : LogState) (revision : ℕ) (writes ahead : List Write) (write : Write) → IsAppending old now revision writes (write ∷ ahead)
+    → CanAppend now revision (write ∷ [])
+next_fits old now revision writes ahead write before =
+    let from = cells_of old.records in
+    let to = cells_of now.records in
+    let same = recorded_stays from to revision write before.stay before.of.0 in
+    record {
+      of = (of_stays from to revision write before.stay before.of.0, tt);
+      later = before.later;
+      fresh = (subst (λ (y : Recorded). AllByRecursion (λ x. x.key ≡ y.key → x.revision < revision) now.changes) (sym same) before.fresh.0, tt);
+      space = omega (arith, before.costs, sum_by-cons (cost_in from) write ahead, sum_by-cons (cost_in to) write [], cost_stays from to revision write before.stay before.of.0);
+    }
 
 -- the writes from a place on
 pub ahead_here : (ws : List Write) (i : ℕ) (w : Write) → i < length ws → w ≡ get_or ws i w → drop i ws ≡ w ∷ drop (i + 1) ws

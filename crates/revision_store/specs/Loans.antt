@@ -1,41 +1,37 @@
 -- What dropping records and setting links leaves alone.
-use Rattle.std.specs.Prelude.{◌≡◌, ℕ, ◌+◌, ◌-◌, ◌≤◌, List, refl}
+use Rattle.std.specs.Prelude.{◌≡◌, ℕ, ◌≤◌, refl}
 use Rattle.std.proofs.Common.{◌∙◌}
 use Rattle.std.proofs.Math.Nat.{le_refl, le_trans}
 use Rattle.cell_arena.specs.Held.{Held, used_cells}
+use Rattle.cell_arena.specs.Loan.{Loan, DrawsNone, IsBusy, Settles}
+use Rattle.cell_arena.proofs.Loans.{settles_none, settles_both}
 use Rattle.revision_store.specs.Recorded.{leases_of}
 
--- A region with the segments it may still draw, the room to give back, and what is not its matter.
-pub record Lent : Type 0 where
-  pub region : Held
-  pub left : ℕ
-  pub room : ℕ
-  pub others : List ℕ
+-- The leases stay, and no segment is drawn. If no cell was freed, none is given back either.
+pub record KeepsRest (old : Held) (from : Loan) (new : Held) (to : Loan) : Type 0 where
+  pub leases : (c : ℕ) → leases_of new.records c ≡ leases_of old.records c
+  pub freed : old.free ≤ new.free
+  pub drawn : new.free ≤ old.free → new.share.drawn ≡ old.share.drawn
+  pub none_drawn : DrawsNone old.share new.share
+  pub busy : IsBusy (used_cells old) old.share → IsBusy (used_cells new) new.share
+  pub settles : Settles old.share from new.share to
 
--- The leases stay, and so do the segments, but for those that were given back. Where no cell was freed, none was.
-pub record KeepsRest (old new : Lent) : Type 0 where
-  pub leases : (c : ℕ) → leases_of new.region.records c ≡ leases_of old.region.records c
-  pub reserved : new.region.reserved ≡ old.region.reserved
-  pub freed : old.region.free ≤ new.region.free
-  pub drawn : new.region.free ≤ old.region.free → new.region.drawn ≡ old.region.drawn
-  pub fewer : new.region.drawn ≤ old.region.drawn
-  pub busy : old.region.drawn ≤ used_cells old.region → new.region.drawn ≤ used_cells new.region
-  pub left : new.left + new.region.drawn ≡ old.left + old.region.drawn
-  pub room : new.room - new.region.drawn ≡ old.room - old.region.drawn
-  pub others : new.others ≡ old.others
+abbrev pub rest_stays : (a : Held) (k : Loan) → KeepsRest a k a k
+rest_stays a k = record {
+  leases = λ c. refl;
+  freed = le_refl _;
+  drawn = λ h. refl;
+  none_drawn = le_refl _;
+  busy = λ h. h;
+  settles = settles_none _ _;
+}
 
-abbrev pub rest_stays : (a : Lent) → KeepsRest a a
-rest_stays a = record { leases = λ c. refl; reserved = refl; freed = le_refl _; drawn = λ h. refl; fewer = le_refl _; busy = λ h. h; left = refl; room = refl; others = refl }
-
-abbrev pub rest_joins : (a b c : Lent) → KeepsRest a b → KeepsRest b c → KeepsRest a c
-rest_joins a b c p q = record {
+abbrev pub rest_joins : (a b c : Held) (k l m : Loan) → KeepsRest a k b l → KeepsRest b l c m → KeepsRest a k c m
+rest_joins a b c k l m p q = record {
   leases = λ n. q.leases n ∙ p.leases n;
-  reserved = q.reserved ∙ p.reserved;
   freed = le_trans p.freed q.freed;
   drawn = λ h. q.drawn (le_trans h p.freed) ∙ p.drawn (le_trans q.freed h);
-  fewer = le_trans q.fewer p.fewer;
+  none_drawn = le_trans q.none_drawn p.none_drawn;
   busy = λ h. q.busy (p.busy h);
-  left = q.left ∙ p.left;
-  room = q.room ∙ p.room;
-  others = q.others ∙ p.others;
+  settles = settles_both _ _ _ _ _ _ p.settles q.settles;
 }

@@ -120,7 +120,7 @@ pub record IsSound (store : StoreState) : Type 0 where
   pub kept : IsStore store.kept
   pub numbers : AllByRecursion HasNumbers store.kept.changes
   pub short : store.kept.current < 2 ^ 63
-  pub space : store.free + record_cells store.kept.changes + store.lease_cells ≡ 64 * store.reserved
+  pub space : store.free + record_cells store.kept.changes + store.lease_cells ≡ 64 * store.share.reserved
 
 -- writes that can be the next revision of a store, within the revisions, and all that touches a key among them
 pub record IsPending (store : StoreState) (writes : List Write) (places : List ℕ) (deletes : List DeleteReq) : Type 0 where

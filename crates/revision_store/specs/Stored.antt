@@ -7,37 +7,52 @@ use Rattle.std.specs.FinMap as map
 use Rattle.std.specs.Coded.{Coded, code_by, coded×, coded_ℕ}
 use Rattle.cell_arena.specs.Chain.{Record}
 use Rattle.cell_arena.specs.Held.{record_code}
+use Rattle.cell_arena.specs.Loan.{Share, share_code}
 use Rattle.etcd_types.specs.declared.key_value.KeyValue.{KeyValue}
 use Rattle.etcd_model.specs.declared.state.Change.{Change}
 use Rattle.etcd_model.specs.Reads.{Reads}
 use Rattle.etcd_model.specs.Changes.{live, next_row}
-use Rattle.etcd_model.specs.Store.{Store, kept_store, reads_of}
+use Rattle.etcd_model.specs.Store.{Store, after, kept_store, reads_of}
 use Rattle.model_laws.specs.Once.{IsOnce}
 use Rattle.model_laws.specs.Numbers.{HasNumbers}
 use Rattle.key_index.specs.Entries.{Cells, change_at}
 use Rattle.revision_store.specs.Codes.{kept_code}
-use Rattle.revision_store.specs.Recorded.{cells_of}
-use Rattle.revision_store.specs.Logged.{LogState}
+use Rattle.revision_store.specs.Recorded.{cells_of, leases_of}
+use Rattle.revision_store.specs.Logged.{LogState, empty_log}
 use Rattle.revision_store.specs.Plans.{change_in, costs_in}
 use Rattle.revision_store.specs.declared.plan.Write.{Write}
 use Rattle.revision_store.specs.declared.plan.Write.TheVariants.{Put, Delete}
 
 -- What is kept, the records by their first cells, how many cells the leases take, how many cells are
--- free, and how many segments are reserved and drawn.
+-- free, and the share of segments.
 pub record StoreState : Type 0 where
   pub kept : Store
   pub records : FinMap nat_cmp Record
   pub lease_cells : ℕ
   pub free : ℕ
-  pub reserved : ℕ
-  pub drawn : ℕ
+  pub share : Share
 
 abbrev pub store_code : Coded StoreState
 store_code =
-    code_by (Store × (FinMap nat_cmp Record × ((ℕ × ℕ) × (ℕ × ℕ)))) (coded× kept_code (coded× (map.code coded_ℕ record_code) (coded× (coded× coded_ℕ coded_ℕ) (coded× coded_ℕ coded_ℕ))))
-    (λ s. (s.kept, (s.records, ((s.lease_cells, s.free), (s.reserved, s.drawn)))))
-    (λ p. record { kept = p.0; records = p.1.0; lease_cells = p.1.1.0.0; free = p.1.1.0.1; reserved = p.1.1.1.0; drawn = p.1.1.1.1 })
+    code_by (Store × (FinMap nat_cmp Record × ((ℕ × ℕ) × Share)))
+    (coded× kept_code (coded× (map.code coded_ℕ record_code) (coded× (coded× coded_ℕ coded_ℕ) share_code)))
+    (λ s. (s.kept, (s.records, ((s.lease_cells, s.free), s.share))))
+    (λ p. record { kept = p.0; records = p.1.0; lease_cells = p.1.1.0.0; free = p.1.1.0.1; share = p.1.1.1 })
     (λ _. refl)
+
+-- the store of a log, at a revision and with the revision of its last compaction
+abbrev pub store_of : LogState → ℕ → ℕ → StoreState
+store_of log current compacted = record {
+  kept = record { current = current; compacted = compacted; changes = log.changes };
+  records = log.records;
+  lease_cells = log.lease_cells;
+  free = log.free;
+  share = log.share;
+}
+
+-- nothing kept, at the first revision and over so many cells
+abbrev pub empty_state : ℕ → ℕ → StoreState
+empty_state first cells = store_of (empty_log cells) first 0
 
 -- the changes under their cells
 abbrev pub cells : StoreState → Cells
@@ -72,6 +87,20 @@ pub record IsPlanFor (store : StoreState) (writes : List Write) : Type 0 where
 -- there is space for them
 abbrev pub HasSpace : StoreState → List Write → Type 0
 HasSpace store writes = costs_in (cells store) writes ≤ store.free
+
+-- some writes can be made the next revision: they are a plan, there is space for them, and a revision is left
+pub record CanCommit (store : StoreState) (writes : List Write) : Type 0 where
+  pub plan : IsPlanFor store writes
+  pub space : HasSpace store writes
+  pub revisions : store.kept.current + 1 < 2 ^ 63
+
+-- What they leave: what is kept has their changes as one more revision, the cells that they cost are taken, and
+-- the leases are as they were.
+pub record Commits (old new : StoreState) (writes : List Write) : Type 0 where
+  pub kept : new.kept ≡ after old.kept (changes_of old writes)
+  pub free : new.free + costs_in (cells old) writes ≡ old.free
+  pub leases : leases_of new.records ≡ leases_of old.records
+  pub lease_cells : new.lease_cells ≡ old.lease_cells
 
 -- a log of changes up to a revision, with numbers that are within it
 pub record IsKept (log : LogState) (current last_compaction : ℕ) : Type 0 where

@@ -6,6 +6,7 @@ ghost use Rattle.key_index.specs.Compaction.{GivesBack, IsCompacted};
 ghost use Rattle.key_index.specs.Entries.{IsChained};
 ghost use Rattle.key_index.specs.Index.{IsIndexOf};
 ghost use Rattle.revision_store.specs.Loans.{KeepsRest};
+ghost use Rattle.cell_arena.specs.Loan.{IsLent};
 ghost use Rattle.revision_store.specs.Recorded.{ArePlain, cells_of};
 
 use crate::records::Writer;
@@ -22,16 +23,15 @@ pub(crate) fn cut<S: Segments>(
     requires index { IsIndexOf (cells_of region.old.records) index.old.cells }
     requires chained { IsChained (cells_of region.old.records) }
     requires plain { ArePlain region.old.records }
-    requires room { region.old.drawn ≤ S.room segments.old }
+    requires lent { IsLent region.old.share (S.loan segments.old) }
 
     ensures index { IsIndexOf (cells_of region.new.records) index.new.cells }
     ensures chained { IsChained (cells_of region.new.records) }
     ensures compacted { IsCompacted (cells_of region.old.records) (cells_of region.new.records) revision }
     ensures index_room { index.new.room ≡ index.old.room }
     ensures free { GivesBack (λ x. cost (change_of x)) (cells_of region.old.records) (cells_of region.new.records) region.old.free region.new.free }
-    ensures rest { KeepsRest (record { region = region.old; left = S.left segments.old; room = S.room segments.old; others = S.others segments.old }) (record { region = region.new; left = S.left segments.new; room = S.room segments.new; others = S.others segments.new }) }
+    ensures rest { KeepsRest region.old (S.loan segments.old) region.new (S.loan segments.new) }
     ensures plain { ArePlain region.new.records }
-    ensures room { region.new.drawn ≤ S.room segments.new }
 {
     let mut writer = Writer { region, segments };
     index.cut(&mut writer, revision);

@@ -1,8 +1,8 @@
 //! Placing the record of a change.
-ghost use Rattle.std.specs.Prelude.{◌≡◌, ◌+◌, ◌≤◌, ℕ, max, None, pos};
+ghost use Rattle.std.specs.Prelude.{◌≡◌, ◌+◌, ◌≤◌, ℕ, None, pos};
 ghost use Rattle.std.specs.FinMap.{get};
 ghost use Rattle.cell_arena.specs.Held.{used_cells};
-ghost use Rattle.cell_arena.specs.Table.{segments_for};
+ghost use Rattle.cell_arena.specs.Loan.{IsLent, Settles, DrawsFor};
 ghost use Rattle.key_index.specs.Order.{with_record};
 ghost use Rattle.revision_store.specs.Recorded.{ArePlain, cells_of, leases_of};
 ghost use Rattle.revision_store.specs.Plans.{IsOf, cost_in, recorded_in};
@@ -21,17 +21,14 @@ pub(crate) fn place<S: Segments>(
     requires of { IsOf (cells_of region.old.records) revision write.now }
     requires plain { ArePlain region.old.records }
     requires space { cost_in (cells_of region.old.records) write.now ≤ region.old.free }
-    requires left { S.left segments.old + region.old.drawn ≡ region.old.reserved }
+    requires lent { IsLent region.old.share (S.loan segments.old) }
     ensures fresh { get region.old.records result ≡ None }
     ensures placed { cells_of region.new.records ≡ with_record (cells_of region.old.records) result (record { change = recorded_in (cells_of region.old.records) revision write.now; older = None }) }
     ensures leases { leases_of region.new.records ≡ leases_of region.old.records }
     ensures plain { ArePlain region.new.records }
     ensures free { region.new.free + cost_in (cells_of region.old.records) write.now ≡ region.old.free }
-    ensures reserved { region.new.reserved ≡ region.old.reserved }
-    ensures draws { region.new.drawn ≡ max region.old.drawn (segments_for (used_cells region.new)) }
-    ensures left { S.left segments.new + region.new.drawn ≡ region.new.reserved }
-    ensures room { S.room segments.new + region.old.drawn ≡ S.room segments.old + region.new.drawn }
-    ensures others { S.others segments.new ≡ S.others segments.old }
+    ensures settles { Settles region.old.share (S.loan segments.old) region.new.share (S.loan segments.new) }
+    ensures draws { DrawsFor (used_cells region.new) region.old.share region.new.share }
 {
     match write {
         Write::Put(row) => region.place(

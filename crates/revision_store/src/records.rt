@@ -1,5 +1,6 @@
 //! The records of a region, as the index reads and writes them.
 ghost use Rattle.std.specs.Prelude.{◌≡◌, ◌≤◌, ℕ, Option, Some, None};
+ghost use Rattle.cell_arena.specs.Loan.{IsLent};
 ghost use Rattle.revision_store.specs.Recorded.{ArePlain};
 
 use cell_arena::{Kind, Region, Segments};
@@ -51,7 +52,7 @@ impl Records for Reader<'_> {
 pub(crate) struct Writer<'a, S: Segments> {
     pub region: &'a mut Region,
     pub segments: &'a mut S,
-    ghost room: { region.now.drawn ≤ S.room segments.now },
+    ghost lent: { IsLent region.now.share (S.loan segments.now) },
     ghost plain: { ArePlain region.now.records },
 }
 
@@ -92,11 +93,13 @@ impl<S: Segments> RecordsMut for Writer<'_, S> {
 
     ghost cost = { λ x. cost_of_change (change_of x) };
 
-    ghost same_rest = { λ s t. (t.region.ghost_name ≡ s.region.ghost_name) × ((t.segments.ghost_name ≡ s.segments.ghost_name) × KeepsRest (record { region = s.region.now; left = S.left s.segments.now; room = S.room s.segments.now; others = S.others s.segments.now }) (record { region = t.region.now; left = S.left t.segments.now; room = S.room t.segments.now; others = S.others t.segments.now })) };
+    ghost same_rest = { λ s t. (t.region.ghost_name ≡ s.region.ghost_name)
+      × ((t.segments.ghost_name ≡ s.segments.ghost_name)
+      × KeepsRest s.region.now (S.loan s.segments.now) t.region.now (S.loan t.segments.now)) };
 
-    ghost stays = { λ a. (refl, (refl, rest_stays _)) };
+    ghost stays = { λ a. (refl, (refl, rest_stays _ _)) };
 
-    ghost joins = { λ a b c p q. (q.0 ∙ p.0, (q.1.0 ∙ p.1.0, rest_joins _ _ _ p.1.1 q.1.1)) };
+    ghost joins = { λ a b c p q. (q.0 ∙ p.0, (q.1.0 ∙ p.1.0, rest_joins _ _ _ _ _ _ p.1.1 q.1.1)) };
 
     fn set_older(&mut self, cell: CellNo, older: Option<CellNo>) {
         self.region.set_older(cell, older);

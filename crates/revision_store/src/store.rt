@@ -1,12 +1,12 @@
 //! The store of one tenant.
 ghost use Rattle.std.specs.Prelude.{length, ◌≡◌, ◌+◌, ◌%◌, ◌/◌, ◌<◌, ◌≤◌, ◌^◌, ℕ, ℤ, pos, IfOk, IsSome, None, is_none};
 ghost use Rattle.std.specs.FinMap as map;
-ghost use Rattle.etcd_model.specs.Held.{empty_store};
-ghost use Rattle.etcd_model.specs.Store.{after, compact, record_cells};
+ghost use Rattle.cell_arena.specs.Loan.{IsLent, Settles, DrawsNone};
+ghost use Rattle.etcd_model.specs.Store.{compact, record_cells};
 ghost use Rattle.etcd_model.specs.Stepping.{compact_refusal};
 ghost use Rattle.revision_store.specs.Recorded.{leases_of, with_lease, without_lease};
-ghost use Rattle.revision_store.specs.Stored.{cells, HasSpace, IsPlanFor, changes_of, reads};
-ghost use Rattle.revision_store.specs.Plans.{costs_in, deletes};
+ghost use Rattle.revision_store.specs.Stored.{CanCommit, Commits, cells, empty_state, reads};
+ghost use Rattle.revision_store.specs.Plans.{deletes};
 ghost use Rattle.revision_store.specs.Pending.{IsSound};
 
 use crate::log::Log;
@@ -25,20 +25,13 @@ pub struct Store {
 }
 
 impl Model for Store {
-    ghost use Rattle.revision_store.specs.Stored.{StoreState, IsKept, store_code};
+    ghost use Rattle.revision_store.specs.Stored.{StoreState, IsKept, store_code, store_of};
 
     ghost Value = { StoreState };
 
     ghost coded = { store_code };
 
-    ghost view = { λ s. record {
-      kept = record { current = s.current; compacted = s.compacted; changes = s.log.changes };
-      records = s.log.records;
-      lease_cells = s.log.lease_cells;
-      free = s.log.free;
-      reserved = s.log.reserved;
-      drawn = s.log.drawn;
-    } };
+    ghost view = { λ s. store_of s.log s.current s.compacted };
 
     ghost invariant = { λ s. IsKept s.log s.current s.compacted };
 }
@@ -49,7 +42,7 @@ impl Store {
         requires whole { cells % 64 ≡ 0 }
         requires few { cells ≤ 2 ^ 20 }
         requires first { first < 2 ^ 63 }
-        ensures { IfOk result (λ store. store ≡ record { kept = empty_store first; records = map.empty; lease_cells = 0; free = cells; reserved = cells / 64; drawn = 0 }) }
+        ensures { IfOk result (λ store. store ≡ empty_state first cells) }
     {
         Ok(Store {
             log: Log::new(alloc, cells)?,
@@ -78,20 +71,11 @@ impl Store {
 
     /// Makes the planned changes one more revision, and answers the current one. It takes no memory and cannot fail.
     pub fn commit<S: Segments>(&mut self, segments: &mut S, plan: Plan) -> i64
-        requires plan { IsPlanFor self.old plan }
-        requires space { HasSpace self.old plan }
-        requires revisions { self.old.kept.current + 1 < 2 ^ 63 }
-        requires left { S.left segments.old + self.old.drawn ≡ self.old.reserved }
-        requires room { self.old.drawn ≤ S.room segments.old }
-        ensures kept { self.new.kept ≡ after self.old.kept (changes_of self.old plan) }
+        requires fits { CanCommit self.old plan }
+        requires lent { IsLent self.old.share (S.loan segments.old) }
+        ensures commits { Commits self.old self.new plan }
         ensures revision { result ≡ pos self.new.kept.current }
-        ensures free { self.new.free + costs_in (cells self.old) plan ≡ self.old.free }
-        ensures leases { leases_of self.new.records ≡ leases_of self.old.records }
-        ensures lease_cells { self.new.lease_cells ≡ self.old.lease_cells }
-        ensures reserved { self.new.reserved ≡ self.old.reserved }
-        ensures left { S.left segments.new + self.new.drawn ≡ self.new.reserved }
-        ensures room { S.room segments.new + self.old.drawn ≡ S.room segments.old + self.new.drawn }
-        ensures others { S.others segments.new ≡ S.others segments.old }
+        ensures settles { Settles self.old.share (S.loan segments.old) self.new.share (S.loan segments.new) }
     {
         let writes = plan.writes();
         if writes.is_empty() {
@@ -107,20 +91,11 @@ impl Store {
     /// It takes no memory and cannot fail.
     pub fn delete_heads<S: Segments>(&mut self, segments: &mut S, heads: &[CellNo]) -> i64
         requires some { 0 < length heads.now }
-        requires live { IsPlanFor self.old (deletes heads.now) }
-        requires space { HasSpace self.old (deletes heads.now) }
-        requires revisions { self.old.kept.current + 1 < 2 ^ 63 }
-        requires left { S.left segments.old + self.old.drawn ≡ self.old.reserved }
-        requires room { self.old.drawn ≤ S.room segments.old }
-        ensures kept { self.new.kept ≡ after self.old.kept (changes_of self.old (deletes heads.now)) }
+        requires fits { CanCommit self.old (deletes heads.now) }
+        requires lent { IsLent self.old.share (S.loan segments.old) }
+        ensures commits { Commits self.old self.new (deletes heads.now) }
         ensures revision { result ≡ pos self.new.kept.current }
-        ensures free { self.new.free + costs_in (cells self.old) (deletes heads.now) ≡ self.old.free }
-        ensures leases { leases_of self.new.records ≡ leases_of self.old.records }
-        ensures lease_cells { self.new.lease_cells ≡ self.old.lease_cells }
-        ensures reserved { self.new.reserved ≡ self.old.reserved }
-        ensures left { S.left segments.new + self.new.drawn ≡ self.new.reserved }
-        ensures room { S.room segments.new + self.old.drawn ≡ S.room segments.old + self.new.drawn }
-        ensures others { S.others segments.new ≡ S.others segments.old }
+        ensures settles { Settles self.old.share (S.loan segments.old) self.new.share (S.loan segments.new) }
     {
         let revision = self.current + 1;
         self.log.append_deletes(segments, heads, revision);
@@ -152,16 +127,13 @@ impl Store {
     pub fn compact<S: Segments>(&mut self, segments: &mut S, revision: u64)
         requires above { self.old.kept.compacted < revision }
         requires within { revision ≤ self.old.kept.current }
-        requires room { self.old.drawn ≤ S.room segments.old }
+        requires lent { IsLent self.old.share (S.loan segments.old) }
         ensures kept { self.new.kept ≡ compact self.old.kept revision }
         ensures free { self.new.free + record_cells self.new.kept.changes ≡ self.old.free + record_cells self.old.kept.changes }
         ensures leases { leases_of self.new.records ≡ leases_of self.old.records }
         ensures lease_cells { self.new.lease_cells ≡ self.old.lease_cells }
-        ensures reserved { self.new.reserved ≡ self.old.reserved }
-        ensures fewer { self.new.drawn ≤ self.old.drawn }
-        ensures left { S.left segments.new + self.new.drawn ≡ S.left segments.old + self.old.drawn }
-        ensures room { S.room segments.new + self.old.drawn ≡ S.room segments.old + self.new.drawn }
-        ensures others { S.others segments.new ≡ S.others segments.old }
+        ensures none_drawn { DrawsNone self.old.share self.new.share }
+        ensures settles { Settles self.old.share (S.loan segments.old) self.new.share (S.loan segments.new) }
     {
         self.log.cut(segments, revision);
         self.compacted = revision;
@@ -170,17 +142,14 @@ impl Store {
     /// Records a lease, with its granted time to live in seconds. It takes one cell, and no memory.
     pub fn place_lease<S: Segments>(&mut self, segments: &mut S, id: i64, ttl: u64) -> CellNo
         requires space { 1 ≤ self.old.free }
-        requires left { S.left segments.old + self.old.drawn ≡ self.old.reserved }
+        requires lent { IsLent self.old.share (S.loan segments.old) }
         ensures fresh { map.get self.old.records result ≡ None }
         ensures kept { self.new.kept ≡ self.old.kept }
         ensures cells { cells self.new ≡ cells self.old }
         ensures leases { leases_of self.new.records ≡ with_lease (leases_of self.old.records) result (record { id = id; ttl = ttl }) }
         ensures lease_cells { self.new.lease_cells ≡ self.old.lease_cells + 1 }
         ensures free { self.new.free + 1 ≡ self.old.free }
-        ensures reserved { self.new.reserved ≡ self.old.reserved }
-        ensures left { S.left segments.new + self.new.drawn ≡ self.new.reserved }
-        ensures room { S.room segments.new + self.old.drawn ≡ S.room segments.old + self.new.drawn }
-        ensures others { S.others segments.new ≡ S.others segments.old }
+        ensures settles { Settles self.old.share (S.loan segments.old) self.new.share (S.loan segments.new) }
     {
         self.log.place_lease(segments, id, ttl)
     }
@@ -188,17 +157,14 @@ impl Store {
     /// Takes away the lease that a cell has. It may give a segment back, takes no memory and cannot fail.
     pub fn release_lease<S: Segments>(&mut self, segments: &mut S, cell: CellNo)
         requires lease { IsSome (leases_of self.old.records cell) }
-        requires room { self.old.drawn ≤ S.room segments.old }
+        requires lent { IsLent self.old.share (S.loan segments.old) }
         ensures kept { self.new.kept ≡ self.old.kept }
         ensures cells { cells self.new ≡ cells self.old }
         ensures leases { leases_of self.new.records ≡ without_lease (leases_of self.old.records) cell }
         ensures lease_cells { self.new.lease_cells + 1 ≡ self.old.lease_cells }
         ensures free { self.new.free ≡ self.old.free + 1 }
-        ensures reserved { self.new.reserved ≡ self.old.reserved }
-        ensures fewer { self.new.drawn ≤ self.old.drawn }
-        ensures left { S.left segments.new + self.new.drawn ≡ S.left segments.old + self.old.drawn }
-        ensures room { S.room segments.new + self.old.drawn ≡ S.room segments.old + self.new.drawn }
-        ensures others { S.others segments.new ≡ S.others segments.old }
+        ensures none_drawn { DrawsNone self.old.share self.new.share }
+        ensures settles { Settles self.old.share (S.loan segments.old) self.new.share (S.loan segments.new) }
     {
         self.log.release_lease(segments, cell);
     }

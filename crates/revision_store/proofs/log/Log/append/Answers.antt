@@ -1,11 +1,15 @@
-use Rattle.std.proofs.Common.{◌≡◌, ℕ, ◌<◌, ◌≤◌, List, [], ◌∷◌, ◌++◌, length, sym, ap, subst, ◌∙◌, arith}
+use Rattle.std.proofs.Common.{◌≡◌, ℕ, ◌<◌, ◌≤◌, List, [], ◌∷◌, length, refl, sym, ap, subst, ◌∙◌, arith}
 use mathlib.Core.Path.{fun_ext}
 use Rattle.std.specs.Prelude.{vec_len}
 use Rattle.std.specs.List.{AllByRecursion}
+use Rattle.std.proofs.lemmas.List.Sums.{sum_by-cons}
+use Rattle.cell_arena.specs.Loan.{Settles}
+use Rattle.cell_arena.proofs.Loans.{settles_both}
 use Rattle.key_index.specs.Order.{changes_in}
 use Rattle.revision_store.specs.Recorded.{cells_of, leases_of}
-use Rattle.revision_store.specs.Logged.{LogState, AllStay}
-use Rattle.revision_store.specs.Plans.{recorded_in}
+use Rattle.revision_store.specs.Logged.{LogState, log_of}
+use Rattle.revision_store.specs.Plans.{IsOf, cost_in, costs_in, recorded_in}
+use Rattle.revision_store.specs.Appending.{Appends}
 use Rattle.revision_store.proofs.Logged.{order_fits, heads_fit, index_before, chained_before, placed_newest, changes_more, changes_stay, log_more}
 use Rattle.revision_store.proofs.log.Log.append.Goals as goal
 
@@ -14,7 +18,7 @@ add-requires-clause-room g c = heads_fit c.place-cell.new.region c.place-cell.re
 
 pub add-requires-clause-placed : goal.add-requires-clause-placed
 add-requires-clause-placed g c =
-    let once = subst (λ (l : LogState). AllByRecursion (λ x. x.key ≡ (recorded_in (cells_of l.records) c.args.revision c.args.write.now).key → x.revision < c.args.revision) l.changes) (sym c.self.view_is) c.requires.once in
+    let once = subst (λ (l : LogState). AllByRecursion (λ x. x.key ≡ (recorded_in (cells_of l.records) c.args.revision c.args.write.now).key → x.revision < c.args.revision) l.changes) (sym c.self.view_is) c.requires.takes.fresh.0 in
     placed_newest c.place-cell.new.region c.place-cell.result c.args.revision c.args.write.now c.self.invariant c.place-cell.ensures.fresh c.place-cell.ensures.placed c.place-cell.ensures.free once
 
 pub add-requires-clause-index : goal.add-requires-clause-index
@@ -32,26 +36,34 @@ push_reserved-requires g c =
 pub invariant_of-self : goal.invariant_of-self
 invariant_of-self g c =
     let r2 = c.add.new.records.region.now in
-    let up = subst (λ (l : LogState). AllByRecursion (λ x. x.revision ≤ c.args.revision) l.changes) (sym c.self.view_is) c.requires.later in
+    let up = subst (λ (l : LogState). AllByRecursion (λ x. x.revision ≤ c.args.revision) l.changes) (sym c.self.view_is) c.requires.takes.later in
     let rest = c.add.ensures.rest.1.1 in
     let leases : leases_of r2.records ≡ leases_of c.self.inside.region.records = fun_ext rest.leases ∙ c.place-cell.ensures.leases in
     rw (c.push_reserved.ensures.items, c.push_reserved.ensures.capacity)
     (log_more c.place-cell.new.region c.place-cell.result c.args.revision c.args.write.now c.self.invariant c.place-cell.ensures.fresh c.place-cell.ensures.placed c.place-cell.ensures.free
-    r2 c.add.ensures.same c.add.new.self up c.add.ensures.index c.add.ensures.chained c.add.ensures.room leases c.add.new.records.plain c.add.ensures.free (rest.reserved ∙ c.place-cell.ensures.reserved))
+    r2 c.add.ensures.same c.add.new.self up c.add.ensures.index c.add.ensures.chained c.add.ensures.room leases c.add.new.records.plain c.add.ensures.free (rest.settles.reserved ∙ c.place-cell.ensures.settles.reserved))
 
-pub returns-clause-changes : goal.returns-clause-changes
-returns-clause-changes g c =
+pub place-cell-requires-clause-of : goal.place-cell-requires-clause-of
+place-cell-requires-clause-of g c = subst (λ (l : LogState). IsOf (cells_of l.records) c.args.revision c.args.write.now) (sym c.self.view_is) c.requires.takes.of.0
+
+pub place-cell-requires-clause-space : goal.place-cell-requires-clause-space
+place-cell-requires-clause-space g c =
+    let space = subst (λ (l : LogState). costs_in (cells_of l.records) (c.args.write.now ∷ []) ≤ l.free) (sym c.self.view_is) c.requires.takes.space in
+    omega (arith, space, sum_by-cons (cost_in (cells_of c.self.inside.region.records)) c.args.write.now [])
+
+pub returns-clause-appends : goal.returns-clause-appends
+returns-clause-appends g c =
     let r2 = c.add.new.records.region.now in
-    ap (λ (xs : List ℕ). changes_in (cells_of r2.records) xs) c.push_reserved.ensures.items
-    ∙ changes_more c.place-cell.new.region c.place-cell.result c.args.revision c.args.write.now c.self.invariant c.place-cell.ensures.fresh c.place-cell.ensures.placed c.place-cell.ensures.free r2 c.add.ensures.same
-    ∙ ap (λ (l : LogState). l.changes ++ recorded_in (cells_of l.records) c.args.revision c.args.write.now ∷ []) c.self.view_is
-
-pub returns-clause-stay : goal.returns-clause-stay
-returns-clause-stay g c =
-    let r2 = c.add.new.records.region.now in
-    subst (λ (l : LogState). AllStay (cells_of l.records) (cells_of r2.records)) c.self.view_is
-    (changes_stay c.place-cell.new.region c.place-cell.result c.args.revision c.args.write.now c.self.invariant c.place-cell.ensures.fresh c.place-cell.ensures.placed c.place-cell.ensures.free r2 c.add.ensures.same)
-
-pub returns-clause-leases : goal.returns-clause-leases
-returns-clause-leases g c =
-    fun_ext c.add.ensures.rest.1.1.leases ∙ c.place-cell.ensures.leases ∙ ap (λ (l : LogState). leases_of l.records) c.self.view_is
+    let placed = c.place-cell.ensures in
+    let more = changes_more c.place-cell.new.region c.place-cell.result c.args.revision c.args.write.now c.self.invariant placed.fresh placed.placed placed.free r2 c.add.ensures.same in
+    let stay = changes_stay c.place-cell.new.region c.place-cell.result c.args.revision c.args.write.now c.self.invariant placed.fresh placed.placed placed.free r2 c.add.ensures.same in
+    let leases = fun_ext c.add.ensures.rest.1.1.leases ∙ placed.leases in
+    let cost = sum_by-cons (cost_in (cells_of c.self.inside.region.records)) c.args.write.now [] in
+    let after = log_of c.add.new.records.region.now c.push_reserved.new.self.items c.self.inside.leases in
+    subst (λ (l : LogState). Appends l after c.args.revision (c.args.write.now ∷ [])) c.self.view_is (record {
+      changes = ap (λ (xs : List ℕ). changes_in (cells_of r2.records) xs) c.push_reserved.ensures.items ∙ more;
+      stay = stay;
+      free = omega (arith, placed.free, c.add.ensures.free, cost);
+      leases = leases;
+      lease_cells = refl;
+    })

@@ -1,15 +1,12 @@
-use Rattle.std.proofs.Common.{◌≡◌, ◌+◌, ◌≤◌, drop}
+use Rattle.std.proofs.Common.{drop}
+use Rattle.cell_arena.specs.Loan.{Settles}
 use Rattle.revision_store.specs.Appending.{IsAppending}
 use Rattle.revision_store.proofs.log.Log.append_all.Given as goal
 
 abbrev pub invariant-loop-write : goal.invariant-loop-write
 invariant-loop-write g l =
-    let left_of = g.S.Segments.left in
-    let room_of = g.S.Segments.room in
+    let loan = g.S.Segments.loan in
     record {
       appending : IsAppending l.initial.self l.self l.revision l.writes (drop l.write-index l.writes);
-      left : left_of l.segments + l.self.drawn ≡ l.self.reserved;
-      room : room_of l.segments + l.initial.self.drawn ≡ room_of l.initial.segments + l.self.drawn;
-      enough : l.self.drawn ≤ room_of l.segments;
-      others : g.S.Segments.others l.segments ≡ g.S.Segments.others l.initial.segments;
+      settles : Settles l.initial.self.share (loan l.initial.segments) l.self.share (loan l.segments);
     }

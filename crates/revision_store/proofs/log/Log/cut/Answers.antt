@@ -40,8 +40,8 @@ invariant_of-self g c =
       all = all_left old new c.args.revision c.cut.ensures.compacted c.self.inside.order.items c.self.invariant.all;
       rises = in_order_left old new c.args.revision c.self.invariant.chained c.cut.ensures.compacted c.self.inside.order.items c.self.invariant.all c.self.invariant.rises;
       leases = counted_alike _ _ _ c.cut.ensures.rest.leases c.self.invariant.leases;
-      space = omega (arith, free, c.self.invariant.space, c.cut.ensures.rest.reserved);
-      most = omega (arith, c.self.invariant.most, c.cut.ensures.rest.reserved);
-      index_room = omega (arith, c.self.invariant.index_room, c.cut.ensures.rest.reserved, c.cut.ensures.index_room);
-      order_room = omega (arith, c.self.invariant.order_room, c.cut.ensures.rest.reserved, c.retain.ensures.capacity);
+      space = omega (arith, free, c.self.invariant.space, c.cut.ensures.rest.settles.reserved);
+      most = omega (arith, c.self.invariant.most, c.cut.ensures.rest.settles.reserved);
+      index_room = omega (arith, c.self.invariant.index_room, c.cut.ensures.rest.settles.reserved, c.cut.ensures.index_room);
+      order_room = omega (arith, c.self.invariant.order_room, c.cut.ensures.rest.settles.reserved, c.retain.ensures.capacity);
     })

@@ -1,4 +1,5 @@
-use Rattle.std.proofs.Common.{ℕ, ◌+◌, ◌-◌, ap, refl, arith}
+use Rattle.std.proofs.Common.{ap, refl, arith}
+use Rattle.cell_arena.proofs.Loans.{settles_none, settles_kept, lent_still}
 use Rattle.revision_store.specs.Recorded.{LeaseCells}
 use Rattle.revision_store.proofs.Recorded.{cells_linked, leases_linked, plain_linked}
 use Rattle.revision_store.proofs.records.WriterRecordsMut.set_older.Goals as goal
@@ -15,17 +16,17 @@ returns-clause-rest g c =
         refl,
         record {
           leases = λ q. ap (λ (f : LeaseCells). f q) leases;
-          reserved = set.reserved;
           freed = omega (arith, set.free);
-          drawn = λ h. set.drawn;
-          fewer = omega (arith, set.drawn);
-          busy = λ h. omega (arith, h, set.drawn, set.free, set.reserved);
-          left = ap (λ (n : ℕ). g.S.Segments.left c.args.self.now.segments.now + n) set.drawn;
-          room = ap (λ (n : ℕ). g.S.Segments.room c.args.self.now.segments.now - n) set.drawn;
-          others = refl;
+          drawn = λ h. set.share.drawn;
+          none_drawn = omega (arith, set.share.drawn);
+          busy = λ h. omega (arith, h, set.share.drawn, set.free, set.share.reserved);
+          settles = settles_kept _ _ _ _ _ (settles_none _ _) set.share;
         },
       ),
     )
+
+pub invariant_of-self-clause-lent : goal.invariant_of-self-clause-lent
+invariant_of-self-clause-lent g c = lent_still _ _ _ _ c.args.self.now.lent (settles_kept _ _ _ _ _ (settles_none _ _) c.set_older.ensures.share)
 
 pub invariant_of-self-clause-plain : goal.invariant_of-self-clause-plain
 invariant_of-self-clause-plain g c = plain_linked c.args.self.now.region.now.records c.set_older.new.self.records c.args.cell c.args.older c.requires c.set_older.ensures.set c.args.self.now.plain

@@ -1,21 +1,22 @@
-use Rattle.std.proofs.Common.{arith, ◌+◌, ◌<◌, subst, sym}
-use Rattle.model_laws.proofs.RecordedLaws.{all_weaker}
-use Rattle.revision_store.specs.Recorded.{cells_of}
-use Rattle.revision_store.proofs.Committed.{fresh_of_once, committed, kept_after, plan_inside}
+use Rattle.std.proofs.Common.{rules, refl, sym}
+use Rattle.revision_store.proofs.Committed.{can_append, can_inside, committed, kept_after}
 use Rattle.revision_store.proofs.store.Store.commit.Goals as goal
 
-pub append_all-requires-clause-fresh : goal.append_all-requires-clause-fresh
-append_all-requires-clause-fresh g c =
-    let plan = plan_inside _ _ _ _ c.self.view_is c.writes-writes.ensures c.requires.plan in
-    fresh_of_once (cells_of c.self.inside.log.records) (c.self.inside.current + 1) c.self.inside.log.changes c.writes-writes.result.now (all_weaker _ _ (λ x le. omega (arith, le)) c.self.inside.log.changes c.self.invariant.up) plan.once
+pub append_all-requires-clause-takes : goal.append_all-requires-clause-takes
+append_all-requires-clause-takes g c =
+    can_append c.self.inside.log c.self.inside.current c.self.inside.compacted c.writes-writes.result.now c.self.invariant (can_inside _ _ _ _ c.self.view_is c.writes-writes.ensures c.requires.fits)
 
 pub invariant_of-self : goal.invariant_of-self
 invariant_of-self g c =
-    let plan = plan_inside _ _ _ _ c.self.view_is c.writes-writes.ensures c.requires.plan in
-    let short = subst (λ s. s.kept.current + 1 < 9223372036854775808) (sym c.self.view_is) c.requires.revisions in
-    kept_after _ c.append_all.new.self c.self.inside.compacted c.writes-writes.result.now plan c.self.invariant.up c.self.invariant.numbers c.self.invariant.compacted short c.append_all.ensures.changes
+    let can = can_inside _ _ _ _ c.self.view_is c.writes-writes.ensures c.requires.fits in
+    kept_after _ c.append_all.new.self c.self.inside.compacted c.writes-writes.result.now can.plan c.self.invariant.up c.self.invariant.numbers c.self.invariant.compacted can.revisions c.append_all.ensures.appends.changes
 
-pub returns-clause-kept : goal.returns-clause-kept
-returns-clause-kept g c =
-    let plan = plan_inside _ _ _ _ c.self.view_is c.writes-writes.ensures c.requires.plan in
-    rw (← c.self.view_is, ← c.writes-writes.ensures) (committed _ c.writes-writes.result.now c.append_all.new.self.changes (sym c.if-is_empty.ensures) c.self.invariant.up plan c.append_all.ensures.changes)
+pub returns-clause-commits : goal.returns-clause-commits
+returns-clause-commits g c =
+    let can = can_inside _ _ _ _ c.self.view_is c.writes-writes.ensures c.requires.fits in
+    rw (← c.self.view_is, ← c.writes-writes.ensures) (record {
+      kept = committed _ c.writes-writes.result.now c.append_all.new.self.changes (sym c.if-is_empty.ensures) c.self.invariant.up can.plan c.append_all.ensures.appends.changes;
+      free = c.append_all.ensures.appends.free;
+      leases = c.append_all.ensures.appends.leases;
+      lease_cells = c.append_all.ensures.appends.lease_cells;
+    })

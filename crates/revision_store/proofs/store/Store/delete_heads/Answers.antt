@@ -1,22 +1,23 @@
-use Rattle.std.proofs.Common.{arith, refl, ◌+◌, ◌<◌, subst, sym}
-use Rattle.model_laws.proofs.RecordedLaws.{all_weaker}
-use Rattle.revision_store.specs.Recorded.{cells_of}
+use Rattle.std.proofs.Common.{rules, refl, sym}
 use Rattle.revision_store.specs.Plans.{deletes}
-use Rattle.revision_store.proofs.Committed.{fresh_of_once, committed, kept_after, plan_inside, some_deletes}
+use Rattle.revision_store.proofs.Committed.{can_append, can_inside, committed, kept_after, some_deletes}
 use Rattle.revision_store.proofs.store.Store.delete_heads.Goals as goal
 
-pub append_deletes-requires-clause-fresh : goal.append_deletes-requires-clause-fresh
-append_deletes-requires-clause-fresh g c =
-    let plan = plan_inside _ _ _ _ c.self.view_is refl c.requires.live in
-    fresh_of_once (cells_of c.self.inside.log.records) (c.self.inside.current + 1) c.self.inside.log.changes (deletes c.args.heads.now) (all_weaker _ _ (λ x le. omega (arith, le)) c.self.inside.log.changes c.self.invariant.up) plan.once
+pub append_deletes-requires-clause-takes : goal.append_deletes-requires-clause-takes
+append_deletes-requires-clause-takes g c =
+    can_append c.self.inside.log c.self.inside.current c.self.inside.compacted (deletes c.args.heads.now) c.self.invariant (can_inside _ _ _ _ c.self.view_is refl c.requires.fits)
 
 pub invariant_of-self : goal.invariant_of-self
 invariant_of-self g c =
-    let plan = plan_inside _ _ _ _ c.self.view_is refl c.requires.live in
-    let short = subst (λ s. s.kept.current + 1 < 9223372036854775808) (sym c.self.view_is) c.requires.revisions in
-    kept_after _ c.append_deletes.new.self c.self.inside.compacted (deletes c.args.heads.now) plan c.self.invariant.up c.self.invariant.numbers c.self.invariant.compacted short c.append_deletes.ensures.changes
+    let can = can_inside _ _ _ _ c.self.view_is refl c.requires.fits in
+    kept_after _ c.append_deletes.new.self c.self.inside.compacted (deletes c.args.heads.now) can.plan c.self.invariant.up c.self.invariant.numbers c.self.invariant.compacted can.revisions c.append_deletes.ensures.appends.changes
 
-pub returns-clause-kept : goal.returns-clause-kept
-returns-clause-kept g c =
-    let plan = plan_inside _ _ _ _ c.self.view_is refl c.requires.live in
-    rw (← c.self.view_is) (committed _ (deletes c.args.heads.now) c.append_deletes.new.self.changes (some_deletes c.args.heads.now c.requires.some) c.self.invariant.up plan c.append_deletes.ensures.changes)
+pub returns-clause-commits : goal.returns-clause-commits
+returns-clause-commits g c =
+    let can = can_inside _ _ _ _ c.self.view_is refl c.requires.fits in
+    rw (← c.self.view_is) (record {
+      kept = committed _ (deletes c.args.heads.now) c.append_deletes.new.self.changes (some_deletes c.args.heads.now c.requires.some) c.self.invariant.up can.plan c.append_deletes.ensures.appends.changes;
+      free = c.append_deletes.ensures.appends.free;
+      leases = c.append_deletes.ensures.appends.leases;
+      lease_cells = c.append_deletes.ensures.appends.lease_cells;
+    })
