@@ -13,8 +13,8 @@ use std::alloc::Global;
 pub(crate) struct Placing {
     region: Region,
     stock: Stock,
-    ghost whole: { stock.held + region.drawn ≡ region.reserved },
-    ghost room: { stock.room ≡ region.drawn },
+    ghost whole: { stock.held + region.share.drawn ≡ region.share.reserved },
+    ghost room: { stock.room ≡ region.share.drawn },
 }
 
 impl Placing {

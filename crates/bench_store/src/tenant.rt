@@ -20,8 +20,8 @@ const LAST_REVISION: u64 = 1_000_000_000_000;
 pub(crate) struct Tenant {
     store: Store,
     stock: Stock,
-    ghost whole: { stock.held + store.drawn ≡ store.reserved },
-    ghost room: { stock.room ≡ store.drawn },
+    ghost whole: { stock.held + store.share.drawn ≡ store.share.reserved },
+    ghost room: { stock.room ≡ store.share.drawn },
 }
 
 impl Tenant {

@@ -10,7 +10,7 @@ use Rattle.cell_arena.specs.declared.cell.Kind.TheVariants.{Put, Delete, Lease}
 use Rattle.cell_arena.specs.declared.cell.Fields.{Fields}
 use Rattle.cell_arena.specs.declared.table.Table.{Table}
 use Rattle.cell_arena.specs.Chain.{IsLinked, record_at, Record, pieces}
-use Rattle.cell_arena.specs.Loan.{Share, share_code}
+use Rattle.cell_arena.specs.Loan.{Share, share_code, undrawn}
 use Rattle.cell_arena.specs.Table.{IsTable, table_at, busy_of}
 
 -- the records by their head cells, how many cells are free of those reserved, and how many segments
@@ -22,11 +22,7 @@ pub record Held : Type 0 where
 
 -- no records, over so many cells, with nothing drawn
 abbrev pub no_records : ℕ → Held
-no_records cells = record {
-  records = map.empty;
-  free = cells;
-  share = record { reserved = cells / 64; drawn = 0 };
-}
+no_records cells = record { records = map.empty; free = cells; share = undrawn (cells / 64) }
 
 abbrev pub kind_number : Kind → ℕ
 kind_number Put = 0

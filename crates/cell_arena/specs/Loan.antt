@@ -27,6 +27,10 @@ share_code =
     (λ p. record { reserved = p.0; drawn = p.1 })
     (λ _. refl)
 
+-- so many are reserved, and none is drawn
+abbrev pub undrawn : ℕ → Share
+undrawn segments = record { reserved = segments; drawn = 0 }
+
 -- What a call asks of a loan: what is reserved and not drawn may be drawn, and what is drawn may be
 -- given back.
 pub record IsLent (share : Share) (loan : Loan) : Type 0 where

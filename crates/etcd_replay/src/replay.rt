@@ -4,7 +4,7 @@ ghost use Rattle.std.specs.List.{list_all};
 ghost use Rattle.etcd_model.specs.Alone.{Called, is_of, is_unanswered};
 ghost use Rattle.etcd_model.specs.Calls.{call_of, read_posted, target_of};
 ghost use Rattle.etcd_model.specs.ReplyText.{memory_answer, text};
-ghost use Rattle.tenant_machine.specs.Held.{IsLent};
+ghost use Rattle.cell_arena.specs.Loan.{IsLent};
 ghost use Rattle.etcd_replay.specs.Script.{asked_by};
 ghost use Rattle.etcd_replay.specs.Replaying.{add_fault, is_name, is_name_byte, within_limits, refused_call, nobody, IsAdded, IsCalled, IsServed, Opens, Serves, Tells};
 
@@ -28,7 +28,7 @@ pub(crate) struct Tenant<S: Reserve> {
 }
 
 impl<S: Reserve> Model for Tenant<S> {
-    ghost use Rattle.tenant_machine.specs.Held.{IsLent};
+    ghost use Rattle.cell_arena.specs.Loan.{IsLent};
     ghost use Rattle.etcd_replay.specs.Replaying.{TenantState, tenant_code};
 
     ghost Value = { TenantState };
@@ -37,7 +37,7 @@ impl<S: Reserve> Model for Tenant<S> {
 
     ghost view = { λ t. record { name = t.name; machine = t.machine } };
 
-    ghost invariant = { λ t. IsLent t.machine.store (S.left t.segments) (S.room t.segments) };
+    ghost invariant = { λ t. IsLent t.machine.store.share (S.loan t.segments) };
 }
 
 /// A script's tenant, once it is added. There is one for now.

@@ -10,7 +10,7 @@ use std::alloc::Global;
 pub(crate) trait Reserve: Segments + Drop {
     /// As many as a tenant's quota takes, made when it is added.
     fn reserve(alloc: Global, segments: u32) -> Mem<Self>
-        ensures { IfOk result (λ reserved. Self.left reserved ≡ segments) };
+        ensures { IfOk result (λ reserved. (Self.loan reserved).left ≡ segments) };
 }
 
 impl Reserve for Stock {

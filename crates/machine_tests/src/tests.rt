@@ -4,6 +4,8 @@
 //! that holds many values is long to prove, for each way out of it.
 ghost use Rattle.std.specs.Prelude.{◌≡◌, ◌+◌, ◌≤◌};
 ghost use Rattle.etcd_types.specs.Limits.{max_quota, min_quota};
+ghost use Rattle.cell_arena.specs.Loan.{IsLent};
+ghost use Rattle.test_segments.specs.Shelf.{loan_of};
 
 mod alarm_rule;
 mod scripts;
@@ -28,8 +30,7 @@ use told::text_of;
 struct Tenant {
     machine: Machine,
     segments: Filled,
-    ghost left: { segments.shelf.held + machine.store.drawn ≡ machine.store.reserved },
-    ghost room: { machine.store.drawn ≤ segments.shelf.room },
+    ghost lent: { IsLent machine.store.share (loan_of segments.shelf) },
 }
 
 impl Tenant {

@@ -32,7 +32,7 @@ used_after s r within is = omega (arith, reserved_stays s r within is)
 
 -- after a write as many cells are in use as were planned
 pub machine_after_write : (store new : StoreState) (quota : Quota) (writes : List Write) (used : ℕ) → IsMachine store quota → FitsWrite store writes used
-    → new.kept ≡ written store writes → new.lease_cells ≡ store.lease_cells → new.reserved ≡ store.reserved → IsMachine new (record quota { used = used })
+    → new.kept ≡ written store writes → new.lease_cells ≡ store.lease_cells → new.share.reserved ≡ store.share.reserved → IsMachine new (record quota { used = used })
 machine_after_write store new quota writes used is fits kept leases reserved = record {
   used = fits.counted ∙ ap cells (sym kept);
   leases = leases ∙ is.leases;
@@ -43,7 +43,7 @@ machine_after_write store new quota writes used is fits kept leases reserved = r
 
 -- after a compaction the cells in use are fewer by those that records no longer take
 pub machine_after_compaction : (store new : StoreState) (quota : Quota) (revision used : ℕ) → IsMachine store quota → IsStore store.kept → FitsCompaction store revision
-    → new.kept ≡ compact store.kept revision → new.lease_cells ≡ store.lease_cells → new.reserved ≡ store.reserved
+    → new.kept ≡ compact store.kept revision → new.lease_cells ≡ store.lease_cells → new.share.reserved ≡ store.share.reserved
     → used + record_cells store.kept.changes ≡ quota.used + record_cells new.kept.changes → IsMachine new (record quota { used = used })
 machine_after_compaction store new quota revision used is sound fits kept leases reserved falls =
     let records = ap (λ (s : Store). record_cells s.changes) kept in

@@ -38,7 +38,7 @@ plans : (m : MachineState) (step : Step) (p : Plan) → Does m p (built kept_sto
 plans m step p does = record {
   spoken = λ refused. built_speaks kept_store (tenant m) step (sym does.reply ∙ refused);
   reply = λ S held. does.reply ∙ (held_after_built S (tenant m) step held).1;
-  state = λ S n held after. subst (Holds (built_machine S step).state) (sym (after.tenant ∙ does.state)) (held_after_built S (tenant m) step held).0;
+  state = λ S n held after. subst (Holds (built_machine S step).state) (sym (after ∙ does.state)) (held_after_built S (tenant m) step held).0;
 }
 
 pub plans_where : {E : Type 0} (m : MachineState) (step : Step) (result : Result Plan E) → IfOk result (λ p. Does m p (built kept_store (tenant m) step)) → IfOk result (λ p. Plans m step p)
@@ -51,7 +51,6 @@ stepped m n step p reply plans after same = record {
   told = λ S held said. same ∙ plans.reply S held;
   state = λ S held said. plans.state S n held after;
   memory = λ refused. absurd (plans.spoken (sym same ∙ refused));
-  reserved = after.reserved;
 }
 
 -- a machine over an empty store holds the opening

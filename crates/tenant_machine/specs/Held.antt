@@ -21,6 +21,15 @@ machine_code =
     (λ p. record { cluster = p.0.0; quota = p.0.1; store = p.1.0; alarm = p.1.1 })
     (λ _. refl)
 
+-- the machine of a store, with its quota and the alarm
+abbrev pub machine_of : ℕ → StoreState → Quota → MachineState
+machine_of cluster store quota = record {
+  cluster = cluster;
+  quota = quota.cells;
+  store = store;
+  alarm = quota.alarm;
+}
+
 -- The tenant. Leases, watches and the clock are still to come: all of them are as they were opened.
 abbrev pub tenant : MachineState → State Store
 tenant m = record {
@@ -34,15 +43,11 @@ tenant m = record {
   slots = replicate watch_slots None;
 }
 
--- The cells in use are counted, and they and the quota are within the segments that are reserved. That the store is sound it promises itself.
+-- The cells in use are counted, and they and the quota are within the segments that are reserved. That the store is
+-- sound it promises itself.
 pub record IsMachine (store : StoreState) (quota : Quota) : Type 0 where
   pub used : quota.used ≡ cells store.kept
   pub leases : store.lease_cells ≡ 0
-  pub within : quota.used ≤ 64 * store.reserved
-  pub allowed : quota.cells ≤ 64 * store.reserved
-  pub few : store.reserved ≤ 2 ^ 14
-
--- so many segments may be drawn and given back: those that are reserved and not drawn, and those drawn
-pub record IsLent (store : StoreState) (left room : ℕ) : Type 0 where
-  pub whole : left + store.drawn ≡ store.reserved
-  pub fits : store.drawn ≤ room
+  pub within : quota.used ≤ 64 * store.share.reserved
+  pub allowed : quota.cells ≤ 64 * store.share.reserved
+  pub few : store.share.reserved ≤ 2 ^ 14

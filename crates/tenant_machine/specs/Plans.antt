@@ -11,7 +11,7 @@ use Rattle.etcd_model.specs.Store as kept
 use Rattle.etcd_model.specs.Store.{Store}
 use Rattle.etcd_model.specs.Held.{Holds}
 use Rattle.etcd_model.specs.Offered.{built_machine}
-use Rattle.revision_store.specs.Stored.{StoreState, IsPlanFor, HasSpace, changes_of}
+use Rattle.revision_store.specs.Stored.{StoreState, CanCommit, changes_of}
 use Rattle.revision_store.specs.declared.plan.Write.{Write}
 use Rattle.tenant_machine.specs.declared.planned.Effect.{Effect}
 use Rattle.tenant_machine.specs.declared.planned.Effect.TheVariants as effect
@@ -35,13 +35,11 @@ after_effect m (effect.Alarm on) = record (tenant m) { alarm = on }
 after_effect m (effect.Write writes used) = record (tenant m) { store = written m.store writes }
 after_effect m (effect.Compact revision) = record (tenant m) { store = kept.compact m.store.kept revision }
 
--- Some writes that can be the next revision, for which there is space; so many cells are in use then.
+-- some writes that can be committed; so many cells are in use then
 pub record FitsWrite (store : StoreState) (writes : List Write) (used : ℕ) : Type 0 where
-  pub plan : IsPlanFor store writes
-  pub space : HasSpace store writes
-  pub revisions : store.kept.current + 1 < 2 ^ 63
+  pub can : CanCommit store writes
   pub counted : used ≡ kept.cells (written store writes)
-  pub within : used ≤ 64 * store.reserved
+  pub within : used ≤ 64 * store.share.reserved
 
 -- a compaction that is one
 pub record FitsCompaction (store : StoreState) (revision : ℕ) : Type 0 where
@@ -58,10 +56,10 @@ FitsEffect m (effect.Compact revision) = FitsCompaction m.store revision
 abbrev pub Fits : MachineState → Plan → Type 0
 Fits m p = FitsEffect m p.effect
 
--- What a commit leaves: the tenant as planned, with as many segments reserved. How many are drawn, and which cells the records have, is left open.
-pub record IsAfter (m : MachineState) (p : Plan) (n : MachineState) : Type 0 where
-  pub tenant : tenant n ≡ after_effect m p.effect
-  pub reserved : n.store.reserved ≡ m.store.reserved
+-- What a commit leaves is the tenant as planned. How many segments are drawn, and which cells the records have, is
+-- left open.
+abbrev pub IsAfter : MachineState → Plan → MachineState → Type 0
+IsAfter m p n = tenant n ≡ after_effect m p.effect
 
 -- ---- what is promised of a plan and of a step
 
@@ -76,7 +74,6 @@ pub record Steps (m : MachineState) (step : Step) (reply : Reply) (n : MachineSt
   pub told : (S : State History) → Holds S (tenant m) → reply ≢ Refused Memory → reply ≡ (built_machine S step).reply
   pub state : (S : State History) → Holds S (tenant m) → reply ≢ Refused Memory → Holds (built_machine S step).state (tenant n)
   pub memory : reply ≡ Refused Memory → n ≡ m
-  pub reserved : n.store.reserved ≡ m.store.reserved
 
 -- a step that may find no memory: the others take none
 abbrev pub takes_memory : Step → Bool

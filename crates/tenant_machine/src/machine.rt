@@ -3,13 +3,13 @@ ghost use Rattle.std.specs.Prelude.{◌≡◌, ◌≢◌, ◌+◌, ◌-◌, ◌�
 ghost use Rattle.etcd_types.specs.Limits.{last_revision, max_quota, min_quota};
 ghost use Rattle.etcd_types.specs.declared.reply.Reply.TheVariants.{Refused};
 ghost use Rattle.etcd_types.specs.declared.refusal.Refusal.TheVariants.{Memory};
-ghost use Rattle.cell_arena.specs.Table.{segments_for};
+ghost use Rattle.cell_arena.specs.Loan.{IsLent, Settles, segments_for, undrawn};
 ghost use Rattle.etcd_model.specs.Machine.{opening};
 ghost use Rattle.etcd_model.specs.Held.{Holds};
 ghost use Rattle.etcd_model.specs.Store.{kept_store, reserved_cells};
 ghost use Rattle.etcd_model.specs.Tenant.{used};
 ghost use Rattle.tenant_machine.specs.Deciding.{is_stopped};
-ghost use Rattle.tenant_machine.specs.Held.{IsLent, tenant};
+ghost use Rattle.tenant_machine.specs.Held.{tenant};
 ghost use Rattle.tenant_machine.specs.Plans.{Fits, FitsCompaction, FitsWrite, IsAfter, Plans, Steps, takes_memory, written};
 
 use crate::planned::{Effect, Planned};
@@ -31,13 +31,13 @@ pub struct Machine {
 }
 
 impl Model for Machine {
-    ghost use Rattle.tenant_machine.specs.Held.{MachineState, IsMachine, machine_code};
+    ghost use Rattle.tenant_machine.specs.Held.{MachineState, IsMachine, machine_code, machine_of};
 
     ghost Value = { MachineState };
 
     ghost coded = { machine_code };
 
-    ghost view = { λ m. record { cluster = m.cluster; quota = m.quota.cells; store = m.store; alarm = m.quota.alarm } };
+    ghost view = { λ m. machine_of m.cluster m.store m.quota };
 
     ghost invariant = { λ m. IsMachine m.store m.quota };
 }
@@ -57,8 +57,7 @@ impl Machine {
         requires quota { (min_quota ≤ quota) × (quota ≤ max_quota) }
         requires first { (pos 1 ≤ℤ first) × (first ≤ℤ pos last_revision) }
         ensures holds { (n : ℕ) → first ≡ pos n → IfOk result (λ m. Holds (opening cluster quota n) (tenant m)) }
-        ensures reserved { IfOk result (λ m. m.store.reserved ≡ segments_for quota) }
-        ensures drawn { IfOk result (λ m. m.store.drawn ≡ 0) }
+        ensures share { IfOk result (λ m. m.store.share ≡ undrawn (segments_for quota)) }
     {
         let cells = segments_for(quota) * SEGMENT_CELLS;
         Ok(Machine {
@@ -83,12 +82,13 @@ impl Machine {
     /// back. It takes no memory and cannot fail.
     pub fn commit<S: Segments>(&mut self, segments: &mut S, planned: Planned) -> Reply
         requires fits { Fits self.old planned }
-        requires lent { IsLent self.old.store (S.left segments.old) (S.room segments.old) }
+        requires lent { IsLent self.old.store.share (S.loan segments.old) }
         ensures reply { result ≡ planned.reply }
         ensures after { IsAfter self.old planned self.new }
-        ensures lent { IsLent self.new.store (S.left segments.new) (S.room segments.new) }
-        ensures room { S.room segments.new + self.old.store.drawn ≡ S.room segments.old + self.new.store.drawn }
-        ensures others { S.others segments.new ≡ S.others segments.old }
+        ensures settles {
+            Settles self.old.store.share (S.loan segments.old)
+                self.new.store.share (S.loan segments.new)
+        }
     {
         let Planned { effect, reply } = planned;
         match effect {
@@ -103,13 +103,14 @@ impl Machine {
 
     /// One step: planned and committed, or for want of memory neither.
     pub fn step<S: Segments>(&mut self, alloc: Global, segments: &mut S, step: &Step) -> Reply
-        requires lent { IsLent self.old.store (S.left segments.old) (S.room segments.old) }
+        requires lent { IsLent self.old.store.share (S.loan segments.old) }
         ensures steps { Steps self.old step.now result self.new }
         ensures sure { takes_memory step.now ≡ false → result ≢ Refused Memory }
         ensures stopped { is_stopped (tenant self.old) step.now ≡ true → result ≢ Refused Memory }
-        ensures lent { IsLent self.new.store (S.left segments.new) (S.room segments.new) }
-        ensures room { S.room segments.new + self.old.store.drawn ≡ S.room segments.old + self.new.store.drawn }
-        ensures others { S.others segments.new ≡ S.others segments.old }
+        ensures settles {
+            Settles self.old.store.share (S.loan segments.old)
+                self.new.store.share (S.loan segments.new)
+        }
     {
         match self.plan(alloc, step) {
             Ok(planned) => self.commit(segments, planned),
@@ -134,12 +135,12 @@ impl Machine {
     /// Makes changes one more revision, after which so many cells are in use.
     fn write<S: Segments>(&mut self, segments: &mut S, plan: Plan, used: u64)
         requires fits { FitsWrite self.old.store plan used }
-        requires lent { IsLent self.old.store (S.left segments.old) (S.room segments.old) }
+        requires lent { IsLent self.old.store.share (S.loan segments.old) }
         ensures tenant { tenant self.new ≡ record (tenant self.old) { store = written self.old.store plan } }
-        ensures reserved { self.new.store.reserved ≡ self.old.store.reserved }
-        ensures lent { IsLent self.new.store (S.left segments.new) (S.room segments.new) }
-        ensures room { S.room segments.new + self.old.store.drawn ≡ S.room segments.old + self.new.store.drawn }
-        ensures others { S.others segments.new ≡ S.others segments.old }
+        ensures settles {
+            Settles self.old.store.share (S.loan segments.old)
+                self.new.store.share (S.loan segments.new)
+        }
     {
         self.store.commit(segments, plan);
         self.quota.used = used;
@@ -148,12 +149,12 @@ impl Machine {
     /// Forgets what reads below a revision need. The cells that this frees are in use no more.
     fn compact<S: Segments>(&mut self, segments: &mut S, revision: u64)
         requires fits { FitsCompaction self.old.store revision }
-        requires lent { IsLent self.old.store (S.left segments.old) (S.room segments.old) }
+        requires lent { IsLent self.old.store.share (S.loan segments.old) }
         ensures tenant { tenant self.new ≡ record (tenant self.old) { store = kept_store.compact self.old.store.kept revision } }
-        ensures reserved { self.new.store.reserved ≡ self.old.store.reserved }
-        ensures lent { IsLent self.new.store (S.left segments.new) (S.room segments.new) }
-        ensures room { S.room segments.new + self.old.store.drawn ≡ S.room segments.old + self.new.store.drawn }
-        ensures others { S.others segments.new ≡ S.others segments.old }
+        ensures settles {
+            Settles self.old.store.share (S.loan segments.old)
+                self.new.store.share (S.loan segments.new)
+        }
     {
         self.store.keep_sound();
         let before = self.store.used_cells();

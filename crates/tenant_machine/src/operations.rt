@@ -142,7 +142,7 @@ impl Machine {
         requires plan { IsPlanFor self.now.store plan }
         requires revisions { self.now.store.kept.current < last_revision }
         requires used { used ≡ kept.cells (written self.now.store plan) }
-        requires within { used ≤ 64 * self.now.store.reserved }
+        requires within { used ≤ 64 * self.now.store.share.reserved }
         ensures planned { result ≡ record { effect = Effect.Write plan used; reply = reply } }
         ensures fits { Fits self.now result }
     {

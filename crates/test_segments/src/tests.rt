@@ -1,5 +1,5 @@
 ghost use Rattle.std.specs.Prelude.{◌≡◌, ◌+◌, ◌*◌, ◌/◌, ◌≤◌, ◌^◌, length};
-ghost use Rattle.cell_arena.specs.Loan.{IsLent};
+ghost use Rattle.cell_arena.specs.Loan.{IsLent, undrawn};
 
 use crate::{Filled, Highest, Lowest};
 use cell_arena::{Fields, Kind, Region, Segments};
@@ -25,7 +25,7 @@ fn keeps<S: Segments>(
 ) -> Mem<bool>
     requires few { count ≤ 2 ^ 14 }
     requires fits { 1 + (length key.now + length value.now + 47) / 48 ≤ 64 * count }
-    requires lent { IsLent (record { reserved = count; drawn = 0 }) (S.loan segments.old) }
+    requires lent { IsLent (undrawn count) (S.loan segments.old) }
 {
     let mut region = Region::new(alloc, count * 64)?;
     let cell = region.place(segments, Kind::Put, NUMBERS, key, value);
@@ -44,7 +44,7 @@ fn keeps<S: Segments>(
 /// Whether a delete record has the other's key, its own numbers, and the older one that is set.
 fn copies<S: Segments>(alloc: Global, segments: &mut S, key: &[u8], value: &[u8]) -> Mem<bool>
     requires fits { (length key.now + length value.now + 47) / 48 ≤ 30 }
-    requires lent { IsLent (record { reserved = 1; drawn = 0 }) (S.loan segments.old) }
+    requires lent { IsLent (undrawn 1) (S.loan segments.old) }
 {
     let mut region = Region::new(alloc, 64)?;
     let put = region.place(segments, Kind::Put, NUMBERS, key, value);

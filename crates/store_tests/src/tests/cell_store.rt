@@ -1,5 +1,6 @@
 //! The store over cells, with the segments that it draws.
 ghost use Rattle.std.specs.Prelude.{◌≡◌, ◌+◌, ◌<◌, ◌≤◌, ◌^◌};
+ghost use Rattle.cell_arena.specs.Loan.{IsLent};
 ghost use Rattle.revision_store.specs.Stored.{IsPlanFor};
 
 use crate::tests::answers::Answers;
@@ -15,14 +16,13 @@ use std::alloc::Global;
 pub(super) struct CellStore<S: Segments + Drop> {
     store: Store,
     segments: S,
-    ghost left: { S.left segments + store.drawn ≡ store.reserved },
-    ghost room: { store.drawn ≤ S.room segments },
+    ghost lent: { IsLent store.share (S.loan segments) },
 }
 
 impl<S: Segments + Drop> CellStore<S> {
     /// An empty store over all segments that may be drawn.
     pub(super) fn new(alloc: Global, segments: S) -> Mem<CellStore<S>>
-        requires { S.left segments ≤ 2 ^ 14 }
+        requires { (S.loan segments).left ≤ 2 ^ 14 }
     {
         Ok(CellStore {
             store: Store::new(alloc, segments.left() * 64, 1)?,

@@ -1,6 +1,7 @@
-use Rattle.std.proofs.Common.{ℤ, ap, ◌∙◌, refl, w64}
+use Rattle.std.proofs.Common.{ℤ, ap, ◌∙◌, refl, w64, arith}
 use Rattle.std.proofs.Math.IntN.{nat_abs}
 use Rattle.std.proofs.lemmas.Int.{to_z-of_z}
+use Rattle.cell_arena.specs.Loan.{undrawn}
 use Rattle.etcd_model.specs.Held.{empty_store}
 use Rattle.quota_alarm.specs.declared.quota.Quota.{Quota}
 use Rattle.revision_store.specs.Stored.{StoreState}
@@ -13,3 +14,7 @@ returns-clause-holds c = λ n is.
     let kept = ap (λ (s : StoreState). s.kept) c.in_ok-new.ensures ∙ ap (λ (z : ℤ). empty_store (nat_abs z)) (to_z-of_z w64 c.args.first c.ranges.first ∙ is) in
     let machine : MachineState = record { cluster = c.args.cluster; quota = c.new-2.result.cells; store = c.in_ok-new.field-0; alarm = c.new-2.result.alarm } in
     opened machine c.args.cluster c.args.quota n refl (ap (λ (q : Quota). q.cells) c.new-2.ensures) kept (ap (λ (q : Quota). q.alarm) c.new-2.ensures)
+
+pub returns-clause-share : goal.returns-clause-share
+returns-clause-share c =
+    ap (λ (s : StoreState). s.share) c.in_ok-new.ensures ∙ ap undrawn (omega (arith, c.segments_for-cells.ensures))
