@@ -4,6 +4,7 @@
 mod answering;
 mod comparing;
 mod cutting;
+mod keys;
 mod log;
 mod pending;
 mod pending_deletes;
@@ -14,6 +15,7 @@ mod planning;
 mod ranging;
 mod reading;
 mod records;
+mod rows;
 mod sorting;
 mod space;
 mod store;

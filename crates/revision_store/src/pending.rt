@@ -9,10 +9,11 @@ ghost use Rattle.revision_store.specs.Stored.{IsPlanFor, cells, changes_of, look
 ghost use Rattle.revision_store.specs.Pending.{changes_key, pending_reads, present, puts_inside, puts_within, row_put, value_put};
 ghost use Rattle.std.specs.Option.{option_copied};
 
-use crate::pending_deletes::{left_cells, push_deletes, rows_asked, rows_under};
+use crate::pending_deletes::{left_cells, push_deletes};
 use crate::pending_puts::{put_rows, puts_in};
 use crate::plan::{Plan, Write};
 use crate::ranging::{range_reply, rows_reply};
+use crate::rows::{rows_asked, rows_under};
 use crate::store::Store;
 use etcd_types::{CellNo, CopyOf, DeleteReq, KeyValue, List, Mem, OpReply, PutReq, RangeReq};
 use std::alloc::Global;

@@ -95,7 +95,7 @@ impl Store {
     }
 
     /// It is one that appends and compactions make. Nothing is done: a caller knows it from here on.
-    pub fn keep_sound(&self)
+    pub(crate) fn keep_sound(&self)
         ensures { IsSound self.now }
     {
         self.log.keep_in_order();

@@ -1,10 +1,10 @@
 //! The answer of a range.
-ghost use Rattle.std.specs.Prelude.{◌≡◌, ◌<◌, ◌^◌, filter, map, pos, true, None, Some, IsSome, is_some, IfOk, IsOk, MatchResult, option_map};
+ghost use Rattle.std.specs.Prelude.{◌≡◌, ◌<◌, ◌^◌, filter, map, pos, true, None, Some, IsSome, is_some, IfOk, IsOk, MatchResult};
 ghost use Rattle.std.specs.List.Sorted.{IsStrictlySortedBy};
 ghost use Rattle.etcd_types.specs.declared.reply.OpReply.TheVariants.{Range as RangeReply};
 ghost use Rattle.etcd_types.specs.declared.txn.Op.TheVariants.{Range as RangeOp};
 ghost use Rattle.etcd_model.specs.Operations.{op_reply};
-ghost use Rattle.etcd_model.specs.Ranges.{is_wanted, without_value};
+ghost use Rattle.etcd_model.specs.Ranges.{is_wanted};
 ghost use Rattle.etcd_model.specs.Reads.{revision_read, unreadable};
 ghost use Rattle.model_laws.specs.Recording.{by_key};
 ghost use Rattle.revision_store.specs.Answering.{given};
@@ -15,7 +15,7 @@ ghost use Rattle.revision_store.specs.Stored.{reads, row_at};
 
 use crate::answering::{is_by_key, is_cut, is_wanted, limit_of, ordered, wants_all};
 use crate::log::Log;
-use crate::pending_deletes::rows_under;
+use crate::rows::{keys_under, rows_under};
 use crate::store::Store;
 use etcd_types::{CellNo, KeyValue, List, Mem, OpReply, RangeReq, Refusal, SortTarget};
 use std::alloc::Global;
@@ -219,16 +219,4 @@ fn needs_values(request: &RangeReq) -> bool
     ensures { result ≡ needs_values request.now.keys_only request.now.sort_target }
 {
     !request.keys_only || matches!(request.sort_target, SortTarget::Value)
-}
-
-/// The rows under some cells without their values, which are not read.
-fn keys_under(alloc: Global, log: &Log, cells: &[CellNo]) -> Mem<Vec<KeyValue>>
-    requires { AreRows (cells_of log.now.records) cells.now }
-    ensures { IfOk result (λ found. map Some found.items ≡ map (λ c. option_map without_value (row_at (cells_of log.now.records) c)) cells.now) }
-{
-    let mut found = Vec::with_capacity(alloc, cells.len())?;
-    for cell in cells {
-        found.push(log.row_without_value(alloc, *cell)?)?;
-    }
-    Ok(found)
 }

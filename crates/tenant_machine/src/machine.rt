@@ -156,7 +156,8 @@ impl Machine {
                 self.new.store.share (S.loan segments.new)
         }
     {
-        self.store.keep_sound();
+        // The store tells with its revision that it is sound.
+        self.store.current();
         let before = self.store.used_cells();
         self.store.compact(segments, revision);
         let freed = before - self.store.used_cells();

@@ -53,7 +53,8 @@ impl Machine {
         ensures does { IfOk result (λ p. Does self.now p (past_gate (tenant self.now) (Delete request.now))) }
         ensures fits { IfOk result (λ p. Fits self.now p) }
     {
-        self.store.keep_sound();
+        // The store tells with its revision that it is sound.
+        self.store.current();
         let PlannedOp { plan, reply } = self.store.plan_delete(alloc, request)?;
         Ok(self.writing(plan, self.answer(reply), self.quota.used))
     }
@@ -79,7 +80,8 @@ impl Machine {
         ensures sure { is_some (look_up kept.kept_store (tenant self.now) (Txn request.now)) ≡ true → IsOk result }
         ensures fits { IfOk result (λ p. Fits self.now p) }
     {
-        self.store.keep_sound();
+        // The store tells with its revision that it is sound.
+        self.store.current();
         Ok(match txn_plan::plan(alloc, &self.store, request)? {
             Ok(planned) => self.transaction(planned),
             Err(refusal) => Planned::refused(refusal),
@@ -146,7 +148,8 @@ impl Machine {
         ensures planned { result ≡ record { effect = Effect.Write plan used; reply = reply } }
         ensures fits { Fits self.now result }
     {
-        self.store.keep_sound();
+        // The store tells with its revision that it is sound.
+        self.store.current();
         Planned {
             effect: Effect::Write { plan, used },
             reply,

@@ -27,7 +27,8 @@ pub(crate) fn fold<'a>(alloc: Global, store: &'a Store, ops: &'a [Op]) -> Mem<Fo
     ensures changes { IfOk result (λ folded. folded.pending ≡ record { store = store.now; changes = pending_after (look store.now) [] ops.now }) }
     ensures replies { IfOk result (λ folded. folded.replies ≡ replies (look store.now) [] ops.now) }
 {
-    store.keep_sound();
+    // The store tells with its revision that it is sound.
+    store.current();
     let mut pending = Pending::new(alloc, store);
     let mut replies = List::new(alloc);
     for op in ops {

@@ -4,7 +4,7 @@ use Rattle.etcd_model.specs.Ranges.{without_value}
 use Rattle.revision_store.specs.Recorded.{cells_of}
 use Rattle.revision_store.specs.Stored.{row_at}
 use Rattle.revision_store.specs.Pending.{AreRows}
-use Rattle.revision_store.proofs.ranging.keys_under.Given as goal
+use Rattle.revision_store.proofs.rows.keys_under.Given as goal
 
 abbrev pub invariant-loop-cell : goal.invariant-loop-cell
 invariant-loop-cell l = record {

@@ -1,0 +1,51 @@
+//! The rows under some cells.
+ghost use Rattle.std.specs.Prelude.{◌≡◌, [], map, Some, IfOk, option_map, if◌then◌else◌};
+ghost use Rattle.etcd_model.specs.Ranges.{without_value};
+ghost use Rattle.revision_store.specs.Pending.{AreRows};
+ghost use Rattle.revision_store.specs.Recorded.{cells_of};
+ghost use Rattle.revision_store.specs.Stored.{row_at};
+
+use crate::log::Log;
+use etcd_types::{CellNo, KeyValue, List, Mem};
+use std::alloc::Global;
+
+/// The rows under some cells.
+pub(crate) fn rows_under(alloc: Global, log: &Log, cells: &[CellNo]) -> Mem<Vec<KeyValue>>
+    requires { AreRows (cells_of log.now.records) cells.now }
+    ensures { IfOk result (λ found. map Some found.items ≡ map (row_at (cells_of log.now.records)) cells.now) }
+{
+    let mut found = Vec::with_capacity(alloc, cells.len())?;
+    for cell in cells {
+        found.push(log.row(alloc, *cell)?)?;
+    }
+    Ok(found)
+}
+
+/// The same, where they are asked for.
+pub(crate) fn rows_asked(
+    alloc: Global,
+    log: &Log,
+    cells: &[CellNo],
+    asked: bool,
+) -> Mem<List<KeyValue>>
+    requires { AreRows (cells_of log.now.records) cells.now }
+    ensures { IfOk result (λ found. map Some found ≡ (if asked then map (row_at (cells_of log.now.records)) cells.now else [])) }
+{
+    if asked {
+        Ok(List::from_vec(rows_under(alloc, log, cells)?))
+    } else {
+        Ok(List::new(alloc))
+    }
+}
+
+/// The rows under some cells without their values, which are not read.
+pub(crate) fn keys_under(alloc: Global, log: &Log, cells: &[CellNo]) -> Mem<Vec<KeyValue>>
+    requires { AreRows (cells_of log.now.records) cells.now }
+    ensures { IfOk result (λ found. map Some found.items ≡ map (λ c. option_map without_value (row_at (cells_of log.now.records) c)) cells.now) }
+{
+    let mut found = Vec::with_capacity(alloc, cells.len())?;
+    for cell in cells {
+        found.push(log.row_without_value(alloc, *cell)?)?;
+    }
+    Ok(found)
+}
