@@ -1,4 +1,5 @@
-ghost use Rattle.std.specs.Prelude.{◌≡◌, ◌<◌};
+ghost use Rattle.std.specs.Prelude.{◌<◌};
+ghost use Rattle.cell_arena.specs.Loan.{Settles, Share};
 
 use crate::{Desk, Pool, Short, Stock, Ticket};
 use cell_arena::{Fields, Kind, Region, Segments};
