@@ -1,5 +1,6 @@
 -- How the cells are linked, over any look-up of them.
-use Rattle.std.specs.Prelude.{◌≡◌, ◌≢◌, ℕ, zero, suc, Bool, true, false, ◌+◌, ◌/◌, ◌^◌, ◌<◌, ◌≤◌, List, [], ◌∷◌, ◌++◌, length, Option, Some, None, count_by, slice_index_or, take, drop}
+use Rattle.std.specs.Prelude.{◌≡◌, ◌≢◌, ℕ, zero, suc, Bool, true, false, ◌+◌, ◌/◌, ◌^◌, ◌<◌, ◌≤◌, List, []}
+use Rattle.std.specs.Prelude.{◌∷◌, ◌++◌, length, Option, Some, None, count_by, slice_index_or, take, drop}
 use Rattle.cell_arena.specs.declared.cell.Cell.{Cell}
 use Rattle.cell_arena.specs.declared.cell.Cell.TheVariants.{Free, Head, Rest}
 use Rattle.cell_arena.specs.declared.cell.HeadCell.{HeadCell}
@@ -49,7 +50,8 @@ pub record Writes (old new : ℕ → Cell) (at : ℕ) (cell : Cell) : Type 0 whe
 abbrev pub IsFreeList : (ℕ → Cell) → ℕ → ℕ → Option ℕ → Type 0
 IsFreeList at bound zero link = link ≡ None
 IsFreeList at bound (suc count) link =
-    (n : ℕ) × (next : Option ℕ) × (link ≡ Some n) × (n < bound) × (at n ≡ Free next) × IsFreeList at bound count next
+    (n : ℕ) × (next : Option ℕ) × (link ≡ Some n) × (n < bound) × (at n ≡ Free next)
+    × IsFreeList at bound count next
 
 -- the list holds every free cell of the slot
 pub record IsListed (slot : Slot) : Type 0 where
@@ -74,7 +76,8 @@ AllFree slot = (n : ℕ) → is_free (slot_at slot n) ≡ true
 abbrev pub IsChain : (ℕ → Cell) → ℕ → Option ℕ → Type 0
 IsChain at zero link = link ≡ None
 IsChain at (suc count) link =
-    (n : ℕ) × (bytes : List ℕ) × (next : Option ℕ) × (link ≡ Some n) × (at n ≡ Rest bytes next) × (length bytes ≡ 48) × IsChain at count next
+    (n : ℕ) × (bytes : List ℕ) × (next : Option ℕ) × (link ≡ Some n) × (at n ≡ Rest bytes next)
+    × (length bytes ≡ 48) × IsChain at count next
 
 -- what the cells of a chain hold
 abbrev pub chain_bytes : (ℕ → Cell) → ℕ → Option ℕ → List ℕ
@@ -105,8 +108,10 @@ IsLoose at link = (n : ℕ) → link ≡ Some n → IsUnlinked at n
 
 -- each head has its chain, and no two chains meet
 pub record IsLinked (at : ℕ → Cell) : Type 0 where
-  pub short : (c : ℕ) (kind : Kind) (head : HeadCell) → at c ≡ Head kind head → head.key_len + head.value_len < 2 ^ 31
-  pub heads : (c : ℕ) (kind : Kind) (head : HeadCell) → at c ≡ Head kind head → IsChain at (head_pieces head) head.first
+  pub short : (c : ℕ) (kind : Kind) (head : HeadCell) → at c ≡ Head kind head
+      → head.key_len + head.value_len < 2 ^ 31
+  pub heads : (c : ℕ) (kind : Kind) (head : HeadCell) → at c ≡ Head kind head
+      → IsChain at (head_pieces head) head.first
   pub rests : (i n : ℕ) → link_of (at i) ≡ Some n → is_rest (at n) ≡ true
   pub single : (i j n : ℕ) → link_of (at i) ≡ Some n → link_of (at j) ≡ Some n → i ≡ j
 

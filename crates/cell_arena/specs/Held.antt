@@ -1,5 +1,6 @@
 -- What a contract sees of a region.
-use Rattle.std.specs.Prelude.{◌≡◌, ℕ, zero, suc, ◌+◌, ◌-◌, ◌*◌, ◌/◌, List, [], ◌∷◌, ◌++◌, take, length, sum_by, Option, Some, None, ℤ, refl}
+use Rattle.std.specs.Prelude.{◌≡◌, ℕ, zero, suc, ◌+◌, ◌-◌, ◌*◌, ◌/◌, List, [], ◌∷◌, ◌++◌, take, length}
+use Rattle.std.specs.Prelude.{sum_by, Option, Some, None, ℤ, refl}
 use Rattle.std.specs.Ordering.{nat_cmp}
 use Rattle.std.specs.FinMap.{FinMap, from_entries}
 use Rattle.std.specs.Coded.{Coded, code_by, coded×, coded_ℕ, coded_ℤ, coded_list, coded_option}
@@ -51,14 +52,17 @@ fields_code =
 
 abbrev pub record_code : Coded Record
 record_code =
-    code_by ((Kind × Fields) × ((List ℕ × List ℕ) × Option ℕ)) (coded× (coded× kind_code fields_code) (coded× (coded× (coded_list coded_ℕ) (coded_list coded_ℕ)) (coded_option coded_ℕ)))
+    code_by ((Kind × Fields) × ((List ℕ × List ℕ) × Option ℕ))
+    (coded× (coded× kind_code fields_code)
+    (coded× (coded× (coded_list coded_ℕ) (coded_list coded_ℕ)) (coded_option coded_ℕ)))
     (λ r. ((r.kind, r.fields), ((r.key, r.value), r.older)))
     (λ p. record { kind = p.0.0; fields = p.0.1; key = p.1.0.0; value = p.1.0.1; older = p.1.1 })
     (λ _. refl)
 
 abbrev pub held_code : Coded Held
 held_code =
-    code_by (FinMap nat_cmp Record × (ℕ × Share)) (coded× (map.code coded_ℕ record_code) (coded× coded_ℕ share_code))
+    code_by (FinMap nat_cmp Record × (ℕ × Share))
+    (coded× (map.code coded_ℕ record_code) (coded× coded_ℕ share_code))
     (λ h. (h.records, (h.free, h.share)))
     (λ p. record { records = p.0; free = p.1.0; share = p.1.1 })
     (λ _. refl)

@@ -1,5 +1,6 @@
 -- A table of segments.
-use Rattle.std.specs.Prelude.{◌≡◌, ℕ, ◌+◌, ◌-◌, ◌*◌, ◌/◌, ◌%◌, ◌^◌, ◌<◌, ◌≤◌, min, List, [], map, length, None, sum_by, slice_index_or}
+use Rattle.std.specs.Prelude.{◌≡◌, ℕ, ◌+◌, ◌-◌, ◌*◌, ◌/◌, ◌%◌, ◌^◌, ◌<◌, ◌≤◌, min, List, [], map, length}
+use Rattle.std.specs.Prelude.{None, sum_by, slice_index_or}
 use Rattle.cell_arena.specs.declared.cell.Cell.{Cell}
 use Rattle.cell_arena.specs.declared.cell.Cell.TheVariants.{Free, Head, Rest}
 use Rattle.cell_arena.specs.declared.slot.Slot.{Slot}
@@ -51,7 +52,8 @@ pub record IsTable (t : Table) : Type 0 where
   pub ready : t.ready ≤ t.drawn
   pub drawn : t.drawn ≤ t.reserved
   pub reserved : t.reserved ≤ length t.slots.items
-  pub slots : (s : ℕ) (slot : Slot) → s < length t.slots.items → slice_index_or t.slots.items s slot ≡ slot → IsSlot t.ready t.drawn (place_of t.order s) slot
+  pub slots : (s : ℕ) (slot : Slot) → s < length t.slots.items → slice_index_or t.slots.items s slot ≡ slot
+      → IsSlot t.ready t.drawn (place_of t.order s) slot
   pub busy : t.drawn ≡ sum_by busy_of t.slots.items
   pub held : t.used ≡ sum_by used_of t.slots.items
   pub used : t.used + sum_by free_of t.slots.items ≡ 64 * t.drawn

@@ -1,6 +1,8 @@
 //! Records as chains of cells.
-ghost use Rattle.std.specs.Prelude.{◌≡◌, ◌+◌, ◌*◌, ◌<◌, ◌≤◌, ◌++◌, ◌-◌, ℕ, max, length, true, Some, None, IfSome};
-ghost use Rattle.cell_arena.specs.Chain.{is_head, IsLinked, IsChain, IsLoose, SameRecords, SameRecordsBut, chain_bytes, pieces as cells_for, record_at, cost_at};
+ghost use Rattle.std.specs.Prelude.{◌≡◌, ◌+◌, ◌*◌, ◌<◌, ◌≤◌, ◌++◌, ◌-◌, ℕ, max, length, true, Some, None};
+ghost use Rattle.std.specs.Prelude.{IfSome};
+ghost use Rattle.cell_arena.specs.Chain.{is_head, IsLinked, IsChain, IsLoose, SameRecords, SameRecordsBut};
+ghost use Rattle.cell_arena.specs.Chain.{chain_bytes, pieces as cells_for, record_at, cost_at};
 ghost use Rattle.cell_arena.specs.Loan.{IsLent, Settles, KeepsShare, DrawsFor, DrawsNone};
 ghost use Rattle.cell_arena.specs.Table.{IsTable, table_at, HasSpace, share_of};
 ghost use Rattle.cell_arena.specs.Storing.{IsStored};
@@ -38,8 +40,11 @@ pub(crate) fn rest_at(table: &Table, link: Link) -> (CellNo, &[u8; 48], Link)
     ensures link { link ≡ Some result.0 }
     ensures cell { table_at table.now result.0 ≡ Cell.Rest result.1.now result.2 }
     ensures size { length result.1.now ≡ 48 }
-    ensures bytes { (count : ℕ) → 0 < count → IsChain (table_at table.now) count link → chain_bytes (table_at table.now) count link ≡ result.1.now ++ chain_bytes (table_at table.now) (count - 1) result.2 }
-    ensures rest { (count : ℕ) → 0 < count → IsChain (table_at table.now) count link → IsChain (table_at table.now) (count - 1) result.2 }
+    ensures bytes { (count : ℕ) → 0 < count → IsChain (table_at table.now) count link
+        → chain_bytes (table_at table.now) count link
+        ≡ result.1.now ++ chain_bytes (table_at table.now) (count - 1) result.2 }
+    ensures rest { (count : ℕ) → 0 < count → IsChain (table_at table.now) count link
+        → IsChain (table_at table.now) (count - 1) result.2 }
 {
     match link.cell() {
         None => unreachable!(),
@@ -103,7 +108,8 @@ fn store_bytes<S: Segments>(table: &mut Table, segments: &mut S, key: &[u8], val
     requires linked { IsLinked (table_at table.old) }
     requires space { HasSpace table.old (cells_for (length key.now + length value.now)) }
     requires lent { IsLent (share_of table.old) (S.loan segments.old) }
-    ensures stored { IsStored table.old table.new result (cells_for (length key.now + length value.now)) (key.now ++ value.now) }
+    ensures stored { IsStored table.old table.new result (cells_for (length key.now + length value.now))
+        (key.now ++ value.now) }
     ensures settles { Settles (share_of table.old) (S.loan segments.old)
         (share_of table.new) (S.loan segments.new) }
     ensures draws { DrawsFor table.new.used (share_of table.old) (share_of table.new) }
@@ -135,7 +141,8 @@ pub(crate) fn place<S: Segments>(
     ensures linked { IsLinked (table_at table.new) }
     ensures used { table.new.used ≡ table.old.used + (1 + cells_for (length key.now + length value.now)) }
     ensures fresh { record_at (table_at table.old) result ≡ None }
-    ensures placed { record_at (table_at table.new) result ≡ Some (record { kind = kind; fields = fields; key = key.now; value = value.now; older = None }) }
+    ensures placed { record_at (table_at table.new) result
+        ≡ Some (record { kind = kind; fields = fields; key = key.now; value = value.now; older = None }) }
     ensures kept { SameRecordsBut result (table_at table.old) (table_at table.new) }
     ensures length { length table.new.slots.items ≡ length table.old.slots.items }
     ensures settles { Settles (share_of table.old) (S.loan segments.old)
@@ -165,7 +172,8 @@ pub(crate) fn key_part(table: &Table, at: CellNo) -> Part
     requires head { is_head (table_at table.now at) ≡ true }
     ensures part { IsPart (table_at table.now) result }
     ensures front { result.from ≡ 0 }
-    ensures bytes { IfSome (record_at (table_at table.now) at) (λ r. part_bytes (table_at table.now) result ≡ r.key) }
+    ensures bytes { IfSome (record_at (table_at table.now) at)
+        (λ r. part_bytes (table_at table.now) result ≡ r.key) }
 {
     let (_kind, head) = head_at(table, at);
     Part {
@@ -181,7 +189,8 @@ pub(crate) fn value_part(table: &Table, at: CellNo) -> Part
     requires linked { IsLinked (table_at table.now) }
     requires head { is_head (table_at table.now at) ≡ true }
     ensures part { IsPart (table_at table.now) result }
-    ensures bytes { IfSome (record_at (table_at table.now) at) (λ r. part_bytes (table_at table.now) result ≡ r.value) }
+    ensures bytes { IfSome (record_at (table_at table.now) at)
+        (λ r. part_bytes (table_at table.now) result ≡ r.value) }
 {
     let (_kind, head) = head_at(table, at);
     Part {
@@ -199,7 +208,8 @@ pub(crate) fn set_older(table: &mut Table, at: CellNo, older: Link)
     requires head { is_head (table_at table.old at) ≡ true }
     ensures table { IsTable table.new }
     ensures linked { IsLinked (table_at table.new) }
-    ensures set { IfSome (record_at (table_at table.old) at) (λ r. record_at (table_at table.new) at ≡ Some (record r { older = older })) }
+    ensures set { IfSome (record_at (table_at table.old) at)
+        (λ r. record_at (table_at table.new) at ≡ Some (record r { older = older })) }
     ensures kept { SameRecordsBut at (table_at table.old) (table_at table.new) }
     ensures used { table.new.used ≡ table.old.used }
     ensures share { KeepsShare (share_of table.old) (share_of table.new) }

@@ -1,7 +1,8 @@
 //! A delete record with the key of another record, copied cell by cell.
 ghost use Rattle.std.specs.Prelude.{◌≡◌, ◌+◌, ◌*◌, ◌≤◌, max, length, take, [], true, None, Some, IfSome};
 ghost use Rattle.cell_arena.specs.declared.cell.Kind.{Kind};
-ghost use Rattle.cell_arena.specs.Chain.{is_head, IsLinked, IsChain, IsLoose, SameRecords, SameRecordsBut, chain_bytes, turned_bytes, pieces as cells_for, record_at};
+ghost use Rattle.cell_arena.specs.Chain.{is_head, IsLinked, IsChain, IsLoose, SameRecords, SameRecordsBut};
+ghost use Rattle.cell_arena.specs.Chain.{chain_bytes, turned_bytes, pieces as cells_for, record_at};
 ghost use Rattle.cell_arena.specs.Loan.{IsLent, Settles, KeepsShare, DrawsFor};
 ghost use Rattle.cell_arena.specs.Table.{IsTable, table_at, HasSpace, share_of};
 
@@ -31,7 +32,8 @@ fn copy_cells<S: Segments>(
     ensures linked { IsLinked (table_at table.new) }
     ensures chain { IsChain (table_at table.new) count result }
     ensures loose { IsLoose (table_at table.new) result }
-    ensures bytes { turned_bytes (table_at table.new) count result ≡ take (count * 48) (chain_bytes (table_at table.old) cells first) }
+    ensures bytes { turned_bytes (table_at table.new) count result
+        ≡ take (count * 48) (chain_bytes (table_at table.old) cells first) }
     ensures used { table.new.used ≡ table.old.used + count }
     ensures kept { SameRecords (table_at table.old) (table_at table.new) }
     ensures length { length table.new.slots.items ≡ length table.old.slots.items }
@@ -60,7 +62,8 @@ fn turn_chain(table: &mut Table, first: Link, count: usize) -> Link
     ensures linked { IsLinked (table_at table.new) }
     ensures chain { IsChain (table_at table.new) count result }
     ensures loose { IsLoose (table_at table.new) result }
-    ensures bytes { chain_bytes (table_at table.new) count result ≡ turned_bytes (table_at table.old) count first }
+    ensures bytes { chain_bytes (table_at table.new) count result
+        ≡ turned_bytes (table_at table.old) count first }
     ensures used { table.new.used ≡ table.old.used }
     ensures share { KeepsShare (share_of table.old) (share_of table.new) }
     ensures kept { SameRecords (table_at table.old) (table_at table.new) }
@@ -88,13 +91,17 @@ pub(crate) fn place_delete<S: Segments>(
     requires table { IsTable table.old }
     requires linked { IsLinked (table_at table.old) }
     requires head { is_head (table_at table.old of) ≡ true }
-    requires space { IfSome (record_at (table_at table.old) of) (λ r. HasSpace table.old (1 + cells_for (length r.key))) }
+    requires space { IfSome (record_at (table_at table.old) of)
+        (λ r. HasSpace table.old (1 + cells_for (length r.key))) }
     requires lent { IsLent (share_of table.old) (S.loan segments.old) }
     ensures table { IsTable table.new }
     ensures linked { IsLinked (table_at table.new) }
-    ensures used { IfSome (record_at (table_at table.old) of) (λ r. table.new.used ≡ table.old.used + (1 + cells_for (length r.key))) }
+    ensures used { IfSome (record_at (table_at table.old) of)
+        (λ r. table.new.used ≡ table.old.used + (1 + cells_for (length r.key))) }
     ensures fresh { record_at (table_at table.old) result ≡ None }
-    ensures placed { IfSome (record_at (table_at table.old) of) (λ r. record_at (table_at table.new) result ≡ Some (record { kind = Kind.Delete; fields = fields; key = r.key; value = []; older = None })) }
+    ensures placed { IfSome (record_at (table_at table.old) of)
+        (λ r. record_at (table_at table.new) result
+        ≡ Some (record { kind = Kind.Delete; fields = fields; key = r.key; value = []; older = None })) }
     ensures kept { SameRecordsBut result (table_at table.old) (table_at table.new) }
     ensures length { length table.new.slots.items ≡ length table.old.slots.items }
     ensures settles { Settles (share_of table.old) (S.loan segments.old)

@@ -38,7 +38,8 @@ fn piece_of(front: &[u8], back: &[u8]) -> [u8; 48]
 pub(crate) fn piece_at(key: &[u8], value: &[u8], from: usize) -> [u8; 48]
     requires { from < length key.now + length value.now }
     ensures size { length result ≡ 48 }
-    ensures bytes { take (length (key.now ++ value.now) - from) result ≡ take 48 (drop from (key.now ++ value.now)) }
+    ensures bytes { take (length (key.now ++ value.now) - from) result
+        ≡ take 48 (drop from (key.now ++ value.now)) }
 {
     if from < key.len() {
         piece_of(&key[from..], value)

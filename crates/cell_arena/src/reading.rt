@@ -18,7 +18,8 @@ use std::cmp::Ordering;
 pub(crate) fn read_part<S: Sink>(table: &Table, part: Part, sink: &mut S) -> Mem<()>
     requires { IsPart (table_at table.now) part }
     ensures ok { OnOk result (S.taken sink.new ≡ S.taken sink.old ++ part_bytes (table_at table.now) part) }
-    ensures err { OnErr result (IsFrontOf (part_bytes (table_at table.now) part) (S.taken sink.old) (S.taken sink.new)) }
+    ensures err { OnErr result
+        (IsFrontOf (part_bytes (table_at table.now) part) (S.taken sink.old) (S.taken sink.new)) }
 {
     let mut link = part.first;
     let mut cells_left = part.cells;
@@ -84,7 +85,8 @@ fn first_piece(table: &Table, part: Part) -> (&[u8], Part)
     ensures front { result.1.from ≡ 0 }
     ensures size { length result.0.now ≡ min part.count 48 }
     ensures count { result.1.count + length result.0.now ≡ part.count }
-    ensures bytes { part_bytes (table_at table.now) part ≡ result.0.now ++ part_bytes (table_at table.now) result.1 }
+    ensures bytes { part_bytes (table_at table.now) part
+        ≡ result.0.now ++ part_bytes (table_at table.now) result.1 }
 {
     let (_at, bytes, next) = rest_at(table, part.first);
     let wanted = part.count.min(CELL_BYTES);
@@ -103,7 +105,8 @@ pub fn compare_fronts(table: &Table, one: Part, other: Part) -> Ordering
     requires one_front { one.from ≡ 0 }
     requires other { IsPart (table_at table.now) other }
     requires other_front { other.from ≡ 0 }
-    ensures { result ≡ slice_cmp nat_cmp (part_bytes (table_at table.now) one) (part_bytes (table_at table.now) other) }
+    ensures { result
+        ≡ slice_cmp nat_cmp (part_bytes (table_at table.now) one) (part_bytes (table_at table.now) other) }
 {
     let mut left = one;
     let mut right = other;

@@ -1,5 +1,6 @@
 //! A store of records.
-ghost use Rattle.std.specs.Prelude.{◌≡◌, ◌+◌, ◌*◌, ◌/◌, ◌%◌, ◌≤◌, ◌^◌, ◌++◌, max, length, OnOk, OnErr, IfOk, None, IsSome, is_some, IfSome, []};
+ghost use Rattle.std.specs.Prelude.{◌≡◌, ◌+◌, ◌*◌, ◌/◌, ◌%◌, ◌≤◌, ◌^◌, ◌++◌, max, length, OnOk, OnErr};
+ghost use Rattle.std.specs.Prelude.{IfOk, None, IsSome, is_some, IfSome, []};
 ghost use Rattle.std.specs.Ordering.{nat_cmp};
 ghost use Rattle.std.specs.Cmp.Lexicographic.{slice_cmp};
 ghost use Rattle.std.specs.FinMap as map;
@@ -83,7 +84,9 @@ impl Region {
         requires space { 1 + cells_for (length key.now + length value.now) ≤ self.old.free }
         requires lent { IsLent self.old.share (S.loan segments.old) }
         ensures fresh { map.get self.old.records result ≡ None }
-        ensures placed { self.new.records ≡ map.insert self.old.records result (record { kind = kind; fields = fields; key = key.now; value = value.now; older = None }) }
+        ensures placed { self.new.records
+            ≡ map.insert self.old.records result
+            (record { kind = kind; fields = fields; key = key.now; value = value.now; older = None }) }
         ensures free { self.new.free + (1 + cells_for (length key.now + length value.now)) ≡ self.old.free }
         ensures settles { Settles self.old.share (S.loan segments.old) self.new.share (S.loan segments.new) }
         ensures draws { DrawsFor (used_cells self.new) self.old.share self.new.share }
@@ -101,11 +104,16 @@ impl Region {
         fields: Fields,
     ) -> CellNo
         requires head { IsSome (map.get self.old.records of) }
-        requires space { IfSome (map.get self.old.records of) (λ r. 1 + cells_for (length r.key) ≤ self.old.free) }
+        requires space { IfSome (map.get self.old.records of)
+            (λ r. 1 + cells_for (length r.key) ≤ self.old.free) }
         requires lent { IsLent self.old.share (S.loan segments.old) }
         ensures fresh { map.get self.old.records result ≡ None }
-        ensures placed { IfSome (map.get self.old.records of) (λ r. self.new.records ≡ map.insert self.old.records result (record { kind = Kind.Delete; fields = fields; key = r.key; value = []; older = None })) }
-        ensures free { IfSome (map.get self.old.records of) (λ r. self.new.free + (1 + cells_for (length r.key)) ≡ self.old.free) }
+        ensures placed { IfSome (map.get self.old.records of)
+            (λ r. self.new.records
+            ≡ map.insert self.old.records result
+            (record { kind = Kind.Delete; fields = fields; key = r.key; value = []; older = None })) }
+        ensures free { IfSome (map.get self.old.records of)
+            (λ r. self.new.free + (1 + cells_for (length r.key)) ≡ self.old.free) }
         ensures settles { Settles self.old.share (S.loan segments.old) self.new.share (S.loan segments.new) }
         ensures draws { DrawsFor (used_cells self.new) self.old.share self.new.share }
     {
@@ -180,7 +188,8 @@ impl Region {
     /// Sets the next older record of its key, and nothing else.
     pub fn set_older(&mut self, cell: CellNo, older: Option<CellNo>)
         requires { IsSome (map.get self.old.records cell) }
-        ensures set { IfSome (map.get self.old.records cell) (λ r. self.new.records ≡ map.insert self.old.records cell (record r { older = older })) }
+        ensures set { IfSome (map.get self.old.records cell)
+            (λ r. self.new.records ≡ map.insert self.old.records cell (record r { older = older })) }
         ensures free { self.new.free ≡ self.old.free }
         ensures share { KeepsShare self.old.share self.new.share }
     {
@@ -192,8 +201,11 @@ impl Region {
     /// Where the sink finds no memory, it was given some bytes from the key's first on.
     pub fn read_key<S: Sink>(&self, cell: CellNo, sink: &mut S) -> Mem<()>
         requires { IsSome (map.get self.now.records cell) }
-        ensures ok { OnOk result (IfSome (map.get self.now.records cell) (λ r. S.taken sink.new ≡ S.taken sink.old ++ r.key)) }
-        ensures err { OnErr result (IfSome (map.get self.now.records cell) (λ r. IsFrontOf r.key (S.taken sink.old) (S.taken sink.new))) }
+        ensures ok { OnOk result
+            (IfSome (map.get self.now.records cell) (λ r. S.taken sink.new ≡ S.taken sink.old ++ r.key)) }
+        ensures err { OnErr result
+            (IfSome (map.get self.now.records cell)
+            (λ r. IsFrontOf r.key (S.taken sink.old) (S.taken sink.new))) }
     {
         let part = chain::key_part(&self.table, cell);
         reading::read_part(&self.table, part, sink)
@@ -204,8 +216,11 @@ impl Region {
     /// Where the sink finds no memory, it was given some bytes from the value's first on.
     pub fn read_value<S: Sink>(&self, cell: CellNo, sink: &mut S) -> Mem<()>
         requires { IsSome (map.get self.now.records cell) }
-        ensures ok { OnOk result (IfSome (map.get self.now.records cell) (λ r. S.taken sink.new ≡ S.taken sink.old ++ r.value)) }
-        ensures err { OnErr result (IfSome (map.get self.now.records cell) (λ r. IsFrontOf r.value (S.taken sink.old) (S.taken sink.new))) }
+        ensures ok { OnOk result
+            (IfSome (map.get self.now.records cell) (λ r. S.taken sink.new ≡ S.taken sink.old ++ r.value)) }
+        ensures err { OnErr result
+            (IfSome (map.get self.now.records cell)
+            (λ r. IsFrontOf r.value (S.taken sink.old) (S.taken sink.new))) }
     {
         let part = chain::value_part(&self.table, cell);
         reading::read_part(&self.table, part, sink)
@@ -224,7 +239,8 @@ impl Region {
     pub fn keys_cmp(&self, cell: CellNo, other: CellNo) -> Ordering
         requires cell { IsSome (map.get self.now.records cell) }
         requires other { IsSome (map.get self.now.records other) }
-        ensures { IfSome (map.get self.now.records cell) (λ r. IfSome (map.get self.now.records other) (λ s. result ≡ slice_cmp nat_cmp r.key s.key)) }
+        ensures { IfSome (map.get self.now.records cell)
+            (λ r. IfSome (map.get self.now.records other) (λ s. result ≡ slice_cmp nat_cmp r.key s.key)) }
     {
         let one_part = chain::key_part(&self.table, cell);
         let other_part = chain::key_part(&self.table, other);

@@ -1,5 +1,6 @@
 //! A table of segments, drawn as they are needed.
-ghost use Rattle.std.specs.Prelude.{◌≡◌, ◌+◌, ◌*◌, ◌<◌, ◌≤◌, ◌/◌, ◌^◌, IfOk, max, length, false, true, ◌==◌, ◌≢◌, slice_index_or, None, MatchOption};
+ghost use Rattle.std.specs.Prelude.{◌≡◌, ◌+◌, ◌*◌, ◌<◌, ◌≤◌, ◌/◌, ◌^◌, IfOk, max, length, false, true};
+ghost use Rattle.std.specs.Prelude.{◌==◌, ◌≢◌, slice_index_or, None, MatchOption};
 ghost use Rattle.cell_arena.specs.declared.slot.Slot.{Slot};
 ghost use Rattle.cell_arena.specs.Chain.{is_free, Writes, AllBare};
 ghost use Rattle.cell_arena.specs.Loan.{IsLent, Settles, KeepsShare, DrawsFor, DrawsNone, Draws};
@@ -29,7 +30,9 @@ pub struct Table {
 /// A table with so many slots, and no segment.
 pub(crate) fn new(alloc: Global, slots: u32) -> Mem<Table>
     requires { slots ≤ 2 ^ 14 }
-    ensures { IfOk result (λ table. IsTable table × AllBare table.slots.items × (length table.slots.items ≡ slots) × (table.reserved ≡ slots) × (table.drawn ≡ 0) × (table.used ≡ 0)) }
+    ensures { IfOk result
+        (λ table. IsTable table × AllBare table.slots.items × (length table.slots.items ≡ slots)
+        × (table.reserved ≡ slots) × (table.drawn ≡ 0) × (table.used ≡ 0)) }
 {
     let order = order::new(alloc, slots)?;
     let mut all = Vec::with_capacity(alloc, slots as usize)?;
@@ -57,7 +60,8 @@ pub(crate) fn look(table: &Table, at: CellNo) -> &Cell
 
 /// The cell at a number, or none where there is no segment.
 pub(crate) fn find(table: &Table, at: CellNo) -> Option<&Cell>
-    ensures { MatchOption result (table_at table.now at ≡ Cell.Free None) (λ cell. table_at table.now at ≡ hidden cell.now) }
+    ensures { MatchOption result (table_at table.now at ≡ Cell.Free None)
+        (λ cell. table_at table.now at ≡ hidden cell.now) }
 {
     let slot = table.slots.get(at.slot() as usize)?;
     slot.cells.get(at.place() as usize)
@@ -143,7 +147,8 @@ fn free_in(table: &mut Table, number: u32, place: u32)
     requires used { is_free (table_at table.old (number * 64 + place)) ≡ false }
     requires others { (c : Slot) → slice_index_or table.old.slots.items number c ≡ c → c.free ≢ 63 }
     ensures table { IsTable table.new }
-    ensures written { Writes (table_at table.old) (table_at table.new) (number * 64 + place) (Cell.Free None) }
+    ensures written { Writes (table_at table.old) (table_at table.new) (number * 64 + place)
+        (Cell.Free None) }
     ensures used { table.new.used + 1 ≡ table.old.used }
     ensures share { KeepsShare (share_of table.old) (share_of table.new) }
     ensures length { length table.new.slots.items ≡ length table.old.slots.items }
@@ -168,7 +173,8 @@ fn empty_slot<S: Segments>(table: &mut Table, segments: &mut S, number: u32, pla
     requires last { (c : Slot) → slice_index_or table.old.slots.items number c ≡ c → c.free ≡ 63 }
     requires room { 0 < (S.loan segments.old).room }
     ensures table { IsTable table.new }
-    ensures written { Writes (table_at table.old) (table_at table.new) (number * 64 + place) (Cell.Free None) }
+    ensures written { Writes (table_at table.old) (table_at table.new) (number * 64 + place)
+        (Cell.Free None) }
     ensures used { table.new.used + 1 ≡ table.old.used }
     ensures fewer { DrawsOne (share_of table.new) (share_of table.old) }
     ensures length { length table.new.slots.items ≡ length table.old.slots.items }

@@ -18,7 +18,7 @@ impl Segments for Desk {
       left = d.ticket.reserved - d.ticket.drawn;
       room = d.ticket.drawn;
       others = d.ticket.number ∷ d.ticket.reserved ∷ (d.pool.promised + d.ticket.drawn)
-        ∷ (d.pool.free + d.ticket.drawn) ∷ (d.pool.out - d.ticket.drawn) ∷ d.pool.reservations;
+          ∷ (d.pool.free + d.ticket.drawn) ∷ (d.pool.out - d.ticket.drawn) ∷ d.pool.reservations;
     } };
 
     fn left(&self) -> u32 {

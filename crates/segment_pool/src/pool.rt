@@ -1,5 +1,6 @@
 //! The pool, and the tickets that reserve its segments.
-ghost use Rattle.std.specs.Prelude.{◌≡◌, ◌+◌, ◌-◌, ◌^◌, ◌<◌, ◌≤◌, min, length, None, Some, replicate, slice_set, IfOk, OnOk, OnErr};
+ghost use Rattle.std.specs.Prelude.{◌≡◌, ◌+◌, ◌-◌, ◌^◌, ◌<◌, ◌≤◌, min, length, None, Some, replicate};
+ghost use Rattle.std.specs.Prelude.{slice_set, IfOk, OnOk, OnErr};
 ghost use Rattle.etcd_model.specs.Pool.{IsLeastUnheld, IsHeld, AddsUp};
 
 use crate::supply::new_segments;
@@ -89,7 +90,13 @@ impl Model for Pool {
     ghost use Rattle.std.specs.Prelude.{vec_len};
     ghost use Rattle.segment_pool.specs.Sound.{IsSound};
 
-    ghost view = { λ p. record { free = vec_len p.free; promised = p.promised; out = p.out; reservations = p.reservations.items; owners = p.owners.items } };
+    ghost view = { λ p. record {
+      free = vec_len p.free;
+      promised = p.promised;
+      out = p.out;
+      reservations = p.reservations.items;
+      owners = p.owners.items;
+    } };
 
     ghost invariant = { IsSound };
 }
@@ -99,7 +106,15 @@ impl Pool {
     pub fn new(alloc: Global, segments: u32) -> Mem<Pool>
         requires some { 1 ≤ segments }
         requires most { segments ≤ MAX_SEGMENTS }
-        ensures { IfOk result (λ pool. pool ≡ record { free = segments; promised = 0; out = 0; reservations = replicate segments 0; owners = replicate segments None }) }
+        ensures { IfOk result
+            (λ pool. pool
+            ≡ record {
+              free = segments;
+              promised = 0;
+              out = 0;
+              reservations = replicate segments 0;
+              owners = replicate segments None;
+            }) }
     {
         Ok(Pool {
             free: new_segments(alloc, segments)?,
@@ -188,7 +203,8 @@ impl Pool {
     /// Reserves so many more, or says that fewer are unreserved. A reservation stays at 2^32 - 1,
     /// which no ticket of this pool comes near.
     pub fn grow(&mut self, ticket: &mut Ticket, segments: u32) -> Result<(), Short>
-        ensures ticket { OnOk result (ticket.new ≡ record ticket.old { reserved = min (ticket.old.reserved + segments) (2 ^ 32 - 1) }) }
+        ensures ticket { OnOk result (ticket.new
+            ≡ record ticket.old { reserved = min (ticket.old.reserved + segments) (2 ^ 32 - 1) }) }
         ensures pool { OnOk result (self.new ≡ record self.old {
           promised = self.old.promised + segments;
           reservations = slice_set self.old.reservations ticket.old.number ticket.new.reserved;
@@ -197,7 +213,8 @@ impl Pool {
         ensures short { OnErr result (self.old.free < self.old.promised + segments) }
         ensures err { OnErr result ((self.new ≡ self.old) × (ticket.new ≡ ticket.old)) }
 
-        ensures exact { OnOk result (AddsUp self.old → IsHeld self.old ticket.old → ticket.new.reserved ≡ ticket.old.reserved + segments) }
+        ensures exact { OnOk result (AddsUp self.old → IsHeld self.old ticket.old
+            → ticket.new.reserved ≡ ticket.old.reserved + segments) }
         ensures held { OnOk result (IsHeld self.old ticket.old → IsHeld self.new ticket.new) }
         ensures adds_up { OnOk result (AddsUp self.old → IsHeld self.old ticket.old → AddsUp self.new) }
     {
@@ -222,8 +239,10 @@ impl Pool {
 
         ensures ticket { ticket.old ≡ record ticket.new { reserved = ticket.new.reserved + segments } }
         ensures promised { self.new.promised + segments ≡ self.old.promised }
-        ensures reservations { self.new.reservations ≡ slice_set self.old.reservations ticket.old.number ticket.new.reserved }
-        ensures others { self.new ≡ record self.old { promised = self.new.promised; reservations = self.new.reservations } }
+        ensures reservations { self.new.reservations
+            ≡ slice_set self.old.reservations ticket.old.number ticket.new.reserved }
+        ensures others { self.new
+            ≡ record self.old { promised = self.new.promised; reservations = self.new.reservations } }
 
         ensures held { IsHeld self.old ticket.old → IsHeld self.new ticket.new }
         ensures adds_up { AddsUp self.old → IsHeld self.old ticket.old → AddsUp self.new }
@@ -244,7 +263,8 @@ impl Pool {
 
         ensures promised { self.new.promised + ticket.reserved ≡ self.old.promised }
         ensures reservations { self.new.reservations ≡ slice_set self.old.reservations ticket.number 0 }
-        ensures others { self.new ≡ record self.old { promised = self.new.promised; reservations = self.new.reservations } }
+        ensures others { self.new
+            ≡ record self.old { promised = self.new.promised; reservations = self.new.reservations } }
 
         ensures adds_up { AddsUp self.old → IsHeld self.old ticket → AddsUp self.new }
     {

@@ -19,7 +19,8 @@ impl Model for Stock {
 
     ghost Value = { StockState };
 
-    ghost view = { λ s. record { held = vec_len s.segments; room = vec_capacity s.segments - vec_len s.segments } };
+    ghost view = { λ s.
+        record { held = vec_len s.segments; room = vec_capacity s.segments - vec_len s.segments } };
 
     ghost invariant = { λ s. vec_capacity s.segments < 2 ^ 32 };
 }

@@ -82,7 +82,8 @@ fn a_desk_serves_one_ticket_after_another(rt: HostRuntime) -> Result<(), Fail> {
     Ok(())
 }
 
-/// Who drew each segment of a pool, once a region over a desk filled two of them and let the record of one go.
+/// Who drew each segment of a pool, once a region over a desk filled two of them and let the record
+/// of one go.
 fn layout_left(alloc: Global, first_goes: bool) -> Mem<Vec<Option<u32>>> {
     let mut pool = Pool::new(alloc, 3)?;
     let Ok(ticket) = pool.reserve(2) else {

@@ -1,5 +1,6 @@
 -- How a step is decided: the words of single parts.
-use Rattle.std.specs.Prelude.{◌≡◌, ◌&&◌, ◌||◌, not, Bool, ℤ, [], ◌∷◌, nat_lt, Option, is_some, true, if◌then◌else◌}
+use Rattle.std.specs.Prelude.{◌≡◌, ◌&&◌, ◌||◌, not, Bool, ℤ, [], ◌∷◌, nat_lt, Option, is_some, true}
+use Rattle.std.specs.Prelude.{if◌then◌else◌}
 use Rattle.etcd_types.specs.declared.step.Step.{Step}
 use Rattle.etcd_types.specs.declared.refusal.Refusal.{Refusal}
 use Rattle.etcd_types.specs.declared.refusal.Refusal.TheVariants.{NoSpace}
@@ -23,13 +24,16 @@ use Rattle.tenant_machine.specs.Plans.{Plan, after_effect, written}
 abbrev pub gate : State Store → Step → Option Refusal
 gate t step = first_refusal (early kept_store t step ∷ refused_if (t.alarm && may_add step) NoSpace ∷ [])
 
--- a step that is refused before the quota is asked: it is not offered, or the gate stops it, or what is looked up does
+-- a step that is refused before the quota is asked: it is not offered, or the gate stops it, or
+-- what is looked up does
 abbrev pub is_stopped : State Store → Step → Bool
 is_stopped t step = not (is_offered step) || is_some (gate t step) || is_some (look_up kept_store t step)
 
--- what comes of a step that these let through: a refusal of what is looked up, or what it does, if it is within the quota
+-- what comes of a step that these let through: a refusal of what is looked up, or what it does, if
+-- it is within the quota
 abbrev pub past_gate : State Store → Step → Outcome Store
-past_gate t step = within_quota kept_store t step (decided kept_store t step (look_up kept_store t step)) (look_up kept_store t step)
+past_gate t step = within_quota kept_store t step (decided kept_store t step (look_up kept_store t step))
+    (look_up kept_store t step)
 
 -- a plan does what is to come of a step
 pub record Does (m : MachineState) (p : Plan) (o : Outcome Store) : Type 0 where
@@ -39,12 +43,17 @@ pub record Does (m : MachineState) (p : Plan) (o : Outcome Store) : Type 0 where
 abbrev pub header_at : MachineState → ℤ → Header
 header_at m revision = record { cluster = m.cluster; revision = revision }
 
--- what comes of a transaction that is planned: its changes, or where it puts and they pass the quota, the alarm
+-- what comes of a transaction that is planned: its changes, or where it puts and they pass the
+-- quota, the alarm
 abbrev pub txn_outcome : MachineState → PlannedTxn → Outcome Store
 txn_outcome m planned =
     let after = record (tenant m) { store = written m.store planned.plan } in
-    if planned.adds && nat_lt m.quota (used kept_store after) then record { state = record (tenant m) { alarm = true }; reply = Refused NoSpace }
-    else record { state = after; reply = Txn (header_at m planned.revision) planned.succeeded planned.responses }
+    if planned.adds && nat_lt m.quota (used kept_store after)
+    then record { state = record (tenant m) { alarm = true }; reply = Refused NoSpace }
+    else record {
+      state = after;
+      reply = Txn (header_at m planned.revision) planned.succeeded planned.responses;
+    }
 
 -- the revision that an operation is answered with
 abbrev pub revision_of : OpReply → ℤ

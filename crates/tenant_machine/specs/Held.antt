@@ -43,8 +43,8 @@ tenant m = record {
   slots = replicate watch_slots None;
 }
 
--- The cells in use are counted, and they and the quota are within the segments that are reserved. That the store is
--- sound it promises itself.
+-- The cells in use are counted, and they and the quota are within the segments that are reserved.
+-- That the store is sound it promises itself.
 pub record IsMachine (store : StoreState) (quota : Quota) : Type 0 where
   pub used : quota.used ≡ cells store.kept
   pub leases : store.lease_cells ≡ 0

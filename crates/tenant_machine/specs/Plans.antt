@@ -1,7 +1,8 @@
 -- What is planned for a step, and what its commit makes of a machine.
 use Rattle.std.specs.Prelude.{◌≡◌, ◌≢◌, ℕ, ◌+◌, ◌*◌, ◌<◌, ◌≤◌, ◌^◌, Bool, true, false, List}
 use Rattle.etcd_types.specs.declared.step.Step.{Step}
-use Rattle.etcd_types.specs.declared.step.Step.TheVariants.{Compact, DropWatch, Revoke, KeepAlive, Alarm, Status, Defragment, Tick, CatchUp}
+use Rattle.etcd_types.specs.declared.step.Step.TheVariants.{Compact, DropWatch, Revoke, KeepAlive, Alarm}
+use Rattle.etcd_types.specs.declared.step.Step.TheVariants.{Status, Defragment, Tick, CatchUp}
 use Rattle.etcd_types.specs.declared.refusal.Refusal.TheVariants.{Memory}
 use Rattle.etcd_types.specs.declared.reply.Reply.{Reply}
 use Rattle.etcd_types.specs.declared.reply.Reply.TheVariants.{Refused}
@@ -56,23 +57,27 @@ FitsEffect m (effect.Compact revision) = FitsCompaction m.store revision
 abbrev pub Fits : MachineState → Plan → Type 0
 Fits m p = FitsEffect m p.effect
 
--- What a commit leaves is the tenant as planned. How many segments are drawn, and which cells the records have, is
--- left open.
+-- What a commit leaves is the tenant as planned. How many segments are drawn, and which cells the
+-- records have, is left open.
 abbrev pub IsAfter : MachineState → Plan → MachineState → Type 0
 IsAfter m p n = tenant n ≡ after_effect m p.effect
 
 -- ---- what is promised of a plan and of a step
 
--- whatever state is held, the reply is that of the machine as it is built, and its next state is held after the commit
+-- whatever state is held, the reply is that of the machine as it is built, and its next state is
+-- held after the commit
 pub record Plans (m : MachineState) (step : Step) (p : Plan) : Type 0 where
   pub spoken : p.reply ≢ Refused Memory
   pub reply : (S : State History) → Holds S (tenant m) → p.reply ≡ (built_machine S step).reply
-  pub state : (S : State History) (n : MachineState) → Holds S (tenant m) → IsAfter m p n → Holds (built_machine S step).state (tenant n)
+  pub state : (S : State History) (n : MachineState) → Holds S (tenant m) → IsAfter m p n
+      → Holds (built_machine S step).state (tenant n)
 
 -- the same of a step, which for want of memory changes nothing
 pub record Steps (m : MachineState) (step : Step) (reply : Reply) (n : MachineState) : Type 0 where
-  pub told : (S : State History) → Holds S (tenant m) → reply ≢ Refused Memory → reply ≡ (built_machine S step).reply
-  pub state : (S : State History) → Holds S (tenant m) → reply ≢ Refused Memory → Holds (built_machine S step).state (tenant n)
+  pub told : (S : State History) → Holds S (tenant m) → reply ≢ Refused Memory
+      → reply ≡ (built_machine S step).reply
+  pub state : (S : State History) → Holds S (tenant m) → reply ≢ Refused Memory
+      → Holds (built_machine S step).state (tenant n)
   pub memory : reply ≡ Refused Memory → n ≡ m
 
 -- a step that may find no memory: the others take none

@@ -10,7 +10,8 @@ ghost use Rattle.etcd_model.specs.Store.{kept_store, reserved_cells};
 ghost use Rattle.etcd_model.specs.Tenant.{used};
 ghost use Rattle.tenant_machine.specs.Deciding.{is_stopped};
 ghost use Rattle.tenant_machine.specs.Held.{tenant};
-ghost use Rattle.tenant_machine.specs.Plans.{Fits, FitsCompaction, FitsWrite, IsAfter, Plans, Steps, takes_memory, written};
+ghost use Rattle.tenant_machine.specs.Plans.{Fits, FitsCompaction, FitsWrite, IsAfter, Plans, Steps};
+ghost use Rattle.tenant_machine.specs.Plans.{takes_memory, written};
 
 use crate::planned::{Effect, Planned};
 use cell_arena::Segments;
@@ -50,13 +51,14 @@ pub fn segments_for(quota: u32) -> u32
 }
 
 impl Machine {
-    /// A new tenant, whose empty store is at the first revision. Takes all memory that commits need, but for their
-    /// segments: these are lent to each commit.
+    /// A new tenant, whose empty store is at the first revision. Takes all memory that commits
+    /// need, but for their segments: these are lent to each commit.
     pub fn new(alloc: Global, cluster: u64, quota: u32, first: i64) -> Mem<Machine>
         requires cluster { 1 ≤ cluster }
         requires quota { (min_quota ≤ quota) × (quota ≤ max_quota) }
         requires first { (pos 1 ≤ℤ first) × (first ≤ℤ pos last_revision) }
-        ensures holds { (n : ℕ) → first ≡ pos n → IfOk result (λ m. Holds (opening cluster quota n) (tenant m)) }
+        ensures holds { (n : ℕ) → first ≡ pos n
+            → IfOk result (λ m. Holds (opening cluster quota n) (tenant m)) }
         ensures share { IfOk result (λ m. m.store.share ≡ undrawn (segments_for quota)) }
     {
         let cells = segments_for(quota) * SEGMENT_CELLS;
@@ -67,8 +69,8 @@ impl Machine {
         })
     }
 
-    /// Decides a step. Where it finds no memory, nothing is decided. Compactions, alarms, ticks and others need none, and
-    /// no step does that is refused before the quota is asked.
+    /// Decides a step. Where it finds no memory, nothing is decided. Compactions, alarms, ticks and
+    /// others need none, and no step does that is refused before the quota is asked.
     pub fn plan(&self, alloc: Global, step: &Step) -> Mem<Planned>
         ensures plans { IfOk result (λ p. Plans self.now step.now p) }
         ensures fits { IfOk result (λ p. Fits self.now p) }
@@ -78,17 +80,15 @@ impl Machine {
         self.plan_built(alloc, step)
     }
 
-    /// Makes what was planned, of the machine as it was then. It is lent the segments that the store may draw and give
-    /// back. It takes no memory and cannot fail.
+    /// Makes what was planned, of the machine as it was then. It is lent the segments that the
+    /// store may draw and give back. It takes no memory and cannot fail.
     pub fn commit<S: Segments>(&mut self, segments: &mut S, planned: Planned) -> Reply
         requires fits { Fits self.old planned }
         requires lent { IsLent self.old.store.share (S.loan segments.old) }
         ensures reply { result ≡ planned.reply }
         ensures after { IsAfter self.old planned self.new }
-        ensures settles {
-            Settles self.old.store.share (S.loan segments.old)
-                self.new.store.share (S.loan segments.new)
-        }
+        ensures settles { Settles self.old.store.share (S.loan segments.old)
+            self.new.store.share (S.loan segments.new) }
     {
         let Planned { effect, reply } = planned;
         match effect {
@@ -107,10 +107,8 @@ impl Machine {
         ensures steps { Steps self.old step.now result self.new }
         ensures sure { takes_memory step.now ≡ false → result ≢ Refused Memory }
         ensures stopped { is_stopped (tenant self.old) step.now ≡ true → result ≢ Refused Memory }
-        ensures settles {
-            Settles self.old.store.share (S.loan segments.old)
-                self.new.store.share (S.loan segments.new)
-        }
+        ensures settles { Settles self.old.store.share (S.loan segments.old)
+            self.new.store.share (S.loan segments.new) }
     {
         match self.plan(alloc, step) {
             Ok(planned) => self.commit(segments, planned),
@@ -125,9 +123,12 @@ impl Machine {
         self.cluster
     }
 
-    /// The cells that records take: those that count against the quota, without the room that is held for deletes.
+    /// The cells that records take: those that count against the quota, without the room that is
+    /// held for deletes.
     pub fn used_cells(&self) -> u32
-        ensures { result ≡ used kept_store (tenant self.now) - reserved_cells self.now.store.kept.current self.now.store.kept.changes }
+        ensures { result
+            ≡ used kept_store (tenant self.now) - reserved_cells self.now.store.kept.current
+            self.now.store.kept.changes }
     {
         self.store.used_cells()
     }
@@ -137,10 +138,8 @@ impl Machine {
         requires fits { FitsWrite self.old.store plan used }
         requires lent { IsLent self.old.store.share (S.loan segments.old) }
         ensures tenant { tenant self.new ≡ record (tenant self.old) { store = written self.old.store plan } }
-        ensures settles {
-            Settles self.old.store.share (S.loan segments.old)
-                self.new.store.share (S.loan segments.new)
-        }
+        ensures settles { Settles self.old.store.share (S.loan segments.old)
+            self.new.store.share (S.loan segments.new) }
     {
         self.store.commit(segments, plan);
         self.quota.used = used;
@@ -150,11 +149,10 @@ impl Machine {
     fn compact<S: Segments>(&mut self, segments: &mut S, revision: u64)
         requires fits { FitsCompaction self.old.store revision }
         requires lent { IsLent self.old.store.share (S.loan segments.old) }
-        ensures tenant { tenant self.new ≡ record (tenant self.old) { store = kept_store.compact self.old.store.kept revision } }
-        ensures settles {
-            Settles self.old.store.share (S.loan segments.old)
-                self.new.store.share (S.loan segments.new)
-        }
+        ensures tenant { tenant self.new
+            ≡ record (tenant self.old) { store = kept_store.compact self.old.store.kept revision } }
+        ensures settles { Settles self.old.store.share (S.loan segments.old)
+            self.new.store.share (S.loan segments.new) }
     {
         // The store tells with its revision that it is sound.
         self.store.current();

@@ -11,8 +11,9 @@ use etcd_types::limits::CELL_BYTES;
 use etcd_types::{AlarmAction, AlarmKind, AlarmReq, Reply};
 
 impl Machine {
-    /// This member's alarm is listed by a get, raised by an activate and taken off by a deactivate. No other alarm and
-    /// no other member is there: what is asked of one lists nothing and changes nothing.
+    /// This member's alarm is listed by a get, raised by an activate and taken off by a deactivate.
+    /// No other alarm and no other member is there: what is asked of one lists nothing and changes
+    /// nothing.
     pub(crate) fn plan_alarm(&self, request: &AlarmReq) -> Planned
         ensures does { Does self.now result (past_gate (tenant self.now) (Alarm request.now)) }
         ensures fits { Fits self.now result }

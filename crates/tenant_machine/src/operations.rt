@@ -22,7 +22,8 @@ use txn_plan::{PlannedTxn, lease_refusal};
 impl Machine {
     pub(crate) fn plan_range(&self, alloc: Global, request: &RangeReq) -> Mem<Planned>
         ensures does { IfOk result (λ p. Does self.now p (past_gate (tenant self.now) (Range request.now))) }
-        ensures sure { is_some (look_up kept.kept_store (tenant self.now) (Range request.now)) ≡ true → IsOk result }
+        ensures sure { is_some (look_up kept.kept_store (tenant self.now) (Range request.now)) ≡ true
+            → IsOk result }
         ensures fits { IfOk result (λ p. Fits self.now p) }
     {
         Ok(match self.store.plan_range(alloc, request)? {
@@ -35,7 +36,8 @@ impl Machine {
     pub(crate) fn plan_put(&self, alloc: Global, request: &PutReq) -> Mem<Planned>
         requires { self.now.store.kept.current < last_revision }
         ensures does { IfOk result (λ p. Does self.now p (past_gate (tenant self.now) (Put request.now))) }
-        ensures sure { is_some (look_up kept.kept_store (tenant self.now) (Put request.now)) ≡ true → IsOk result }
+        ensures sure { is_some (look_up kept.kept_store (tenant self.now) (Put request.now)) ≡ true
+            → IsOk result }
         ensures fits { IfOk result (λ p. Fits self.now p) }
     {
         if let Some(refusal) = lease_refusal(request.lease) {
@@ -47,7 +49,8 @@ impl Machine {
         })
     }
 
-    /// A delete of an interval. It takes the room that was held for it, and so as many cells are in use as before.
+    /// A delete of an interval. It takes the room that was held for it, and so as many cells are in
+    /// use as before.
     pub(crate) fn plan_delete(&self, alloc: Global, request: &DeleteReq) -> Mem<Planned>
         requires { self.now.store.kept.current < last_revision }
         ensures does { IfOk result (λ p. Does self.now p (past_gate (tenant self.now) (Delete request.now))) }
@@ -77,7 +80,8 @@ impl Machine {
         requires fields { txn_fields request.now ≡ None }
         requires revisions { writes (Txn request.now) ≡ true → self.now.store.kept.current < last_revision }
         ensures does { IfOk result (λ p. Does self.now p (past_gate (tenant self.now) (Txn request.now))) }
-        ensures sure { is_some (look_up kept.kept_store (tenant self.now) (Txn request.now)) ≡ true → IsOk result }
+        ensures sure { is_some (look_up kept.kept_store (tenant self.now) (Txn request.now)) ≡ true
+            → IsOk result }
         ensures fits { IfOk result (λ p. Fits self.now p) }
     {
         // The store tells with its revision that it is sound.
@@ -88,13 +92,14 @@ impl Machine {
         })
     }
 
-    /// What comes of a transaction that is not refused. The quota is asked where the branch that is taken has a put:
-    /// deletes take the room that was held for them.
+    /// What comes of a transaction that is not refused. The quota is asked where the branch that is
+    /// taken has a put: deletes take the room that was held for them.
     fn transaction(&self, planned: PlannedTxn) -> Planned
         requires plan { IsPlanFor self.now.store planned.plan }
         requires adds { planned.adds ≡ true → self.now.store.kept.current < last_revision }
         requires writes { is_empty planned.plan ≡ false → self.now.store.kept.current < last_revision }
-        requires keeps { planned.adds ≡ false → kept.cells (written self.now.store planned.plan) ≡ kept.cells self.now.store.kept }
+        requires keeps { planned.adds ≡ false → kept.cells (written self.now.store planned.plan)
+            ≡ kept.cells self.now.store.kept }
         ensures does { Does self.now result (txn_outcome self.now planned) }
         ensures fits { Fits self.now result }
     {
@@ -119,12 +124,18 @@ impl Machine {
         }
     }
 
-    /// Writes of which one at least adds, unless more cells were in use then than the quota has: that raises the alarm.
+    /// Writes of which one at least adds, unless more cells were in use then than the quota has:
+    /// that raises the alarm.
     fn within_quota(&self, plan: Plan, reply: Reply) -> Planned
         requires plan { IsPlanFor self.now.store plan }
         requires revisions { self.now.store.kept.current < last_revision }
-        ensures admitted { kept.cells (written self.now.store plan) ≤ self.now.quota → result ≡ record { effect = Effect.Write plan (kept.cells (written self.now.store plan)); reply = reply } }
-        ensures refused { self.now.quota < kept.cells (written self.now.store plan) → result ≡ record { effect = Effect.Alarm true; reply = Refused NoSpace } }
+        ensures admitted { kept.cells (written self.now.store plan) ≤ self.now.quota
+            → result ≡ record {
+              effect = Effect.Write plan (kept.cells (written self.now.store plan));
+              reply = reply;
+            } }
+        ensures refused { self.now.quota < kept.cells (written self.now.store plan)
+            → result ≡ record { effect = Effect.Alarm true; reply = Refused NoSpace } }
         ensures fits { Fits self.now result }
     {
         let growth = self.store.growth(&plan);

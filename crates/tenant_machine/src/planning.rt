@@ -32,7 +32,8 @@ impl Machine {
         }
     }
 
-    /// What refuses a step before anything is looked up: its fields, then revisions that are used up, then the alarm.
+    /// What refuses a step before anything is looked up: its fields, then revisions that are used
+    /// up, then the alarm.
     fn gate(&self, step: &Step) -> Option<Refusal>
         requires { is_offered step.now ≡ true }
         ensures { result ≡ gate (tenant self.now) step.now }

@@ -29,7 +29,8 @@ impl Model for Shelf {
 
     ghost Value = { Counts };
 
-    ghost view = { λ s. record { held = vec_len s.segments; room = vec_capacity s.segments - vec_len s.segments } };
+    ghost view = { λ s.
+        record { held = vec_len s.segments; room = vec_capacity s.segments - vec_len s.segments } };
 
     ghost invariant = { λ s. vec_capacity s.segments < 2 ^ 32 };
 }
