@@ -1,11 +1,11 @@
-# make run            builds the proved replay program and answers examples/first.script
-# make try            the same without proofs, for a quick look
+# make run            proves and builds the replay program and answers examples/first.script
+# make try            the same answers without proofs, for a quick look
 # make test           the gate: every proof, every test, the rows and the fast scripts
 # make wrong-bodies   tries the wrong bodies that the gate leaves out, in a scratch clone
 .PHONY: run try test wrong-bodies
 
 run:
-	@scripts/build-replay
+	@scripts/prove etcd_replay
 	@crates/etcd_replay/out/etcd_replay < examples/first.script
 
 try:
