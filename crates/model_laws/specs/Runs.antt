@@ -10,8 +10,8 @@ use Rattle.etcd_model.specs.Tenant.{used}
 use Rattle.etcd_model.specs.Machine.{history, machine, opening, state_after}
 use Rattle.etcd_model.specs.Held.{IsHistory, IsFull, HasKeys, HasLeases, HoldsLeased, IsState}
 
--- The revisions and the live keys together stay within the last revision at which a write begins and a bound on
--- the cells: a write ends at that revision at most, and each further one, when leases end, takes a live key.
+-- The revisions and the live keys together stay within the last revision at which a write begins and a bound
+-- on the cells: a write ends there at most, and each further revision, when leases end, takes a live key.
 abbrev pub FitsRevisions : ℕ → State History → Type 0
 FitsRevisions bound S =
     current S.store + length (rows S.store every_key (current S.store)) ≤ last_revision + bound

@@ -14,7 +14,7 @@ use Rattle.model_laws.proofs.HistoryKeptLaws.{no_more, fewer}
 use Rattle.model_laws.proofs.NumberLaws.{recorded_have_numbers}
 use Rattle.model_laws.proofs.OnceStoreLaws.{keys_apart, recorded_where_once}
 use Rattle.model_laws.proofs.RecordedLaws.{all_append, all_push, all_weaker, live_later}
-use Rattle.key_index.specs.Entries.{Cells}
+use Rattle.key_index.specs.Links.{Cells}
 use Rattle.revision_store.specs.declared.plan.Write.{Write}
 use Rattle.revision_store.specs.declared.plan.Write.TheVariants.{Put, Delete}
 use Rattle.revision_store.specs.Logged.{LogState}

@@ -5,7 +5,7 @@ use Rattle.std.proofs.lemmas.List.Sums.{sum_by-cons}
 use Rattle.etcd_model.specs.Changes.{Recorded}
 use Rattle.etcd_model.specs.Kept.{cost_delete}
 use Rattle.model_laws.proofs.RecordedLaws.{all_push}
-use Rattle.key_index.specs.Entries.{Cells, Entry, change_at}
+use Rattle.key_index.specs.Links.{Cells, Linked, change_at}
 use Rattle.revision_store.specs.declared.plan.Write.{Write}
 use Rattle.revision_store.specs.declared.plan.Write.TheVariants.{Put, Delete}
 use Rattle.revision_store.specs.Recorded.{cells_of, leases_of}
@@ -16,7 +16,7 @@ use Rattle.revision_store.specs.Appending.{IsAppending}
 change_there : (cells : Cells) (c : ℕ) → IsSome (cells c) → (x : Recorded) × (change_at cells c ≡ Some x)
 change_there cells c some = by_case (cells c) some
   where
-    by_case : (o : Option Entry) → IsSome o → (x : Recorded) × (option_map (λ e. e.change) o ≡ Some x)
+    by_case : (o : Option Linked) → IsSome o → (x : Recorded) × (option_map (λ e. e.change) o ≡ Some x)
     by_case None some = absurd (cc)
     by_case (Some e) some = (e.change, refl)
 

@@ -8,7 +8,7 @@ use Rattle.cell_arena.specs.Chain.{Record}
 use Rattle.cell_arena.specs.Held.{Held, record_code}
 use Rattle.etcd_model.specs.Changes.{Recorded as Change, Rises}
 use Rattle.etcd_model.specs.Store.{record_cells}
-use Rattle.key_index.specs.Entries.{Cells, IsChained, change_at}
+use Rattle.key_index.specs.Links.{Cells, IsChained, change_at}
 use Rattle.key_index.specs.Index.{Heads, IsIndexOf}
 use Rattle.key_index.specs.Order.{AreAll, changes_in}
 use Rattle.revision_store.specs.Codes.{changes_code}
@@ -31,7 +31,7 @@ log_code =
     (λ p. record { changes = p.0; records = p.1.0; lease_cells = p.1.1.0.0; free = p.1.1.0.1; reserved = p.1.1.1.0; drawn = p.1.1.1.1 })
     (λ _. refl)
 
--- index, links, order and rooms agree with the records, and each cell in use is of a change or a lease
+-- index, links, order and capacities agree with the records, and each cell in use is of a change or a lease
 pub record IsLog (region : Held) (heads : Heads) (order : List ℕ) (places lease_cells : ℕ) : Type 0 where
   pub index : IsIndexOf (cells_of region.records) heads.cells
   pub chained : IsChained (cells_of region.records)
@@ -41,8 +41,8 @@ pub record IsLog (region : Held) (heads : Heads) (order : List ℕ) (places leas
   pub leases : AreCounted (leases_of region.records) lease_cells
   pub space : region.free + record_cells (changes_in (cells_of region.records) order) + lease_cells ≡ 64 * region.reserved
   pub most : 64 * region.reserved ≤ 2 ^ 20
-  pub index_room : 64 * region.reserved ≤ heads.room
-  pub order_room : 64 * region.reserved ≤ places
+  pub index_capacity : 64 * region.reserved ≤ heads.capacity
+  pub order_capacity : 64 * region.reserved ≤ places
 
 -- how many cells are in use
 abbrev pub used_in : LogState → ℕ

@@ -9,8 +9,8 @@ use Rattle.revision_store.specs.Plans.{recorded_in}
 use Rattle.revision_store.proofs.Logged.{order_fits, heads_fit, index_before, chained_before, placed_newest, changes_more, changes_stay, log_more}
 use Rattle.revision_store.proofs.log.Log.append.Goals as goal
 
-pub add-requires-clause-room : goal.add-requires-clause-room
-add-requires-clause-room g c = heads_fit c.place-cell.new.region c.place-cell.result c.args.revision c.args.write.now c.self.invariant c.place-cell.ensures.fresh c.place-cell.ensures.placed c.place-cell.ensures.free
+pub add-requires-clause-capacity : goal.add-requires-clause-capacity
+add-requires-clause-capacity g c = heads_fit c.place-cell.new.region c.place-cell.result c.args.revision c.args.write.now c.self.invariant c.place-cell.ensures.fresh c.place-cell.ensures.placed c.place-cell.ensures.free
 
 pub add-requires-clause-placed : goal.add-requires-clause-placed
 add-requires-clause-placed g c =
@@ -37,7 +37,7 @@ invariant_of-self g c =
     let leases : leases_of r2.records ≡ leases_of c.self.inside.region.records = fun_ext rest.leases ∙ c.place-cell.ensures.leases in
     rw (c.push_reserved.ensures.items, c.push_reserved.ensures.capacity)
     (log_more c.place-cell.new.region c.place-cell.result c.args.revision c.args.write.now c.self.invariant c.place-cell.ensures.fresh c.place-cell.ensures.placed c.place-cell.ensures.free
-    r2 c.add.ensures.same c.add.new.self up c.add.ensures.index c.add.ensures.chained c.add.ensures.room leases c.add.new.records.plain c.add.ensures.free (rest.reserved ∙ c.place-cell.ensures.reserved))
+    r2 c.add.ensures.same c.add.new.self up c.add.ensures.index c.add.ensures.chained c.add.ensures.capacity leases c.add.new.records.plain c.add.ensures.free (rest.reserved ∙ c.place-cell.ensures.reserved))
 
 pub returns-clause-changes : goal.returns-clause-changes
 returns-clause-changes g c =
