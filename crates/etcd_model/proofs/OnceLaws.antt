@@ -36,7 +36,8 @@ use Rattle.etcd_model.specs.Tenant.{reads}
 use Rattle.etcd_model.specs.Leases.{attached, finish, run_out}
 use Rattle.etcd_model.specs.Stepping.{outcome, pending}
 use Rattle.etcd_model.specs.Machine.{State, history, machine, opening, state_after, reads_of}
-use Rattle.etcd_model.proofs.RowLaws.{by_key, filter-none, later_key, all_rows}
+use Rattle.etcd_model.specs.Order.{by_key}
+use Rattle.etcd_model.proofs.RowLaws.{filter-none, later_key, all_rows}
 use Rattle.etcd_model.proofs.HistoryLaws.{changes_of, next_row, kv-current_after, kv-key}
 use Rattle.etcd_model.proofs.PutLaws.{rows_ascend, rows-interval, ChangesOnce, one_change}
 use Rattle.etcd_model.proofs.GrowthLaws.{after_step, first_none, store_stays}

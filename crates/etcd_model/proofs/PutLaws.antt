@@ -17,7 +17,8 @@ use Rattle.etcd_model.specs.History.{History, Change, Set, Del, Entry, key_of, c
 pub use Rattle.etcd_model.specs.Changes.{ChangesOnce}
 use Rattle.etcd_model.specs.Interval.{is_in, every_key}
 use Rattle.etcd_model.proofs.OrderLaws.{keys_in_order, any-keys_in_order}
-use Rattle.etcd_model.proofs.RowLaws.{by_key, all_rows, sorted-rows, filter-rows, rows_of_one, find-rows, rows-put_in}
+use Rattle.etcd_model.specs.Order.{by_key}
+use Rattle.etcd_model.proofs.RowLaws.{all_rows, sorted-rows, filter-rows, rows_of_one, find-rows, rows-put_in}
 use Rattle.etcd_model.proofs.HistoryLaws.{entry_at, is_past, changes_of, entries-after, kv-after, kv-key, kv-mod_revision, version-past, version_of, created_at, next_row}
 
 -- ---- the rows of a history

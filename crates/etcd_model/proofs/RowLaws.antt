@@ -12,12 +12,8 @@ use Rattle.std.specs.declared.cmp.Ordering.TheVariants.{Less, Equal, Greater}
 use Rattle.std.proofs.lemmas.Bool.{or_parts, or_from}
 use Rattle.std.proofs.lemmas.List.Elements.{All-nil, All-cons}
 use Rattle.etcd_types.specs.declared.key_value.KeyValue.{KeyValue}
-use Rattle.etcd_model.specs.Order.{beside, put_in, key_cmp}
+use Rattle.etcd_model.specs.Order.{beside, put_in, key_cmp, by_key}
 use Rattle.etcd_model.proofs.OrderLaws.{below_less, below_tied, sorted-put_in, any-put_in_keys, tied_keys, bytes_eq-key_cmp}
-
--- rows by their keys
-abbrev pub by_key : KeyValue → KeyValue → Ordering
-by_key a b = key_cmp a.key b.key
 
 find-filter : {X : Type 0} (test : X → Bool) (xs : List X) → find test xs ≡ slice_get (filter test xs) 0
 find-filter test [] = refl

@@ -5,6 +5,7 @@ use Rattle.std.specs.Ordering.{nat_cmp, is_lt, is_le}
 use Rattle.std.specs.declared.cmp.Ordering.{Ordering}
 use Rattle.std.specs.declared.cmp.Ordering.TheVariants.{Less, Equal, Greater}
 use Rattle.std.specs.Cmp.Lexicographic.{slice_cmp}
+use Rattle.etcd_types.specs.declared.key_value.KeyValue.{KeyValue}
 
 -- x at the head of a list whose head is y, by how x stands to y; `rest` is the tail with x in it
 abbrev pub beside : {X : Type 0} → Ordering → X → X → List X → List X → List X
@@ -30,3 +31,7 @@ key_lt a b = is_lt (key_cmp a b)
 
 abbrev pub key_le : List ℕ → List ℕ → Bool
 key_le a b = is_le (key_cmp a b)
+
+-- rows by their keys
+abbrev pub by_key : KeyValue → KeyValue → Ordering
+by_key a b = key_cmp a.key b.key

@@ -3,13 +3,13 @@ use Rattle.std.proofs.Common.{◌≡◌, ◌≢◌, ℕ, ◌+◌, List, [], ◌�
 use Rattle.std.proofs.lemmas.Bool.{cases_eq}
 use Rattle.std.proofs.lemmas.List.Sums.{sum_by-cons}
 use Rattle.etcd_model.specs.Changes.{Recorded}
-use Rattle.key_index.specs.Entries.{Cells, Entry, without, linked, with_older}
+use Rattle.key_index.specs.Links.{Cells, Linked, without, with_link, with_older}
 use Rattle.key_index.specs.Compaction.{cost_of, held, times, EachOnce, GivesBack}
 use Rattle.key_index.proofs.Links.{if_same, if_other}
 
 -- a cell with a record had one
 abbrev pub Within : Cells → Cells → Type 0
-Within new old = (c : ℕ) (e : Entry) → new c ≡ Some e → (f : Entry) × (old c ≡ Some f)
+Within new old = (c : ℕ) (e : Linked) → new c ≡ Some e → (f : Linked) × (old c ≡ Some f)
 
 pub once_within : (new old : Cells) (cs : List ℕ) → Within new old → EachOnce old cs → EachOnce new cs
 once_within new old cs within once c e has = let f = within c e has in once c f.0 f.1
@@ -65,21 +65,21 @@ module _ (cost : Recorded → ℕ) (m : Cells) (c : ℕ) where
       ]
 
 module _ (cost : Recorded → ℕ) (m : Cells) (c : ℕ) (o : Option ℕ) where
-  same_cost : (q : Option Entry) → cost_of cost (option_map (with_older o) q) ≡ cost_of cost q
+  same_cost : (q : Option Linked) → cost_of cost (option_map (with_older o) q) ≡ cost_of cost q
   same_cost None = refl
   same_cost (Some e) = refl
 
-  linked_cost : (x : ℕ) → cost_of cost (linked m c o x) ≡ cost_of cost (m x)
+  linked_cost : (x : ℕ) → cost_of cost (with_link m c o x) ≡ cost_of cost (m x)
   linked_cost x = elim (cases_eq x c) [
-    | inl eq ↦ subst (λ (y : ℕ). cost_of cost (linked m c o y) ≡ cost_of cost (m y)) (sym eq) (ap (cost_of cost) (if_same c (option_map (with_older o) (m c)) (m c)) ∙ same_cost (m c))
+    | inl eq ↦ subst (λ (y : ℕ). cost_of cost (with_link m c o y) ≡ cost_of cost (m y)) (sym eq) (ap (cost_of cost) (if_same c (option_map (with_older o) (m c)) (m c)) ∙ same_cost (m c))
     | inr differs ↦ ap (cost_of cost) (if_other x c (option_map (with_older o) (m x)) (m x) differs)
   ]
 
   -- a link costs nothing
-  held_linked : (cs : List ℕ) → held cost (linked m c o) cs ≡ held cost m cs
+  held_linked : (cs : List ℕ) → held cost (with_link m c o) cs ≡ held cost m cs
   held_linked [] = refl
   held_linked (x ∷ xs) =
-      let now = sum_by-cons (λ (b : ℕ). cost_of cost (linked m c o b)) x xs in
+      let now = sum_by-cons (λ (b : ℕ). cost_of cost (with_link m c o b)) x xs in
       let before = sum_by-cons (λ (b : ℕ). cost_of cost (m b)) x xs in
       let same = linked_cost x in
       let rest = held_linked xs in
@@ -87,7 +87,7 @@ module _ (cost : Recorded → ℕ) (m : Cells) (c : ℕ) (o : Option ℕ) where
 
 module _ (cost : Recorded → ℕ) (old mid : Cells) (f0 f1 : ℕ) (gives : GivesBack cost old mid f0 f1) where
   -- one more goes
-  pub gives_drop : (c : ℕ) (e : Entry) (f2 : ℕ) → mid c ≡ Some e → Within mid old → f2 ≡ f1 + cost_of cost (mid c) → GivesBack cost old (without mid c) f0 f2
+  pub gives_drop : (c : ℕ) (e : Linked) (f2 : ℕ) → mid c ≡ Some e → Within mid old → f2 ≡ f1 + cost_of cost (mid c) → GivesBack cost old (without mid c) f0 f2
   gives_drop c e f2 at within free cs once =
       let h1 = gives cs once in
       let was = within c e at in
@@ -95,7 +95,7 @@ module _ (cost : Recorded → ℕ) (old mid : Cells) (f0 f1 : ℕ) (gives : Give
       omega (arith, h1, h2, free)
 
   -- a link is set
-  pub gives_link : (c : ℕ) (o : Option ℕ) (f2 : ℕ) → f2 ≡ f1 → GivesBack cost old (linked mid c o) f0 f2
+  pub gives_link : (c : ℕ) (o : Option ℕ) (f2 : ℕ) → f2 ≡ f1 → GivesBack cost old (with_link mid c o) f0 f2
   gives_link c o f2 free cs once =
       let h1 = gives cs once in
       let h2 = held_linked cost mid c o cs in

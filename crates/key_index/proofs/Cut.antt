@@ -1,16 +1,16 @@
 -- Where a compaction cuts a chain.
 use Rattle.std.proofs.Common.{◌≡◌, ℕ, ◌<◌, ◌≤◌, List, true, false, Option, Some, None, is_some, MatchOption, sym, ap, ◌∙◌, refl, subst, arith, inl, inr, ◌⊎◌}
 use Rattle.std.proofs.lemmas.Bool.{cases_Bool, cases_eq, cases_lt}
-use Rattle.key_index.specs.Entries.{Cells, Entry, IsChained, IsBefore, IsNewest}
+use Rattle.key_index.specs.Links.{Cells, Linked, IsChained, IsBefore, IsNewest}
 use Rattle.key_index.specs.Compaction.{IsKept, CutsAt}
-use Rattle.key_index.proofs.Links.{one_entry, revision_at}
+use Rattle.key_index.proofs.Links.{one_linked, revision_at}
 use Rattle.key_index.proofs.Dropped.{left}
 
 -- those of the key that were passed are later than the revision, and the last of them links to the next
 pub record IsWalking (m : Cells) (key : List ℕ) (revision head : ℕ) (last next : Option ℕ) : Type 0 where
-  pub above : MatchOption next ((b : ℕ) (g : Entry) → m b ≡ Some g → g.change.key ≡ key → revision < g.change.revision)
-      (λ c. (e : Entry) × (m c ≡ Some e) × (e.change.key ≡ key) × ((b : ℕ) (g : Entry) → m b ≡ Some g → g.change.key ≡ key → e.change.revision < g.change.revision → revision < g.change.revision))
-  pub linked : MatchOption last (next ≡ Some head) (λ c. (e : Entry) × (m c ≡ Some e) × (e.change.key ≡ key) × (e.older ≡ next))
+  pub above : MatchOption next ((b : ℕ) (g : Linked) → m b ≡ Some g → g.change.key ≡ key → revision < g.change.revision)
+      (λ c. (e : Linked) × (m c ≡ Some e) × (e.change.key ≡ key) × ((b : ℕ) (g : Linked) → m b ≡ Some g → g.change.key ≡ key → e.change.revision < g.change.revision → revision < g.change.revision))
+  pub linked : MatchOption last (next ≡ Some head) (λ c. (e : Linked) × (m c ≡ Some e) × (e.change.key ≡ key) × (e.older ≡ next))
 
 pub walk_start : (m : Cells) (revision head : ℕ) (n : IsNewest m head) → IsWalking m n.0.change.key revision head None (Some head)
 walk_start m revision head n = record {
@@ -20,17 +20,17 @@ walk_start m revision head n = record {
 
 module _ (m : Cells) (key : List ℕ) (revision head : ℕ) (chained : IsChained m) where
   module _ (end : Option ℕ) (c : ℕ) (w : IsWalking m key revision head end (Some c)) where
-    e : Entry
+    e : Linked
     e = w.above.0
 
     -- what isn't earlier than the record before is not earlier than this one
-    from_before : (d : ℕ) (f : Entry) → IsBefore m d f w.above.0 → (b : ℕ) (g : Entry) → m b ≡ Some g → g.change.key ≡ key → f.change.revision < g.change.revision → w.above.0.change.revision ≤ g.change.revision
+    from_before : (d : ℕ) (f : Linked) → IsBefore m d f w.above.0 → (b : ℕ) (g : Linked) → m b ≡ Some g → g.change.key ≡ key → f.change.revision < g.change.revision → w.above.0.change.revision ≤ g.change.revision
     from_before d f before b g has same later = elim (cases_lt g.change.revision w.above.0.change.revision) [
       | inl lt ↦ absurd (omega (arith, later, before.next b g has (same ∙ sym w.above.2) lt))
       | inr ge ↦ ge
     ]
 
-    later : (b : ℕ) (g : Entry) → revision < w.above.0.change.revision → m b ≡ Some g → g.change.key ≡ key → w.above.0.change.revision ≤ g.change.revision → revision < g.change.revision
+    later : (b : ℕ) (g : Linked) → revision < w.above.0.change.revision → m b ≡ Some g → g.change.key ≡ key → w.above.0.change.revision ≤ g.change.revision → revision < g.change.revision
     later b g above has same le = omega arith
 
     pub walk_on : (o : Option ℕ) → w.above.0.older ≡ o → revision < w.above.0.change.revision → IsWalking m key revision head (Some c) o
@@ -46,17 +46,17 @@ module _ (m : Cells) (key : List ℕ) (revision head : ℕ) (chained : IsChained
         }
 
     -- those that aren't earlier than a kept record are kept
-    kept_from : IsKept m revision w.above.0.change → (b : ℕ) (g : Entry) → m b ≡ Some g → g.change.key ≡ key → w.above.0.change.revision ≤ g.change.revision → IsKept m revision g.change
+    kept_from : IsKept m revision w.above.0.change → (b : ℕ) (g : Linked) → m b ≡ Some g → g.change.key ≡ key → w.above.0.change.revision ≤ g.change.revision → IsKept m revision g.change
     kept_from kept b g has same le = elim (cases_lt w.above.0.change.revision g.change.revision) [
       | inl lt ↦ inl (omega (arith, w.above.3 b g has same lt))
       | inr ge ↦
           let eq : b ≡ c = chained.unique b c g w.above.0 has w.above.1 (same ∙ sym w.above.2) (omega arith) in
-          let one : w.above.0 ≡ g = one_entry (m c) w.above.0 g w.above.1 (subst (λ (x : ℕ). m x ≡ Some g) eq has) in
-          subst (λ (x : Entry). IsKept m revision x.change) one kept
+          let one : w.above.0 ≡ g = one_linked (m c) w.above.0 g w.above.1 (subst (λ (x : ℕ). m x ≡ Some g) eq has) in
+          subst (λ (x : Linked). IsKept m revision x.change) one kept
     ]
 
     -- nothing before a record up to the revision is kept
-    not_kept : w.above.0.change.revision ≤ revision → (b : ℕ) (g : Entry) → m b ≡ Some g → g.change.key ≡ key → g.change.revision < w.above.0.change.revision → IsKept m revision g.change → ⊥
+    not_kept : w.above.0.change.revision ≤ revision → (b : ℕ) (g : Linked) → m b ≡ Some g → g.change.key ≡ key → g.change.revision < w.above.0.change.revision → IsKept m revision g.change → ⊥
     not_kept le b g has same lt kept = elim kept [
       | inl from ↦ omega (arith, from, le, lt)
       | inr p ↦ omega (arith, lt, p.1 c w.above.0 w.above.1 (w.above.2 ∙ sym same) le)
@@ -91,10 +91,10 @@ module _ (m : Cells) (key : List ℕ) (revision head : ℕ) (chained : IsChained
           | inl lt ↦ not_kept le b g has same lt kept
           | inr ge ↦
               let eq : b ≡ c = chained.unique b c g w.above.0 has w.above.1 (same ∙ sym w.above.2) (omega arith) in
-              let one : g ≡ w.above.0 = one_entry (m c) g w.above.0 (subst (λ (x : ℕ). m x ≡ Some g) eq has) w.above.1 in
+              let one : g ≡ w.above.0 = one_linked (m c) g w.above.0 (subst (λ (x : ℕ). m x ≡ Some g) eq has) w.above.1 in
               elim kept [
-                | inl from ↦ other (omega (arith, from, le, ap (λ (x : Entry). x.change.revision) one))
-                | inr p ↦ let put : is_some w.above.0.change.row ≡ true = subst (λ (x : Entry). is_some x.change.row ≡ true) one p.0 in cc (put, delete)
+                | inl from ↦ other (omega (arith, from, le, ap (λ (x : Linked). x.change.revision) one))
+                | inr p ↦ let put : is_some w.above.0.change.row ≡ true = subst (λ (x : Linked). is_some x.change.row ≡ true) one p.0 in cc (put, delete)
               ]
         ],
       );
@@ -128,7 +128,7 @@ module _ (m : Cells) (key : List ℕ) (revision head : ℕ) (chained : IsChained
     ]
 
 -- the measure falls along a link
-pub left_lower : (m : Cells) → IsChained m → (c : ℕ) (e : Entry) (o : Option ℕ) → m c ≡ Some e → e.older ≡ o → left m o < left m (Some c)
+pub left_lower : (m : Cells) → IsChained m → (c : ℕ) (e : Linked) (o : Option ℕ) → m c ≡ Some e → e.older ≡ o → left m o < left m (Some c)
 left_lower m chained c e None at link = omega arith
 left_lower m chained c e (Some d) at link =
     let p = chained.linked c d e at link in

@@ -1,12 +1,12 @@
 -- A chain that is dropped from a record on.
 use Rattle.std.proofs.Common.{◌≡◌, ◌≢◌, ℕ, suc, ◌<◌, ◌≤◌, List, Option, Some, None, MatchOption, sym, ap, ◌∙◌, refl, subst, arith, inl, inr}
 use Rattle.std.proofs.lemmas.Bool.{cases_eq, cases_lt}
-use Rattle.key_index.specs.Entries.{Cells, Entry, IsChained, IsBefore, without}
+use Rattle.key_index.specs.Links.{Cells, Linked, IsChained, IsBefore, without}
 use Rattle.key_index.specs.Compaction.{DropsBetween, DropsUpTo}
-use Rattle.key_index.proofs.Links.{one_entry, if_same, if_other, without_some, revision_at}
+use Rattle.key_index.proofs.Links.{one_linked, if_same, if_other, without_some, revision_at}
 
 -- the record that is next to be dropped
-pub record IsNext (old new : Cells) (key : List ℕ) (top : ℕ) (c : ℕ) (e : Entry) : Type 0 where
+pub record IsNext (old new : Cells) (key : List ℕ) (top : ℕ) (c : ℕ) (e : Linked) : Type 0 where
   pub at : old c ≡ Some e
   pub of_key : e.change.key ≡ key
   pub below : e.change.revision ≤ top
@@ -14,19 +14,19 @@ pub record IsNext (old new : Cells) (key : List ℕ) (top : ℕ) (c : ℕ) (e : 
 
 -- what is dropped so far
 abbrev pub Dropping : Cells → Cells → List ℕ → ℕ → Option ℕ → Type 0
-Dropping old new key top next = MatchOption next (DropsUpTo old new key top) (λ c. (e : Entry) × IsNext old new key top c e)
+Dropping old new key top next = MatchOption next (DropsUpTo old new key top) (λ c. (e : Linked) × IsNext old new key top c e)
 
 abbrev pub left : Cells → Option ℕ → ℕ
 left cells None = 0
 left cells (Some c) = suc (revision_at cells c)
 
-module _ (m n : Cells) (key : List ℕ) (top c : ℕ) (e : Entry) (chained : IsChained m) (next : IsNext m n key top c e) where
+module _ (m n : Cells) (key : List ℕ) (top c : ℕ) (e : Linked) (chained : IsChained m) (next : IsNext m n key top c e) where
   -- it is still there
   pub still : n c ≡ Some e
   still = next.between.stays c e next.at (λ _. inl (omega arith))
 
   -- another record of the key that isn't later is earlier
-  earlier : (b : ℕ) (g : Entry) → b ≢ c → m b ≡ Some g → g.change.key ≡ key → g.change.revision ≤ e.change.revision → g.change.revision < e.change.revision
+  earlier : (b : ℕ) (g : Linked) → b ≢ c → m b ≡ Some g → g.change.key ≡ key → g.change.revision ≤ e.change.revision → g.change.revision < e.change.revision
   earlier b g differs has same le = elim (cases_lt g.change.revision e.change.revision) [
     | inl lt ↦ lt
     | inr ge ↦ absurd (differs (chained.unique b c g e has next.at (same ∙ sym next.of_key) (omega arith)))
@@ -39,7 +39,7 @@ module _ (m n : Cells) (key : List ℕ) (top c : ℕ) (e : Entry) (chained : IsC
   ]
 
   -- the next one goes too, down to the record before
-  pub drops_to : (d : ℕ) (f : Entry) → IsBefore m d f e → IsNext m (without n c) key top d f
+  pub drops_to : (d : ℕ) (f : Linked) → IsBefore m d f e → IsNext m (without n c) key top d f
   drops_to d f before = record {
     at = before.at;
     of_key = before.key ∙ next.of_key;
@@ -63,10 +63,10 @@ module _ (m n : Cells) (key : List ℕ) (top c : ℕ) (e : Entry) (chained : IsC
           );
       stays = λ b g has where_it_is.
           let differs : b ≢ c = λ eq. (
-          let one : g ≡ e = one_entry (m c) g e (subst (λ (x : ℕ). m x ≡ Some g) eq has) next.at in
-          elim (where_it_is (ap (λ (x : Entry). x.change.key) one ∙ next.of_key)) [
-            | inl low ↦ omega (arith, low, ap (λ (x : Entry). x.change.revision) one, before.earlier)
-            | inr high ↦ omega (arith, high, ap (λ (x : Entry). x.change.revision) one, next.below)
+          let one : g ≡ e = one_linked (m c) g e (subst (λ (x : ℕ). m x ≡ Some g) eq has) next.at in
+          elim (where_it_is (ap (λ (x : Linked). x.change.key) one ∙ next.of_key)) [
+            | inl low ↦ omega (arith, low, ap (λ (x : Linked). x.change.revision) one, before.earlier)
+            | inr high ↦ omega (arith, high, ap (λ (x : Linked). x.change.revision) one, next.below)
           ]) in
           if_other b c None (n b) differs ∙ next.between.stays b g has (λ same. elim (where_it_is same) [
             | inl low ↦ inl (omega (arith, low, before.earlier))
@@ -76,7 +76,7 @@ module _ (m n : Cells) (key : List ℕ) (top c : ℕ) (e : Entry) (chained : IsC
   }
 
   -- the oldest goes: then all are gone
-  pub drops_all : ((b : ℕ) (g : Entry) → m b ≡ Some g → g.change.key ≡ e.change.key → e.change.revision ≤ g.change.revision) → DropsUpTo m (without n c) key top
+  pub drops_all : ((b : ℕ) (g : Linked) → m b ≡ Some g → g.change.key ≡ e.change.key → e.change.revision ≤ g.change.revision) → DropsUpTo m (without n c) key top
   drops_all oldest = record {
     gone = λ b g has same high. elim (cases_eq b c) [
       | inl eq ↦ subst (λ (x : ℕ). without n c x ≡ None) (sym eq) (if_same c None (n c))
@@ -96,8 +96,8 @@ module _ (m n : Cells) (key : List ℕ) (top c : ℕ) (e : Entry) (chained : IsC
         );
     stays = λ b g has above.
         let differs : b ≢ c = λ eq. (
-        let one : g ≡ e = one_entry (m c) g e (subst (λ (x : ℕ). m x ≡ Some g) eq has) next.at in
-        omega (arith, above (ap (λ (x : Entry). x.change.key) one ∙ next.of_key), ap (λ (x : Entry). x.change.revision) one, next.below)) in
+        let one : g ≡ e = one_linked (m c) g e (subst (λ (x : ℕ). m x ≡ Some g) eq has) next.at in
+        omega (arith, above (ap (λ (x : Linked). x.change.key) one ∙ next.of_key), ap (λ (x : Linked). x.change.revision) one, next.below)) in
         if_other b c None (n b) differs ∙ next.between.stays b g has (λ same. inr (above same));
   }
 

@@ -6,9 +6,9 @@ use Rattle.std.specs.Str.{bytes_eq}
 use Rattle.std.proofs.lemmas.Bool.{cases_Bool, cases_lt, le-leb, leb-true, and_parts, and_from, or_left, or_right, or_cases, not_from_false, not_from_true, true≢false}
 use Rattle.std.proofs.lemmas.Slice.Eq.{bytes_eq-Decides}
 use Rattle.etcd_model.specs.Changes.{Recorded, is_up_to, keeps}
-use Rattle.key_index.specs.Entries.{Cells, Entry, change_at}
+use Rattle.key_index.specs.Links.{Cells, Linked, change_at}
 use Rattle.key_index.specs.Compaction.{IsKept, HasLater, KeptAsDefined}
-use Rattle.key_index.proofs.Compacted.{entry_some}
+use Rattle.key_index.proofs.Compacted.{linked_some}
 
 -- a test that an element passes finds one
 any_at : (p : Recorded → Bool) (xs : List Recorded) (k : ℕ) (x : Recorded) → k < length xs → slice_index_or xs k x ≡ x → p x ≡ true → list_any p xs ≡ true
@@ -26,19 +26,19 @@ found p P (x ∷ xs) all any = elim (cases_Bool (p x)) [
 
 module _ (cells : Cells) (revision : ℕ) (x : Recorded) (later : List Recorded) (has : HasLater cells x later) where
   -- another change of the key up to the revision would be later, and not of a record
-  none_later : ((b : ℕ) (g : Entry) → cells b ≡ Some g → g.change.key ≡ x.key → g.change.revision ≤ revision → g.change.revision ≤ x.revision) → list_any (is_up_to x.key revision) later ≡ true → ⊥
+  none_later : ((b : ℕ) (g : Linked) → cells b ≡ Some g → g.change.key ≡ x.key → g.change.revision ≤ revision → g.change.revision ≤ x.revision) → list_any (is_up_to x.key revision) later ≡ true → ⊥
   none_later none any =
       let f = found (is_up_to x.key revision) (λ y. y.key ≡ x.key → (x.revision < y.revision) × ((c : ℕ) × (change_at cells c ≡ Some y))) later has.only any in
       let tests = and_parts (bytes_eq f.0.key x.key) (nat_le f.0.revision revision) f.1 in
       let key : f.0.key ≡ x.key = (bytes_eq-Decides f.0.key x.key).0 tests.0 in
       let up_to : f.0.revision ≤ revision = leb-true f.0.revision revision tests.1 in
       let there = f.2 key in
-      let e = entry_some cells there.1.0 f.0 there.1.1 in
+      let e = linked_some cells there.1.0 f.0 there.1.1 in
       let is : e.0.change.revision ≡ f.0.revision = ap (λ (y : Recorded). y.revision) e.2 in
       let at_most = none there.1.0 e.0 e.1 (ap (λ (y : Recorded). y.key) e.2 ∙ key) (omega (arith, is, up_to)) in
       omega (arith, at_most, is, there.0)
 
-  some_later : (b : ℕ) (g : Entry) → cells b ≡ Some g → g.change.key ≡ x.key → g.change.revision ≤ revision → x.revision < g.change.revision → list_any (is_up_to x.key revision) later ≡ true
+  some_later : (b : ℕ) (g : Linked) → cells b ≡ Some g → g.change.key ≡ x.key → g.change.revision ≤ revision → x.revision < g.change.revision → list_any (is_up_to x.key revision) later ≡ true
   some_later b g at key low after =
       let c = has.there b g at key after in
       any_at (is_up_to x.key revision) later c.0 g.change c.1 c.2 (and_from (bytes_eq g.change.key x.key) (nat_le g.change.revision revision) ((bytes_eq-Decides g.change.key x.key).1 key) (le-leb g.change.revision revision low))

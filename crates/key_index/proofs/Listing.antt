@@ -4,29 +4,29 @@ use mathlib.Core.Path.{fun_ext}
 use Rattle.std.proofs.lemmas.Bool.{cases_order}
 use Rattle.std.proofs.lemmas.List.{length_push, get_or_append_left, get_or_past, get_or_push}
 use Rattle.etcd_model.specs.Changes.{Recorded}
-use Rattle.key_index.specs.Entries.{Cells, IsChained, IsPlaced, without}
+use Rattle.key_index.specs.Links.{Cells, IsChained, IsPlaced, without}
 use Rattle.key_index.specs.Index.{IsIndexOf}
 use Rattle.key_index.specs.Compaction.{IsCompacted}
 use Rattle.key_index.specs.Order.{with_record}
-use Rattle.key_index.specs.Listed.{entry_of, cells_of, IsListed}
+use Rattle.key_index.specs.Listed.{linked_of, cells_of, IsListed}
 use Rattle.key_index.specs.declared.record_list.Record.{Record}
 use Rattle.key_index.proofs.Links.{if_other}
-use Rattle.key_index.proofs.Compacted.{entry_some}
+use Rattle.key_index.proofs.Compacted.{linked_some}
 use Rattle.key_index.proofs.OrderAdded.{at_record, without_record, placed_record}
 
 fresh : (items : List (Option Record)) → cells_of items (length items) ≡ None
-fresh items = ap (option_map entry_of) (get_or_past items (length items) None (omega arith))
+fresh items = ap (option_map linked_of) (get_or_past items (length items) None (omega arith))
 
 -- one more item is one more record
-pub cells_push : (items : List (Option Record)) (r : Record) → cells_of (items ++ Some r ∷ []) ≡ with_record (cells_of items) (length items) (entry_of r)
+pub cells_push : (items : List (Option Record)) (r : Record) → cells_of (items ++ Some r ∷ []) ≡ with_record (cells_of items) (length items) (linked_of r)
 cells_push items r = fun_ext (λ b. elim (cases_order b (length items)) [
-  | inl same ↦ subst (λ (x : ℕ). cells_of (items ++ Some r ∷ []) x ≡ with_record (cells_of items) (length items) (entry_of r) x) (sym same)
-      (ap (option_map entry_of) (get_or_push items (Some r) None (length items) refl) ∙ sym (at_record (cells_of items) (length items) (entry_of r)))
+  | inl same ↦ subst (λ (x : ℕ). cells_of (items ++ Some r ∷ []) x ≡ with_record (cells_of items) (length items) (linked_of r) x) (sym same)
+      (ap (option_map linked_of) (get_or_push items (Some r) None (length items) refl) ∙ sym (at_record (cells_of items) (length items) (linked_of r)))
   | inr other ↦ elim other [
-    | inl low ↦ ap (option_map entry_of) (get_or_append_left items (Some r ∷ []) None b low)
-        ∙ sym (if_other b (length items) (Some (entry_of r)) (cells_of items b) (λ eq. omega (arith, eq, low)))
-    | inr high ↦ ap (option_map entry_of) (get_or_past (items ++ Some r ∷ []) b None (omega (arith, length_push items (Some r), high)) ∙ sym (get_or_past items b None (omega (arith, high))))
-        ∙ sym (if_other b (length items) (Some (entry_of r)) (cells_of items b) (λ eq. omega (arith, eq, high)))
+    | inl low ↦ ap (option_map linked_of) (get_or_append_left items (Some r ∷ []) None b low)
+        ∙ sym (if_other b (length items) (Some (linked_of r)) (cells_of items b) (λ eq. omega (arith, eq, low)))
+    | inr high ↦ ap (option_map linked_of) (get_or_past (items ++ Some r ∷ []) b None (omega (arith, length_push items (Some r), high)) ∙ sym (get_or_past items b None (omega (arith, high))))
+        ∙ sym (if_other b (length items) (Some (linked_of r)) (cells_of items b) (λ eq. omega (arith, eq, high)))
   ]
 ])
 
@@ -38,24 +38,24 @@ module _ (items : List (Option Record)) (heads : List ℕ) (listed : IsListed it
     index = index;
     chained = chained;
     numbered = λ c e at.
-        let f = entry_some (cells_of items) c e.change (compacted.only c e at).0 in
+        let f = linked_some (cells_of items) c e.change (compacted.only c e at).0 in
         omega (arith, listed.numbered c f.0 f.1, ap (λ (x : Recorded). x.revision) f.2, same);
   }
 
   module _ (r : Record) (is : r.revision ≡ length items + 2) (pushed : List (Option Record)) (one_more : pushed ≡ items ++ Some r ∷ []) (c : ℕ) (at : c ≡ length items) where
-    records : cells_of pushed ≡ with_record (cells_of items) c (entry_of r)
-    records = ap cells_of one_more ∙ cells_push items r ∙ ap (λ (x : ℕ). with_record (cells_of items) x (entry_of r)) (sym at)
+    records : cells_of pushed ≡ with_record (cells_of items) c (linked_of r)
+    records = ap cells_of one_more ∙ cells_push items r ∙ ap (λ (x : ℕ). with_record (cells_of items) x (linked_of r)) (sym at)
 
     none_there : cells_of items c ≡ None
     none_there = ap (cells_of items) at ∙ fresh items
 
     before : without (cells_of pushed) c ≡ cells_of items
-    before = ap (λ (m : Cells). without m c) records ∙ without_record (cells_of items) c (entry_of r) none_there
+    before = ap (λ (m : Cells). without m c) records ∙ without_record (cells_of items) c (linked_of r) none_there
 
     -- the next record can be taken up
     pub placed_next : IsPlaced (cells_of pushed) c
     placed_next = subst (λ (m : Cells). IsPlaced m c) (sym records)
-        (placed_record (cells_of items) c (entry_of r) none_there (λ b g at same. omega (arith, listed.numbered b g at, is)))
+        (placed_record (cells_of items) c (linked_of r) none_there (λ b g at same. omega (arith, listed.numbered b g at, is)))
 
     pub index_next : IsIndexOf (without (cells_of pushed) c) heads
     index_next = subst (λ (m : Cells). IsIndexOf m heads) (sym before) listed.index

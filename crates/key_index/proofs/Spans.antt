@@ -10,9 +10,9 @@ use Rattle.std.proofs.lemmas.List.{nil_from_length}
 use Rattle.std.proofs.lemmas.Cmp.{nat_list_cmp_total, tied_itself}
 use Rattle.std.proofs.lemmas.Slice.Eq.{bytes_eq-Decides}
 use Rattle.etcd_model.specs.Order.{key_cmp, key_lt, key_le}
-use Rattle.key_index.specs.Entries.{Cells, Entry}
+use Rattle.key_index.specs.Links.{Cells, Linked}
 use Rattle.key_index.specs.Index.{IsSpread, IsAt, IsGapFor, IsFrom, IsEnd, IsSpan}
-use Rattle.key_index.proofs.Links.{one_entry, greater_from_less, not_less, less_from_greater}
+use Rattle.key_index.proofs.Links.{one_linked, greater_from_less, not_less, less_from_greater}
 
 reversed : (o : Ordering) → is_le o ≡ not (is_lt (ordering_reverse o))
 reversed Less = refl
@@ -44,8 +44,8 @@ module _ (m : Cells) (heads : List ℕ) where
               ap is_lt (subst (λ (k : List ℕ). key_cmp e.change.key k ≡ Greater) at.of_key.2 greater)
           | inr same ↦
               let eq : j ≡ i = omega arith in
-              let one : e ≡ f = one_entry (m (get_or heads i 0)) e f (subst (λ (x : ℕ). m (get_or heads x 0) ≡ Some e) eq has) at.of_key.1 in
-              not_below_itself e.change.key key (ap (λ (x : Entry). x.change.key) one ∙ at.of_key.2)
+              let one : e ≡ f = one_linked (m (get_or heads i 0)) e f (subst (λ (x : ℕ). m (get_or heads x 0) ≡ Some e) eq has) at.of_key.1 in
+              not_below_itself e.change.key key (ap (λ (x : Linked). x.change.key) one ∙ at.of_key.2)
         ];
       }
 
@@ -113,8 +113,8 @@ module _ (m : Cells) (heads : List ℕ) where
         exact = λ j e lt has. (
           λ inside.
               let eq : j ≡ i = omega (arith, inside.0, inside.1) in
-              let one : e ≡ f = one_entry (m (get_or heads i 0)) e f (subst (λ (x : ℕ). m (get_or heads x 0) ≡ Some e) eq has) at.of_key.1 in
-              (bytes_eq-Decides e.change.key key).1 (ap (λ (x : Entry). x.change.key) one ∙ at.of_key.2),
+              let one : e ≡ f = one_linked (m (get_or heads i 0)) e f (subst (λ (x : ℕ). m (get_or heads x 0) ≡ Some e) eq has) at.of_key.1 in
+              (bytes_eq-Decides e.change.key key).1 (ap (λ (x : Linked). x.change.key) one ∙ at.of_key.2),
           λ member.
               let same : e.change.key ≡ key = (bytes_eq-Decides e.change.key key).0 member in
               let here : j ≡ i = elim (cases_order j i) [

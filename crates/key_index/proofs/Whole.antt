@@ -10,11 +10,11 @@ use Rattle.std.proofs.lemmas.List.Edits.{length-insert, get_or-insert_below, get
 use Rattle.std.proofs.lemmas.Slice.Eq.{bytes_eq-Decides}
 use Rattle.etcd_model.specs.Order.{key_cmp}
 use Rattle.etcd_model.specs.Changes.{Recorded}
-use Rattle.key_index.specs.Entries.{Cells, Entry, IsNewest, change_at}
+use Rattle.key_index.specs.Links.{Cells, Linked, IsNewest, change_at}
 use Rattle.key_index.specs.Index.{IsIndexOf}
 use Rattle.key_index.specs.Compaction.{IsKept, IsCompacted, IsCompactedAt, Remains}
-use Rattle.key_index.proofs.Links.{one_entry, not_less}
-use Rattle.key_index.proofs.Compacted.{entry_some, change_some}
+use Rattle.key_index.proofs.Links.{one_linked, not_less}
+use Rattle.key_index.proofs.Compacted.{linked_some, change_some}
 
 same_or_not : (a b : List ℕ) → (a ≡ b) ⊎ (a ≢ b)
 same_or_not a b = go (bytes_eq a b) refl
@@ -24,19 +24,19 @@ same_or_not a b = go (bytes_eq a b) refl
     go false is = inr (λ same. let yes : bytes_eq a b ≡ true = (bytes_eq-Decides a b).1 same in let bad : ⊥ = cc (yes, is) in bad)
 
 -- a record that is left was there with its change
-pub was_at : (m new : Cells) (revision : ℕ) (key : List ℕ) → IsCompactedAt m new revision key → (c : ℕ) (g : Entry) → new c ≡ Some g → (f : Entry) × (m c ≡ Some f) × (f.change ≡ g.change)
+pub was_at : (m new : Cells) (revision : ℕ) (key : List ℕ) → IsCompactedAt m new revision key → (c : ℕ) (g : Linked) → new c ≡ Some g → (f : Linked) × (m c ≡ Some f) × (f.change ≡ g.change)
 was_at m new revision key compacted c g has = elim (same_or_not g.change.key key) [
-  | inl same ↦ entry_some m c g.change (compacted.only c g has same).0
+  | inl same ↦ linked_some m c g.change (compacted.only c g has same).0
   | inr other ↦ (g, compacted.no_others c g other has, refl)
 ]
 
-key_of : (f g : Entry) → f.change ≡ g.change → f.change.key ≡ g.change.key
+key_of : (f g : Linked) → f.change ≡ g.change → f.change.key ≡ g.change.key
 key_of f g same = ap (λ (x : Recorded). x.key) same
 
-module _ (m new : Cells) (revision : ℕ) (e : Entry) (compacted : IsCompactedAt m new revision e.change.key) where
+module _ (m new : Cells) (revision : ℕ) (e : Linked) (compacted : IsCompactedAt m new revision e.change.key) where
   module _ (heads : List ℕ) (p : ℕ) (index : IsIndexOf m heads) (lt : p < length heads) (at : m (get_or heads p 0) ≡ Some e) where
     -- another place has another key
-    apart : (j : ℕ) (f : Entry) → j ≢ p → j < length heads → m (get_or heads j 0) ≡ Some f → f.change.key ≢ e.change.key
+    apart : (j : ℕ) (f : Linked) → j ≢ p → j < length heads → m (get_or heads j 0) ≡ Some f → f.change.key ≢ e.change.key
     apart j f differs below has key = elim (cases_order j p) [
       | inl eq ↦ differs eq
       | inr o ↦ elim o [
@@ -56,7 +56,7 @@ module _ (m new : Cells) (revision : ℕ) (e : Entry) (compacted : IsCompactedAt
         )
 
     -- the order of two places stays
-    still_sorted : (i j : ℕ) (x y : Entry) → i < j → j < length heads → new (get_or heads i 0) ≡ Some x → new (get_or heads j 0) ≡ Some y → key_cmp x.change.key y.change.key ≡ Less
+    still_sorted : (i j : ℕ) (x y : Linked) → i < j → j < length heads → new (get_or heads i 0) ≡ Some x → new (get_or heads j 0) ≡ Some y → key_cmp x.change.key y.change.key ≡ Less
     still_sorted i j x y below within has_x has_y =
         let f = was_at m new revision e.change.key compacted (get_or heads i 0) x has_x in
         let g = was_at m new revision e.change.key compacted (get_or heads j 0) y has_y in
@@ -78,11 +78,11 @@ module _ (m new : Cells) (revision : ℕ) (e : Entry) (compacted : IsCompactedAt
               let q = index.whole c f.0 f.1 in
               let n = newest q.0 q.1 in
               let w = was_at m new revision e.change.key compacted (get_or heads q.0 0) n.0 n.1 in
-              let one : w.0 ≡ q.2.0 = one_entry (m (get_or heads q.0 0)) w.0 q.2.0 w.1 q.2.1 in
-              (q.0, q.1, (n.0, n.1, sym (key_of w.0 n.0 w.2) ∙ ap (λ (x : Entry). x.change.key) one ∙ q.2.2 ∙ key_of f.0 g f.2));
+              let one : w.0 ≡ q.2.0 = one_linked (m (get_or heads q.0 0)) w.0 q.2.0 w.1 q.2.1 in
+              (q.0, q.1, (n.0, n.1, sym (key_of w.0 n.0 w.2) ∙ ap (λ (x : Linked). x.change.key) one ∙ q.2.2 ∙ key_of f.0 g f.2));
         }
 
-  module _ (ys : List ℕ) (p h : ℕ) (le : p ≤ length ys) (index : IsIndexOf m (insert ys p h)) (at : m h ≡ Some e) (none : (c : ℕ) (g : Entry) → new c ≡ Some g → g.change.key ≢ e.change.key) where
+  module _ (ys : List ℕ) (p h : ℕ) (le : p ≤ length ys) (index : IsIndexOf m (insert ys p h)) (at : m h ≡ Some e) (none : (c : ℕ) (g : Linked) → new c ≡ Some g → g.change.key ≢ e.change.key) where
     longer : length (insert ys p h) ≡ length ys + 1
     longer = length-insert ys p h le
 
@@ -153,8 +153,8 @@ module _ (m new : Cells) (revision : ℕ) (e : Entry) (compacted : IsCompactedAt
           let q = index.whole c g (compacted.no_others c g other has) in
           let x = q.2.0 in
           let not_here : q.0 ≢ p = λ eq. (
-          let one : x ≡ e = one_entry (m (get_or (insert ys p h) p 0)) x e (subst (λ (i : ℕ). m (get_or (insert ys p h) i 0) ≡ Some x) eq q.2.1) at_place in
-          other (sym q.2.2 ∙ ap (λ (y : Entry). y.change.key) one)) in
+          let one : x ≡ e = one_linked (m (get_or (insert ys p h) p 0)) x e (subst (λ (i : ℕ). m (get_or (insert ys p h) i 0) ≡ Some x) eq q.2.1) at_place in
+          other (sym q.2.2 ∙ ap (λ (y : Linked). y.change.key) one)) in
           let there : new (get_or (insert ys p h) q.0 0) ≡ Some x = compacted.others (get_or (insert ys p h) q.0 0) x (λ same. other (sym q.2.2 ∙ same)) q.2.1 in
           let l = longer in
           elim (cases_lt q.0 p) [
@@ -171,19 +171,19 @@ module _ (m new : Cells) (revision : ℕ) (e : Entry) (compacted : IsCompactedAt
 
 -- records of a key are untouched
 pub record IsUntouched (m now : Cells) (key : List ℕ) : Type 0 where
-  pub there : (c : ℕ) (e : Entry) → m c ≡ Some e → e.change.key ≡ key → now c ≡ Some e
-  pub back : (c : ℕ) (e : Entry) → now c ≡ Some e → e.change.key ≡ key → m c ≡ Some e
+  pub there : (c : ℕ) (e : Linked) → m c ≡ Some e → e.change.key ≡ key → now c ≡ Some e
+  pub back : (c : ℕ) (e : Linked) → now c ≡ Some e → e.change.key ≡ key → m c ≡ Some e
 
 -- records of a key are what is kept
 pub record IsDone (m now : Cells) (revision : ℕ) (key : List ℕ) : Type 0 where
-  pub stays : (c : ℕ) (e : Entry) → m c ≡ Some e → e.change.key ≡ key → IsKept m revision e.change → change_at now c ≡ Some e.change
-  pub only : (c : ℕ) (e : Entry) → now c ≡ Some e → e.change.key ≡ key → (change_at m c ≡ Some e.change) × IsKept m revision e.change
+  pub stays : (c : ℕ) (e : Linked) → m c ≡ Some e → e.change.key ≡ key → IsKept m revision e.change → change_at now c ≡ Some e.change
+  pub only : (c : ℕ) (e : Linked) → now c ≡ Some e → e.change.key ≡ key → (change_at m c ≡ Some e.change) × IsKept m revision e.change
 
 -- the keys of the first places are done, and the others untouched
 pub record IsSoFar (m now : Cells) (heads : List ℕ) (revision i : ℕ) : Type 0 where
-  pub done : (j : ℕ) (e : Entry) → j < i → m (get_or heads j 0) ≡ Some e → IsDone m now revision e.change.key
-  pub ahead : (j : ℕ) (e : Entry) → i ≤ j → j < length heads → m (get_or heads j 0) ≡ Some e → IsUntouched m now e.change.key
-  pub back : (c : ℕ) (e : Entry) → now c ≡ Some e → (f : Entry) × (m c ≡ Some f) × (f.change ≡ e.change)
+  pub done : (j : ℕ) (e : Linked) → j < i → m (get_or heads j 0) ≡ Some e → IsDone m now revision e.change.key
+  pub ahead : (j : ℕ) (e : Linked) → i ≤ j → j < length heads → m (get_or heads j 0) ≡ Some e → IsUntouched m now e.change.key
+  pub back : (c : ℕ) (e : Linked) → now c ≡ Some e → (f : Linked) × (m c ≡ Some f) × (f.change ≡ e.change)
 
 pub so_far_start : (m : Cells) (heads : List ℕ) (revision : ℕ) → IsSoFar m m heads revision 0
 so_far_start m heads revision = record {
@@ -204,14 +204,14 @@ module _ (m now : Cells) (heads : List ℕ) (revision : ℕ) (index : IsIndexOf 
         (so_far.done q.0 q.2.0 (omega (arith, q.1, all)) q.2.1).only c e has (sym (key_of f.0 e f.2) ∙ sym q.2.2);
   }
 
-  module _ (i : ℕ) (lt : i < length heads) (e : Entry) (at : m (get_or heads i 0) ≡ Some e) (so_far : IsSoFar m now heads revision i) where
+  module _ (i : ℕ) (lt : i < length heads) (e : Linked) (at : m (get_or heads i 0) ≡ Some e) (so_far : IsSoFar m now heads revision i) where
     -- the next head is untouched
     pub still_there : now (get_or heads i 0) ≡ Some e
     still_there = (so_far.ahead i e (omega arith) lt at).there (get_or heads i 0) e at refl
 
     module _ (new : Cells) (compacted : IsCompactedAt now new revision e.change.key) where
       -- another place has another key
-      differs : (j : ℕ) (f : Entry) → j ≢ i → j < length heads → m (get_or heads j 0) ≡ Some f → f.change.key ≢ e.change.key
+      differs : (j : ℕ) (f : Linked) → j ≢ i → j < length heads → m (get_or heads j 0) ≡ Some f → f.change.key ≢ e.change.key
       differs j f other below has key = elim (cases_order j i) [
         | inl eq ↦ other eq
         | inr o ↦ elim o [
@@ -241,7 +241,7 @@ module _ (m now : Cells) (heads : List ℕ) (revision : ℕ) (index : IsIndexOf 
         stays = λ c g has key kept. compacted.stays c g (untouched.there c g has key) key (kept_now g.change key kept);
         only = λ c g has key.
             let o = compacted.only c g has key in
-            let f = entry_some now c g.change o.0 in
+            let f = linked_some now c g.change o.0 in
             let there = untouched.back c f.0 f.1 (key_of f.0 g f.2 ∙ key) in
             (change_some m c f.0 there ∙ ap (λ (x : Recorded). let q : Option Recorded = Some x in q) f.2, kept_before g.change key o.1);
       }
@@ -249,7 +249,7 @@ module _ (m now : Cells) (heads : List ℕ) (revision : ℕ) (index : IsIndexOf 
       done_there : (key : List ℕ) → key ≢ e.change.key → IsDone m now revision key → IsDone m new revision key
       done_there key other done = record {
         stays = λ c g has same kept.
-            let f = entry_some now c g.change (done.stays c g has same kept) in
+            let f = linked_some now c g.change (done.stays c g has same kept) in
             let there = compacted.others c f.0 (λ eq. other (sym same ∙ sym (key_of f.0 g f.2) ∙ eq)) f.1 in
             change_some new c f.0 there ∙ ap (λ (x : Recorded). let q : Option Recorded = Some x in q) f.2;
         only = λ c g has same. done.only c g (compacted.no_others c g (λ eq. other (sym same ∙ eq)) has) same;
@@ -259,8 +259,8 @@ module _ (m now : Cells) (heads : List ℕ) (revision : ℕ) (index : IsIndexOf 
       so_far_step = record {
         done = λ j f below has. elim (cases_eq j i) [
           | inl eq ↦
-              let one : e ≡ f = one_entry (m (get_or heads i 0)) e f at (subst (λ (x : ℕ). m (get_or heads x 0) ≡ Some f) eq has) in
-              subst (λ (x : Entry). IsDone m new revision x.change.key) one done_here
+              let one : e ≡ f = one_linked (m (get_or heads i 0)) e f at (subst (λ (x : ℕ). m (get_or heads x 0) ≡ Some f) eq has) in
+              subst (λ (x : Linked). IsDone m new revision x.change.key) one done_here
           | inr other ↦ done_there f.change.key (differs j f other (omega (arith, below, lt)) has) (so_far.done j f (omega (arith, below, other)) has)
         ];
         ahead = λ j f above below has.
@@ -347,7 +347,7 @@ module _ (m now : Cells) (heads xs : List ℕ) (revision k i : ℕ) (index : IsI
     ahead_more : (j : ℕ) → i + 1 ≤ j → get_or xs j 0 ≡ get_or heads j 0
     ahead_more j le = going.ahead j (omega (arith, le))
 
-    module _ (new : Cells) (compacted : (e : Entry) → now h ≡ Some e → IsCompactedAt now new revision e.change.key) where
+    module _ (new : Cells) (compacted : (e : Linked) → now h ≡ Some e → IsCompactedAt now new revision e.change.key) where
       step : IsSoFar m new heads revision (i + 1)
       step = so_far_step m now heads revision index i lt (index.newest i lt).0 head_at going.so_far new (compacted (index.newest i lt).0 now_head)
 
@@ -357,7 +357,7 @@ module _ (m now : Cells) (heads xs : List ℕ) (revision k i : ℕ) (index : IsI
       room : k ≤ length (take k xs ++ drop (i + 1) xs)
       room = parts_room xs k i h going.front below is
 
-      pub going_dropped : ((e : Entry) → now h ≡ Some e → Remains new e.change.key h false) → IsGoing m new heads xs revision k (i + 1)
+      pub going_dropped : ((e : Linked) → now h ≡ Some e → Remains new e.change.key h false) → IsGoing m new heads xs revision k (i + 1)
       going_dropped none = record {
         front = omega (arith, going.front);
         ahead = ahead_more;
@@ -365,7 +365,7 @@ module _ (m now : Cells) (heads xs : List ℕ) (revision k i : ℕ) (index : IsI
         so_far = step;
       }
 
-      pub going_kept : ((e : Entry) → now h ≡ Some e → Remains new e.change.key h true) → IsGoing m new heads (set xs k h) revision (k + 1) (i + 1)
+      pub going_kept : ((e : Linked) → now h ≡ Some e → Remains new e.change.key h true) → IsGoing m new heads (set xs k h) revision (k + 1) (i + 1)
       going_kept newest =
           let longer = length-insert (take k xs ++ drop (i + 1) xs) k h room in
           let space = room in

@@ -1,4 +1,4 @@
-pub mod Entries
+pub mod Links
 pub mod Index
 pub mod Sought
 pub mod Compaction

@@ -1,15 +1,17 @@
 -- Records in a list, under their places.
-use Rattle.std.specs.Prelude.{◌≡◌, ℕ, ◌+◌, ◌<◌, List, length, Option, Some, None, option_map, sum_by, slice_index_or}
-use Rattle.key_index.specs.Entries.{Cells, Entry, IsChained}
+use Rattle.std.specs.Prelude.{◌≡◌, ℕ, ◌+◌, ◌<◌, List, length, sum_by, slice_index_or}
+use Rattle.std.specs.Prelude.{Option, Some, None, option_map}
+use Rattle.key_index.specs.Links.{Cells, Linked, IsChained}
 use Rattle.key_index.specs.Index.{IsIndexOf}
 use Rattle.key_index.specs.declared.record_list.Record.{Record}
 
-abbrev pub entry_of : Record → Entry
-entry_of r = record { change = record { key = r.key.items; revision = r.revision; row = r.row }; older = r.older }
+abbrev pub linked_of : Record → Linked
+linked_of r =
+    record { change = record { key = r.key.items; revision = r.revision; row = r.row }; older = r.older }
 
 -- what is under each place
 abbrev pub cells_of : List (Option Record) → Cells
-cells_of items c = option_map entry_of (slice_index_or items c None)
+cells_of items c = option_map linked_of (slice_index_or items c None)
 
 -- an empty place is one cell
 abbrev pub empty_cell : Option Record → ℕ
@@ -19,8 +21,9 @@ empty_cell (Some r) = 0
 abbrev pub empty_places : List (Option Record) → ℕ
 empty_places items = sum_by empty_cell items
 
--- a list with its index, of which no record has a later revision than its places allow: they begin with revision 2
+-- A list with its index, of which no record has a later revision than its places allow: they begin with
+-- revision 2.
 pub record IsListed (items : List (Option Record)) (heads : List ℕ) : Type 0 where
   pub index : IsIndexOf (cells_of items) heads
   pub chained : IsChained (cells_of items)
-  pub numbered : (c : ℕ) (e : Entry) → cells_of items c ≡ Some e → e.change.revision < length items + 2
+  pub numbered : (c : ℕ) (e : Linked) → cells_of items c ≡ Some e → e.change.revision < length items + 2

@@ -2,7 +2,7 @@
 use Rattle.std.specs.Prelude.{ℕ, List, filter, filter_map, Some, IsSome, is_some, if◌then◌else◌, ◌==◌}
 use Rattle.std.specs.List.{All}
 use Rattle.etcd_model.specs.Changes.{Recorded, Rises}
-use Rattle.key_index.specs.Entries.{Cells, Entry, change_at}
+use Rattle.key_index.specs.Links.{Cells, Linked, change_at}
 use Rattle.key_index.specs.Compaction.{EachOnce}
 
 -- each cell that has a record stands once in the order, and each cell of the order has one
@@ -23,5 +23,5 @@ abbrev pub with_records : Cells → List ℕ → List ℕ
 with_records cells order = filter (λ c. is_some (cells c)) order
 
 -- what is there with one more record
-abbrev pub with_record : Cells → ℕ → Entry → Cells
+abbrev pub with_record : Cells → ℕ → Linked → Cells
 with_record cells c e b = if b == c then Some e else cells b

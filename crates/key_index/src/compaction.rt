@@ -1,8 +1,10 @@
 //! Compaction of the chain of a key.
-ghost use Rattle.std.specs.Prelude.{◌≡◌, ℕ, ◌+◌, ◌-◌, ◌<◌, ◌≤◌, List, length, slice_index, Option, Some, None, IsSome, is_some, true, false, ◌⊎◌, take};
-ghost use Rattle.key_index.specs.Entries.{Entry, IsChained, IsNewest, linked, without};
+ghost use Rattle.std.specs.Prelude.{◌≡◌, ℕ, ◌+◌, ◌-◌, ◌<◌, ◌≤◌, List, length, slice_index, take};
+ghost use Rattle.std.specs.Prelude.{Option, Some, None, IsSome, is_some, true, false, ◌⊎◌};
+ghost use Rattle.key_index.specs.Links.{Linked, IsChained, IsNewest, with_link, without};
 ghost use Rattle.key_index.specs.Index.{IsIndexOf};
-ghost use Rattle.key_index.specs.Compaction.{CutsAt, DropsUpTo, GivesBack, IsCompacted, IsCompactedAt, KeptAsDefined, Remains};
+ghost use Rattle.key_index.specs.Compaction.{CutsAt, DropsUpTo, GivesBack, IsCompacted, IsCompactedAt};
+ghost use Rattle.key_index.specs.Compaction.{KeptAsDefined, Remains};
 
 use crate::records::{Records, RecordsMut};
 use etcd_types::CellNo;
@@ -32,7 +34,8 @@ pub(crate) fn cut_chains<R: RecordsMut>(
     ensures index { IsIndexOf (R.cells records.new) (take result heads.new) }
     ensures chained { IsChained (R.cells records.new) }
     ensures compacted { IsCompacted (R.cells records.old) (R.cells records.new) revision }
-    ensures free { GivesBack R.cost (R.cells records.old) (R.cells records.new) (R.free records.old) (R.free records.new) }
+    ensures free { GivesBack R.cost (R.cells records.old) (R.cells records.new)
+      (R.free records.old) (R.free records.new) }
     ensures rest { R.same_rest records.old records.new }
 {
     let mut left = 0;
@@ -53,9 +56,12 @@ pub(crate) fn cut_chain<R: RecordsMut>(head: CellNo, records: &mut R, revision: 
     requires newest { IsNewest (R.cells records.old) head }
 
     ensures chained { IsChained (R.cells records.new) }
-    ensures compacted { (e : Entry) → R.cells records.old head ≡ Some e → IsCompactedAt (R.cells records.old) (R.cells records.new) revision e.change.key }
-    ensures remains { (e : Entry) → R.cells records.old head ≡ Some e → Remains (R.cells records.new) e.change.key head result }
-    ensures free { GivesBack R.cost (R.cells records.old) (R.cells records.new) (R.free records.old) (R.free records.new) }
+    ensures compacted { (e : Linked) → R.cells records.old head ≡ Some e
+      → IsCompactedAt (R.cells records.old) (R.cells records.new) revision e.change.key }
+    ensures remains { (e : Linked) → R.cells records.old head ≡ Some e
+      → Remains (R.cells records.new) e.change.key head result }
+    ensures free { GivesBack R.cost (R.cells records.old) (R.cells records.new)
+      (R.free records.old) (R.free records.new) }
     ensures rest { R.same_rest records.old records.new }
 {
     let place = cut_place(head, records, revision);
@@ -79,8 +85,10 @@ pub(crate) fn cut_chain<R: RecordsMut>(head: CellNo, records: &mut R, revision: 
 fn drop_chain<R: RecordsMut>(first: CellNo, records: &mut R)
     requires chained { IsChained (R.cells records.old) }
     requires first { IsSome (R.cells records.old first) }
-    ensures drops { (e : Entry) → R.cells records.old first ≡ Some e → DropsUpTo (R.cells records.old) (R.cells records.new) e.change.key e.change.revision }
-    ensures free { GivesBack R.cost (R.cells records.old) (R.cells records.new) (R.free records.old) (R.free records.new) }
+    ensures drops { (e : Linked) → R.cells records.old first ≡ Some e
+      → DropsUpTo (R.cells records.old) (R.cells records.new) e.change.key e.change.revision }
+    ensures free { GivesBack R.cost (R.cells records.old) (R.cells records.new)
+      (R.free records.old) (R.free records.new) }
     ensures rest { R.same_rest records.old records.new }
 {
     let mut next = Some(first);
@@ -94,7 +102,8 @@ fn drop_chain<R: RecordsMut>(first: CellNo, records: &mut R)
 fn cut_place<R: Records>(head: CellNo, records: &R, revision: u64) -> CutPlace
     requires chained { IsChained (R.cells records.now) }
     requires newest { IsNewest (R.cells records.now) head }
-    ensures { (e : Entry) → R.cells records.now head ≡ Some e → CutsAt (R.cells records.now) e.change.key revision head result.last result.first }
+    ensures { (e : Linked) → R.cells records.now head ≡ Some e
+      → CutsAt (R.cells records.now) e.change.key revision head result.last result.first }
 {
     let mut last = None;
     let mut next = Some(head);
@@ -111,8 +120,12 @@ fn cut_place<R: Records>(head: CellNo, records: &R, revision: u64) -> CutPlace
 /// The same from the last change up to the revision on, which stays if it is at the revision or a put.
 fn cut_at<R: Records>(cell: CellNo, last: Option<CellNo>, records: &R, revision: u64) -> CutPlace
     requires { IsSome (R.cells records.now cell) }
-    ensures stays { (e : Entry) → R.cells records.now cell ≡ Some e → (e.change.revision ≡ revision) ⊎ (is_some e.change.row ≡ true) → (result.last ≡ Some cell) × (result.first ≡ e.older) }
-    ensures goes { (e : Entry) → R.cells records.now cell ≡ Some e → (e.change.revision ≡ revision → ⊥) → is_some e.change.row ≡ false → (result.last ≡ last) × (result.first ≡ Some cell) }
+    ensures stays { (e : Linked) → R.cells records.now cell ≡ Some e
+      → (e.change.revision ≡ revision) ⊎ (is_some e.change.row ≡ true)
+      → (result.last ≡ Some cell) × (result.first ≡ e.older) }
+    ensures goes { (e : Linked) → R.cells records.now cell ≡ Some e
+      → (e.change.revision ≡ revision → ⊥) → is_some e.change.row ≡ false
+      → (result.last ≡ last) × (result.first ≡ Some cell) }
 {
     if records.revision(cell) == revision || records.is_put(cell) {
         CutPlace {

@@ -1,6 +1,8 @@
 //! The index.
-ghost use Rattle.std.specs.Prelude.{◌≡◌, ℕ, ◌+◌, ◌-◌, ◌<◌, ◌≤◌, List, length, slice_index, Option, Some, None, MatchResult, MatchOption, vec_capacity, IfOk, [], take};
-ghost use Rattle.key_index.specs.Entries.{Entry, IsChained, IsLast, IsPlaced, NoneUpTo, SameChanges, linked, without};
+ghost use Rattle.std.specs.Prelude.{◌≡◌, ℕ, ◌+◌, ◌-◌, ◌<◌, ◌≤◌, List, length, slice_index, [], take};
+ghost use Rattle.std.specs.Prelude.{Option, Some, None, MatchResult, MatchOption, IfOk, vec_capacity};
+ghost use Rattle.key_index.specs.Links.{Linked, IsChained, IsLast, IsPlaced, NoneUpTo, SameChanges};
+ghost use Rattle.key_index.specs.Links.{with_link, without};
 ghost use Rattle.key_index.specs.Compaction.{GivesBack, IsCompacted};
 ghost use Rattle.key_index.specs.Index.{Heads, IsAt, IsEnd, IsFrom, IsGapFor, IsIndexOf, IsSpan, IsSpread};
 
@@ -21,16 +23,16 @@ pub struct KeyIndex {
 impl Model for KeyIndex {
     ghost Value = { Heads };
 
-    ghost view = { λ a. record { cells = a.heads.items; room = vec_capacity a.heads } };
+    ghost view = { λ a. record { cells = a.heads.items; capacity = vec_capacity a.heads } };
 }
 
 impl KeyIndex {
-    /// With room for this many keys. No other call takes memory.
-    pub fn new(alloc: Global, room: usize) -> Result<KeyIndex, AllocError>
-        ensures { IfOk result (λ index. index ≡ record { cells = []; room = room }) }
+    /// For this many keys at most. No other call takes memory.
+    pub fn new(alloc: Global, capacity: usize) -> Result<KeyIndex, AllocError>
+        ensures { IfOk result (λ index. index ≡ record { cells = []; capacity = capacity }) }
     {
         Ok(KeyIndex {
-            heads: Vec::with_capacity(alloc, room)?,
+            heads: Vec::with_capacity(alloc, capacity)?,
         })
     }
 
@@ -44,13 +46,14 @@ impl KeyIndex {
     /// The place of the key, or where it would go.
     pub fn find<R: Records>(&self, records: &R, key: &[u8]) -> Result<usize, usize>
         requires { IsSpread (R.cells records.now) self.now.cells }
-        ensures { MatchResult result (IsAt (R.cells records.now) self.now.cells key.now) (IsGapFor (R.cells records.now) self.now.cells key.now) }
+        ensures { MatchResult result (IsAt (R.cells records.now) self.now.cells key.now)
+          (IsGapFor (R.cells records.now) self.now.cells key.now) }
     {
         search(&self.heads, records, &Sought::Key(key))
     }
 
-    /// The places of the keys of the interval that begins at `key` and ends before `range_end`. With an empty end it is
-    /// the one key, and with the single byte 0 it has no end.
+    /// The places of the keys of the interval that begins at `key` and ends before `range_end`. With an empty
+    /// end it is the one key, and with the single byte 0 it has no end.
     pub fn span<R: Records>(&self, records: &R, key: &[u8], range_end: &[u8]) -> Range<usize>
         requires { IsSpread (R.cells records.now) self.now.cells }
         ensures { IsSpan (R.cells records.now) self.now.cells key.now range_end.now result.start result.end }
@@ -99,7 +102,8 @@ impl KeyIndex {
     pub fn at<R: Records>(&self, records: &R, key: &[u8], revision: u64) -> Option<CellNo>
         requires index { IsIndexOf (R.cells records.now) self.now.cells }
         requires chained { IsChained (R.cells records.now) }
-        ensures { MatchOption result (NoneUpTo (R.cells records.now) key.now revision) (IsLast (R.cells records.now) key.now revision) }
+        ensures { MatchOption result (NoneUpTo (R.cells records.now) key.now revision)
+          (IsLast (R.cells records.now) key.now revision) }
     {
         match self.find(records, key) {
             Ok(place) => last_up_to(self.heads[place], records, revision),
@@ -109,7 +113,7 @@ impl KeyIndex {
 
     /// Takes up a new record, which is newer than the others of its key.
     pub fn add<R: RecordsMut>(&mut self, records: &mut R, cell: CellNo)
-        requires room { length self.old.cells < self.old.room }
+        requires capacity { length self.old.cells < self.old.capacity }
         requires placed { IsPlaced (R.cells records.old) cell }
         requires index { IsIndexOf (without (R.cells records.old) cell) self.old.cells }
         requires chained { IsChained (without (R.cells records.old) cell) }
@@ -117,7 +121,7 @@ impl KeyIndex {
         ensures index { IsIndexOf (R.cells records.new) self.new.cells }
         ensures chained { IsChained (R.cells records.new) }
         ensures same { SameChanges (R.cells records.old) (R.cells records.new) }
-        ensures room { self.new.room ≡ self.old.room }
+        ensures capacity { self.new.capacity ≡ self.old.capacity }
         ensures length { length self.new.cells ≤ length self.old.cells + 1 }
         ensures free { R.free records.new ≡ R.free records.old }
         ensures rest { R.same_rest records.old records.new }
@@ -137,7 +141,7 @@ impl KeyIndex {
         }
     }
 
-    /// Drops what a compaction at this revision doesn't keep, and the places of the keys of which nothing is left.
+    /// Drops what a compaction at this revision doesn't keep, and the places of keys of which none is left.
     pub fn cut<R: RecordsMut>(&mut self, records: &mut R, revision: u64)
         requires index { IsIndexOf (R.cells records.old) self.old.cells }
         requires chained { IsChained (R.cells records.old) }
@@ -145,9 +149,10 @@ impl KeyIndex {
         ensures index { IsIndexOf (R.cells records.new) self.new.cells }
         ensures chained { IsChained (R.cells records.new) }
         ensures compacted { IsCompacted (R.cells records.old) (R.cells records.new) revision }
-        ensures room { self.new.room ≡ self.old.room }
+        ensures capacity { self.new.capacity ≡ self.old.capacity }
         ensures length { length self.new.cells ≤ length self.old.cells }
-        ensures free { GivesBack R.cost (R.cells records.old) (R.cells records.new) (R.free records.old) (R.free records.new) }
+        ensures free { GivesBack R.cost (R.cells records.old) (R.cells records.new)
+          (R.free records.old) (R.free records.new) }
         ensures rest { R.same_rest records.old records.new }
     {
         let left = cut_chains(&mut self.heads, records, revision);

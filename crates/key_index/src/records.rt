@@ -2,7 +2,7 @@
 ghost use Rattle.std.specs.Prelude.{◌≡◌, ℕ, ◌+◌, Option, Some, None, IsSome, IfSome, is_some};
 ghost use Rattle.etcd_model.specs.Order.{key_cmp as cmp_of_keys};
 ghost use Rattle.etcd_model.specs.Changes.{Recorded};
-ghost use Rattle.key_index.specs.Entries.{Entry, linked, without};
+ghost use Rattle.key_index.specs.Links.{Linked, with_link, without};
 ghost use Rattle.key_index.specs.Compaction.{cost_of};
 
 use etcd_types::CellNo;
@@ -11,7 +11,7 @@ use std::cmp::Ordering;
 /// Records under cell numbers. A call that names a cell asks that a record is there.
 pub trait Records {
     /// The record that a cell has.
-    ghost cells: { Self → ℕ → Option Entry };
+    ghost cells: { Self → ℕ → Option Linked };
 
     /// How the record's key stands to a key, in byte order.
     fn key_cmp(&self, cell: CellNo, key: &[u8]) -> Ordering
@@ -22,7 +22,8 @@ pub trait Records {
     fn keys_cmp(&self, cell: CellNo, other: CellNo) -> Ordering
         requires cell { IsSome (cells self.now cell) }
         requires other { IsSome (cells self.now other) }
-        ensures { IfSome (cells self.now cell) (λ e. IfSome (cells self.now other) (λ f. result ≡ cmp_of_keys e.change.key f.change.key)) };
+        ensures { IfSome (cells self.now cell) (λ e. IfSome (cells self.now other)
+          (λ f. result ≡ cmp_of_keys e.change.key f.change.key)) };
 
     /// The revision of the change.
     fn revision(&self, cell: CellNo) -> u64
@@ -54,7 +55,7 @@ pub trait RecordsMut: Records {
     /// Links a record to another one of its key, or to none.
     fn set_older(&mut self, cell: CellNo, older: Option<CellNo>)
         requires { IsSome (Self.cells self.old cell) }
-        ensures cells { Self.cells self.new ≡ linked (Self.cells self.old) cell older }
+        ensures cells { Self.cells self.new ≡ with_link (Self.cells self.old) cell older }
         ensures free { free self.new ≡ free self.old }
         ensures rest { same_rest self.old self.new };
 

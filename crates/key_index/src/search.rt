@@ -1,7 +1,8 @@
 //! Looking up a key among the newest records, and a revision in the chain of a key.
-ghost use Rattle.std.specs.Prelude.{◌≡◌, ℕ, ◌+◌, ◌-◌, ◌*◌, ◌<◌, ◌≤◌, List, length, slice_index, Option, Some, None, IsSome, IfSome, MatchResult, MatchOption};
+ghost use Rattle.std.specs.Prelude.{◌≡◌, ℕ, ◌+◌, ◌-◌, ◌*◌, ◌<◌, ◌≤◌, List, length, slice_index};
+ghost use Rattle.std.specs.Prelude.{Option, Some, None, IsSome, IfSome, MatchResult, MatchOption};
 ghost use Rattle.etcd_model.specs.Order.{key_cmp as cmp_of_keys};
-ghost use Rattle.key_index.specs.Entries.{Entry, IsChained, IsLast, IsNewest, IsOf, NoneUpTo};
+ghost use Rattle.key_index.specs.Links.{Linked, IsChained, IsLast, IsNewest, IsOf, NoneUpTo};
 ghost use Rattle.key_index.specs.Index.{IsAt, IsGapFor, IsSpread};
 ghost use Rattle.key_index.specs.Sought.{IsThere, sought_key};
 
@@ -20,7 +21,8 @@ pub(crate) enum Sought<'a> {
 fn stands<R: Records>(head: CellNo, records: &R, sought: &Sought<'_>) -> Ordering
     requires head { IsSome (R.cells records.now head) }
     requires sought { IsThere (R.cells records.now) sought.now }
-    ensures { IfSome (R.cells records.now head) (λ e. result ≡ cmp_of_keys e.change.key (sought_key (R.cells records.now) sought.now)) }
+    ensures { IfSome (R.cells records.now head)
+      (λ e. result ≡ cmp_of_keys e.change.key (sought_key (R.cells records.now) sought.now)) }
 {
     match *sought {
         Sought::Key(key) => records.key_cmp(head, key),
@@ -36,7 +38,9 @@ pub(crate) fn search<R: Records>(
 ) -> Result<usize, usize>
     requires spread { IsSpread (R.cells records.now) heads.now }
     requires sought { IsThere (R.cells records.now) sought.now }
-    ensures { MatchResult result (IsAt (R.cells records.now) heads.now (sought_key (R.cells records.now) sought.now)) (IsGapFor (R.cells records.now) heads.now (sought_key (R.cells records.now) sought.now)) }
+    ensures { MatchResult result
+      (IsAt (R.cells records.now) heads.now (sought_key (R.cells records.now) sought.now))
+      (IsGapFor (R.cells records.now) heads.now (sought_key (R.cells records.now) sought.now)) }
 {
     let mut low = 0;
     let mut high = heads.len();
@@ -55,7 +59,9 @@ pub(crate) fn search<R: Records>(
 pub fn last_up_to<R: Records>(head: CellNo, records: &R, revision: u64) -> Option<CellNo>
     requires chained { IsChained (R.cells records.now) }
     requires newest { IsNewest (R.cells records.now) head }
-    ensures { (key : List ℕ) → IsOf (R.cells records.now) key head → MatchOption result (NoneUpTo (R.cells records.now) key revision) (IsLast (R.cells records.now) key revision) }
+    ensures { (key : List ℕ) → IsOf (R.cells records.now) key head
+      → MatchOption result (NoneUpTo (R.cells records.now) key revision)
+      (IsLast (R.cells records.now) key revision) }
 {
     let mut cell = head;
     while records.revision(cell) > revision {

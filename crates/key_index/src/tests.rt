@@ -49,7 +49,7 @@ impl Model for Changes {
 
 impl Changes {
     fn new(alloc: Global, keys: usize) -> Mem<Changes>
-        ensures { IfOk result (λ s. s ≡ record { cells = []; room = keys }) }
+        ensures { IfOk result (λ s. s ≡ record { cells = []; capacity = keys }) }
     {
         Ok(Changes {
             records: RecordList {
@@ -66,8 +66,8 @@ impl Changes {
         key: &[u8],
         row: Option<KeyValue>,
     ) -> Mem<()>
-        requires room { length self.old.cells < self.old.room }
-        ensures room { self.new.room ≡ self.old.room }
+        requires capacity { length self.old.cells < self.old.capacity }
+        ensures capacity { self.new.capacity ≡ self.old.capacity }
         ensures length { length self.new.cells ≤ length self.old.cells + 1 }
     {
         let place = self.records.items.len();

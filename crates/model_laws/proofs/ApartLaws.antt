@@ -6,12 +6,13 @@ use Rattle.std.specs.Str.{bytes_eq}
 use Rattle.std.proofs.lemmas.Bool.{cases_Bool}
 use Rattle.std.proofs.lemmas.Bool.Decides.{nat_tests}
 use Rattle.etcd_model.specs.declared.state.Change.{Change}
+use Rattle.etcd_model.specs.declared.state.History.{History}
 use Rattle.etcd_model.specs.History.{key_of}
 use Rattle.etcd_model.specs.Kept.{is_last_put}
-use Rattle.etcd_model.specs.Changes.{Recorded, entry_at, entry_of, change_of, changes_of, recorded, last, keeps, kept}
+use Rattle.etcd_model.specs.Changes.{Recorded, entry_at, entry_of, change_of, changes_of, recorded, last, keeps, kept, ChangesOnce, record_revision}
 use Rattle.etcd_model.proofs.HistoryLaws.{changes_of as own_changes}
 use Rattle.model_laws.specs.Once.{IsOnce}
-use Rattle.model_laws.specs.Apart.{is_same_place, AreApart, is_at, is_last_up_to, ChangesApart, KeptApart, RecordedApart, KeptByLast}
+use Rattle.model_laws.specs.Apart.{is_same_place, AreApart, is_at, is_last_up_to}
 use Rattle.model_laws.proofs.KeptLaws.{all_kept, kept_true, kept_false}
 use Rattle.model_laws.proofs.RecordedLaws.{all_append, all_weaker, changes_are_entries, key_of-change_by}
 use Rattle.model_laws.proofs.HistoryKeptLaws.{same_place, Apart, no_more, fewer, is_put-change, entries_apart, alike}
@@ -34,10 +35,10 @@ from_entries : (xs : List Recorded) → Apart (map entry_of xs) → AreApart xs
 from_entries [] h = tt
 from_entries (x ∷ xs) h = (from_place x xs h.0, from_entries xs h.1)
 
-pub changes_apart : ChangesApart
+pub changes_apart : (H : History) → ChangesOnce H → AreApart (changes_of H)
 changes_apart H once = from_entries (changes_of H) (subst Apart (sym (changes_are_entries H)) (entries_apart H.first H.revisions once))
 
-pub kept_apart : KeptApart
+pub kept_apart : (c : ℕ) (xs : List Recorded) → AreApart xs → AreApart (kept c xs)
 kept_apart c [] apart = tt
 kept_apart c (x ∷ xs) apart =
     elim (cases_Bool (keeps c x xs)) [
@@ -70,7 +71,7 @@ once_apart n xs (c ∷ cs) once = (
   once_apart n xs cs (λ key. fewer (bytes_eq (key_of c) key) c (own_changes key cs) (once key)),
 )
 
-pub recorded_apart : RecordedApart
+pub recorded_apart : (n : ℕ) (xs : List Recorded) (cs : List Change) → AreApart xs → AllByRecursion (λ x. x.revision < n) xs → IsOnce cs → AreApart (record_revision n xs cs)
 recorded_apart n xs cs apart below once =
     subst AreApart (sym (recorded_where_once n xs cs once))
     (apart_append xs (map (λ c. recorded xs (entry_at n c)) cs) apart (once_apart n xs cs once) (all_weaker (λ (x : Recorded). x.revision < n) (λ (x : Recorded). AllByRecursion (λ y. is_same_place x y ≡ false) (map (λ c. recorded xs (entry_at n c)) cs)) (λ x h. later_place n xs x cs h) xs below))
@@ -91,5 +92,5 @@ kept_filter c all zs (x ∷ ys) is apart =
     ∙ ap (λ b. nat_le c x.revision || b) (last_entry x (last x.key c all)) in
     ap (λ (b : Bool). if b then x ∷ kept c ys else kept c ys) same ∙ ap (λ zs. cond (nat_le c x.revision || is_last_up_to c all x) (x ∷ zs) zs) rest
 
-pub kept_by_last : KeptByLast
+pub kept_by_last : (c : ℕ) (xs : List Recorded) → AreApart xs → kept c xs ≡ filter (λ x. nat_le c x.revision || is_last_up_to c xs x) xs
 kept_by_last c xs apart = kept_filter c xs [] xs refl apart

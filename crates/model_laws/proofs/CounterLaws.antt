@@ -6,22 +6,23 @@ use Rattle.std.specs.Ordering.{int_eq, is_eq}
 use Rattle.std.specs.declared.cmp.Ordering.TheVariants.{Less, Equal, Greater}
 use Rattle.std.proofs.lemmas.Bool.{true≢false, or_parts}
 use Rattle.std.proofs.lemmas.Bool.Decides.{nat_tests, Decides-int_eq}
+use Rattle.std.specs.List.Sorted.{IsStrictlySortedBy}
 use Rattle.etcd_types.specs.declared.step.Step.{Step}
 use Rattle.etcd_types.specs.declared.step.Step.TheVariants.{Put, Delete, Txn, Compact, Grant, Revoke, KeepAlive, Tick}
 use Rattle.etcd_types.specs.Limits.{last_moment, last_lease_id}
 use Rattle.etcd_model.specs.declared.state.Lease.{Lease}
+use Rattle.etcd_model.specs.Store.{IsStore, Store, kept_store}
+use Rattle.etcd_model.specs.Machine.{opening}
 use Rattle.etcd_model.specs.declared.state.History.{History}
 use Rattle.etcd_model.specs.declared.state.State.{State}
 use Rattle.etcd_model.specs.Order.{beside, put_in}
 use Rattle.etcd_model.specs.Operations.{has_lease}
 use Rattle.etcd_model.specs.Tenant.{used}
-use Rattle.etcd_model.specs.Leases.{lease_at, step_past, free_id, finish, run_out}
+use Rattle.etcd_model.specs.Leases.{lease_at, step_past, free_id, finish, run_out, with_lease}
 use Rattle.etcd_model.specs.Stepping.{counter_after, early, outcome, kept_alive}
 use Rattle.etcd_model.specs.Machine as machine
 use Rattle.etcd_model.specs.Held.{by_id}
-use Rattle.model_laws.specs.Leases.{FreeIdWithin, GrantAddsOne, RenewAddsNone, FinishTakesOne}
-use Rattle.model_laws.specs.Runs.{FitsCounter, OpeningFitsCounter, StepFitsCounter}
-use Rattle.model_laws.specs.Space.{FinishFreesACell}
+use Rattle.model_laws.specs.Runs.{FitsCounter}
 use Rattle.model_laws.proofs.HeldLaws.{after_early, none_used_up, after_machine}
 use Rattle.model_laws.proofs.SpaceLaws.{finish_takes_none}
 use Rattle.model_laws.proofs.LeaseLaws.{same_id, one_of_id}
@@ -33,7 +34,7 @@ use Rattle.model_laws.proofs.QuotaLaws.{renewed}
 past_by_one : (n : ℕ) (l : Lease) → step_past n l ≤ n + 1
 past_by_one n l = elim (int_eq l.id (pos n)) as (λ b. (if b then n + 1 else n) ≤ n + 1) [ true ↦ omega arith | false ↦ omega arith ]
 
-pub free_id_within : FreeIdWithin
+pub free_id_within : (counter : ℕ) (leases : List Lease) → free_id counter leases ≤ counter + length leases
 free_id_within counter [] = omega arith
 free_id_within counter (l ∷ ls) = omega (arith, free_id_within (step_past counter l) ls, past_by_one counter l)
 
@@ -51,10 +52,10 @@ grant_adds_one x (l ∷ ls) h =
     tied : by_id x l ≡ Equal → int_eq l.id x.id ≡ true
     tied e = (Decides-int_eq l.id x.id).1 (sym (same_id x.id l.id (ap is_eq e)))
 
-pub grant_adds : GrantAddsOne
+pub grant_adds : (moment : ℕ) (leases : List Lease) (id : ℤ) (ttl : ℕ) → has_lease leases id ≡ false → length (with_lease moment leases id ttl) ≡ length leases + 1
 grant_adds moment leases id ttl h = grant_adds_one (record { id = id; ttl = ttl; end = moment + ttl }) leases h
 
-pub renew_adds_none : RenewAddsNone
+pub renew_adds_none : (moment : ℕ) (leases : List Lease) (id : ℤ) (ttl : ℕ) → IsStrictlySortedBy by_id leases → has_lease leases id ≡ true → length (with_lease moment leases id ttl) ≡ length leases
 renew_adds_none moment leases id ttl ascend h = renewed (record { id = id; ttl = ttl; end = moment + ttl }) leases h ascend
 
 -- those without an ID, and those with it
@@ -72,10 +73,10 @@ some_there id (l ∷ ls) h = elim (int_eq l.id id) as (λ b. (b || has_lease ls 
   | false ↦ λ t. some_there id ls t
 ] h
 
-pub finish_takes_one : FinishTakesOne
+pub finish_takes_one : (leases : List Lease) (id : ℤ) → IsStrictlySortedBy by_id leases → has_lease leases id ≡ true → length (filter (λ l. not (int_eq l.id id)) leases) + 1 ≡ length leases
 finish_takes_one leases id ascend h = omega (arith, split id leases, some_there id leases h, one_of_id id leases ascend)
 
-pub finish_frees_a_cell : FinishFreesACell
+pub finish_frees_a_cell : (t : State Store) (id : ℤ) → IsStore t.store → IsStrictlySortedBy by_id t.leases → has_lease t.leases id ≡ true → used kept_store (finish kept_store t id) + 1 ≡ used kept_store t
 finish_frees_a_cell t id is ascend h = omega (arith, finish_takes_none t.store id is, finish_takes_one t.leases id ascend h)
 
 -- ---- the counter
@@ -114,8 +115,8 @@ counter_outcome bound S (Tick m) space fits e =
     record { least = omega (arith, same, fits.least); most = omega (arith, same, fits.most) }
 counter_outcome bound S step space fits e = quiet_outcome (FitsCounter bound) S fits (λ i w. record { least = fits.least; most = fits.most }) (λ on. record { least = fits.least; most = fits.most }) step refl
 
-pub step_fits_counter : StepFitsCounter
+pub step_fits_counter : (S : State History) (step : Step) (bound : ℕ) → used machine.history S ≤ bound → FitsCounter bound S → FitsCounter bound (machine.machine S step).state
 step_fits_counter S step bound space fits = after_machine (FitsCounter bound) S step fits (record { least = fits.least; most = fits.most }) (after_early (FitsCounter bound) S step fits (λ e l. counter_outcome bound S step space fits e))
 
-pub opening_fits_counter : OpeningFitsCounter
+pub opening_fits_counter : (cluster quota first bound : ℕ) → FitsCounter bound (opening cluster quota first)
 opening_fits_counter cluster quota first bound = record { least = omega arith; most = omega arith }

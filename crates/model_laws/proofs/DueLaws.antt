@@ -1,5 +1,5 @@
 -- The lease that ends first.
-use Rattle.std.proofs.Common.{◌≡◌, List, [], ◌∷◌, refl, ap, ◌∙◌, sym, subst, inl, inr, ◌⊎◌}
+use Rattle.std.proofs.Common.{◌≡◌, List, [], ◌∷◌, refl, ap, ◌∙◌, sym, subst, inl, inr, ◌⊎◌, ℕ}
 use Rattle.std.specs.Prelude.{Bool, true, false, cond, fold, filter, nat_le}
 use Rattle.std.specs.List.{AllByRecursion}
 use Rattle.std.specs.Ordering.{ordering_reverse}
@@ -7,9 +7,8 @@ use Rattle.std.specs.declared.cmp.Ordering.TheVariants.{Less, Equal, Greater}
 use Rattle.std.proofs.lemmas.Cmp.{tied_itself}
 use Rattle.etcd_model.specs.declared.state.Lease.{Lease}
 use Rattle.etcd_model.specs.Order.{beside, put_in, in_order}
-use Rattle.etcd_model.specs.Leases.{end_cmp}
+use Rattle.etcd_model.specs.Leases.{end_cmp, run_out}
 use Rattle.model_laws.specs.Recording.{IsIn}
-use Rattle.model_laws.specs.Leases.{RunOutFirst, RunOutNone}
 use Rattle.model_laws.proofs.LeaseLaws.{end_cmp_total, put_first}
 
 -- ---- members that pass
@@ -37,7 +36,7 @@ none_due : (p : Lease → Bool) (ls : List Lease) → ((l : Lease) → IsIn l ls
 none_due p [] h = refl
 none_due p (l ∷ ls) h = ap (λ b. cond b (l ∷ filter p ls) (filter p ls)) (h l (inl refl)) ∙ none_due p ls (λ x there. h x (inr there))
 
-pub run_out_none : RunOutNone
+pub run_out_none : (moment : ℕ) (leases : List Lease) → ((l : Lease) → IsIn l leases → nat_le l.end moment ≡ false) → run_out moment leases ≡ []
 run_out_none moment leases h = ap (in_order end_cmp) (none_due (λ l. nat_le l.end moment) leases h)
 
 -- ---- the least of some comes first
@@ -80,7 +79,9 @@ module _ (x : Lease) where
     ]
   ]
 
-pub run_out_first : RunOutFirst
+pub run_out_first : (moment : ℕ) (leases : List Lease) (first : Lease) → IsIn first leases → nat_le first.end moment ≡ true
+    → ((l : Lease) → IsIn l leases → nat_le l.end moment ≡ true → (l ≡ first) ⊎ (end_cmp first l ≡ Less))
+    → (rest : List Lease) × (run_out moment leases ≡ first ∷ rest)
 run_out_first moment leases first there due least =
     let p : Lease → Bool = λ l. nat_le l.end moment in
     comes_first first (filter p leases) [] (each_due (λ l. (l ≡ first) ⊎ (end_cmp first l ≡ Less)) p leases least) (due_in p leases first there due) tt

@@ -37,11 +37,10 @@ use Rattle.etcd_model.specs.Machine.{opening}
 use Rattle.etcd_model.specs.Changes.{Recorded, ChangesOnce, entry_at, entry_of, change_of, changes_of, recorded, record_revision, live, rows, keeps, kept, Rises}
 use Rattle.etcd_model.specs.Store as store
 use Rattle.etcd_model.specs.Store.{Store, kept_store}
-use Rattle.etcd_model.specs.Held.{keep, IsHistory}
+use Rattle.etcd_model.specs.Held.{keep, IsHistory, outcome_over, over}
 use Rattle.etcd_model.proofs.HistoryLaws.{current-after}
 use Rattle.etcd_model.proofs.GrowthLaws.{after_before_space, store_stays, first_none}
 use Rattle.etcd_model.proofs.OnceLaws.{not_refused, outcome_once, ChangesOnce-opening}
-use Rattle.model_laws.specs.Holding.{KeepAfter, KeepCompact, KeepReads, KeepLook, KeepAhead, KeepRowAt, KeepCells, OpeningIsHistory, StepIsHistory, StepOverKept}
 use Rattle.model_laws.proofs.KeptLaws.{kept_append, kept_kept, kept_true, kept_false, live_kept}
 use Rattle.model_laws.proofs.RecordedLaws.{all_push, all_weaker, changes_are_entries, changes_after, changes_rise, changes_up_to_current, changes_own_their_rows, live_of_changes, rows_of_changes}
 use Rattle.model_laws.proofs.HistoryKeptLaws.{rows_kept, recorded_kept, kept_of_changes}
@@ -63,7 +62,7 @@ kept_revision c n xs (d ∷ ds) above rises up =
     kept_revision c n (xs ++ x ∷ []) ds above (rises_push xs x rises up) (all_push (λ (y : Recorded). y.revision ≤ n) xs x up (omega arith))
     ∙ ap (λ ys. record_revision n ys ds) (kept_append c xs (x ∷ []) (above, tt) ∙ ap (λ y. kept c xs ++ y ∷ []) (sym (recorded_kept c xs e from rises)))
 
-pub keep_after : KeepAfter
+pub keep_after : (H : History) (cs : List Change) → H.compacted ≤ current H → store.after (keep H) cs ≡ keep (history.after H cs)
 keep_after H [] le = refl
 keep_after H (c ∷ cs) le =
     let n = current H + 1 in
@@ -73,7 +72,7 @@ keep_after H (c ∷ cs) le =
     ∙ kept_revision H.compacted n (changes_of H) (c ∷ cs) above (changes_rise H) (all_weaker (λ (x : Recorded). x.revision ≤ current H) (λ (x : Recorded). x.revision ≤ n) (λ x h. omega (arith, h)) (changes_of H) (changes_up_to_current H)) in
     λ i. record { current = sym (current-after H c cs) i; compacted = H.compacted; changes = sym all i }
 
-pub keep_compact : KeepCompact
+pub keep_compact : (H : History) (r : ℕ) → H.compacted ≤ r → store.compact (keep H) r ≡ keep (machine.history.compact H r)
 keep_compact H r le = λ i. record { current = current H; compacted = r; changes = kept_kept H.compacted r (changes_of H) le (changes_rise H) i }
 
 -- ---- reads
@@ -91,7 +90,7 @@ guarded r c none x y same = elim (cases_lt r c) [
   | inr from ↦ ap (λ z. if nat_lt r c then none else z) (same from)
 ]
 
-pub keep_reads : KeepReads
+pub keep_reads : (H : History) → H.compacted ≤ current H → store.reads_of (keep H) ≡ machine.reads_of H
 keep_reads H le =
     let row : (λ (key : List ℕ). live key (current H) (kept H.compacted (changes_of H))) ≡ (λ key. kv H key (current H)) = fun_ext (λ key. live_kept_history H key (current H) le) in
     let newest : (λ (key end : List ℕ). rows (is_in key end) (current H) (kept H.compacted (changes_of H))) ≡ (λ key end. history.rows H (is_in key end) (current H)) = fun_ext (λ key. fun_ext (λ end. rows_kept_history H (is_in key end) (current H) le)) in
@@ -124,7 +123,7 @@ records_entries (x ∷ xs) =
     sum_by-cons (λ (y : Recorded). cost (change_of y)) x xs ∙ ap (λ n. cost (change_of x) + n) (records_entries xs)
     ∙ sym (sum_by-cons (λ (e : Entry). cost e.change) (entry_of x) (map entry_of xs))
 
-pub keep_cells : KeepCells
+pub keep_cells : (H : History) → IsHistory H → store.cells (keep H) ≡ over_history.cells H
 keep_cells H is =
     ap (λ n. n + store.reserved_cells (current H) (kept H.compacted (changes_of H))) (records_entries (kept H.compacted (changes_of H)) ∙ ap (sum_by (λ (e : Entry). cost e.change)) (kept_of_changes H is.once))
     ∙ ap (λ (rs : List KeyValue). sum_by (λ (e : Entry). cost e.change) (over_history.kept H) + sum_by (λ (row : KeyValue). cost_delete row.key) rs) (rows_kept_history H every_key (current H) is.compacted)
@@ -144,18 +143,9 @@ carries H le = record {
   row_at = fun_ext (λ key. fun_ext (λ r. guarded r H.compacted None (live key r (kept H.compacted (changes_of H))) (kv H key r) (live_kept_history H key r)));
 }
 
-pub keep_look : KeepLook
-keep_look H le = (carries H le).look
-
-pub keep_ahead : KeepAhead
-keep_ahead H le = (carries H le).ahead
-
-pub keep_row_at : KeepRowAt
-keep_row_at H le = (carries H le).row_at
-
 -- ---- a history as runs make it
 
-pub opening_is_history : OpeningIsHistory
+pub opening_is_history : (cluster quota first : ℕ) → IsHistory (opening cluster quota first).store
 opening_is_history cluster quota first = record { compacted = omega arith; once = ChangesOnce-opening cluster quota first }
 
 pub none_refused : (S : State History) (step : Step) → first_refusal (early machine.history S step ∷ look_up machine.history S step ∷ []) ≡ None → (early machine.history S step ≡ None) × (look_up machine.history S step ≡ None)
@@ -223,12 +213,12 @@ after_machine P S step same alarmed before = checked (early machine.history S st
     checked (Some r) = before
     checked None = either _ _ _ same (counted (look_up machine.history S step))
 
-pub step_is_history : StepIsHistory
+pub step_is_history : (S : State History) (step : Step) → IsHistory S.store → IsHistory (machine.machine S step).state.store
 step_is_history S step is = after_machine (λ T. IsHistory T.store) S step is is (before_space_is_history S step is)
 
 -- ---- the steps
 
-pub step_over_kept : StepOverKept
+pub step_over_kept : (S : State History) (step : Step) → IsHistory S.store → stepping.machine kept_store (over keep S) step ≡ outcome_over keep (machine.machine S step)
 step_over_kept S step is =
     carried machine.history kept_store keep (λ H. H.compacted ≤ current H) carries up_after S is.compacted (keep_cells S.store is) step
     (keep_cells (machine.before_space S step).state.store (before_space_is_history S step is))

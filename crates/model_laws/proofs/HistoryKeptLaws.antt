@@ -13,10 +13,10 @@ use Rattle.etcd_model.specs.declared.state.History.{History}
 use Rattle.etcd_model.specs.declared.state.Change.{Change}
 use Rattle.etcd_model.specs.declared.state.Entry.{Entry}
 use Rattle.etcd_model.specs.History.{key_of, is_put, entries_after, last_change}
+use Rattle.etcd_model.specs.Kept as over_history
 use Rattle.etcd_model.specs.Kept.{is_last_put, is_kept}
-use Rattle.etcd_model.specs.Changes.{Recorded, OwnRow, entry_at, entry_of, change_of, change_by, changes_of, next_row, last_by, is_up_to, last, keeps, kept, or_before}
+use Rattle.etcd_model.specs.Changes.{Recorded, OwnRow, entry_at, entry_of, change_of, change_by, changes_of, next_row, last_by, is_up_to, last, keeps, kept, or_before, ChangesOnce, Rises, recorded, rows}
 use Rattle.etcd_model.proofs.HistoryLaws.{changes_of as changes_of_key}
-use Rattle.model_laws.specs.Keeping.{KeptOfChanges, RowsOfKept, RecordedOverKept}
 use Rattle.model_laws.proofs.LastLaws.{some_or_none, none_any, any_none, all_last, last_passes}
 use Rattle.model_laws.proofs.KeptLaws.{same_key, all_kept, live_kept, last_here}
 use Rattle.model_laws.proofs.RowLaws.{same_rows}
@@ -24,10 +24,10 @@ use Rattle.model_laws.proofs.RecordedLaws.{all_append, all_weaker, changes_are_e
 
 -- ---- the rows, and what is recorded next
 
-pub rows_kept : RowsOfKept
+pub rows_kept : (interval : List ℕ → Bool) (c r : ℕ) (xs : List Recorded) → c ≤ r → Rises xs → AllByRecursion OwnRow xs → rows interval r (kept c xs) ≡ rows interval r xs
 rows_kept interval c r xs le rises own = same_rows (kept c xs) xs (all_kept OwnRow c xs own) own r r (λ key. live_kept key c r xs le rises) interval
 
-pub recorded_kept : RecordedOverKept
+pub recorded_kept : (c : ℕ) (xs : List Recorded) (e : Entry) → c ≤ e.revision → Rises xs → recorded (kept c xs) e ≡ recorded xs e
 recorded_kept c xs e le rises = ap (λ o. record { key = key_of e.change; revision = e.revision; row = next_row e.revision o e.change }) (live_kept (key_of e.change) c e.revision xs le rises)
 
 -- ---- each change of a key is alone at its revision
@@ -165,7 +165,7 @@ kept_rest H zs (x ∷ ys) is apart =
     out true = refl
     out false = refl
 
-pub kept_of_changes : KeptOfChanges
+pub kept_of_changes : (H : History) → ChangesOnce H → map entry_of (kept H.compacted (changes_of H)) ≡ over_history.kept H
 kept_of_changes H once =
     kept_rest H [] (changes_of H) refl (subst Apart (sym (changes_are_entries H)) (entries_apart H.first H.revisions once))
     ∙ ap (filter (is_kept H)) (changes_are_entries H)

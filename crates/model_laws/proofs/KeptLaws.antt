@@ -8,10 +8,9 @@ use Rattle.std.proofs.lemmas.Bool.Decides.{nat_tests}
 use Rattle.std.proofs.lemmas.Bool.{cases_Bool, cases_lt}
 use Rattle.etcd_types.specs.declared.key_value.KeyValue.{KeyValue}
 use Rattle.etcd_model.specs.Changes.{Recorded, last_by, is_up_to, last, live, keeps, kept, since, Rises, or_before}
-use Rattle.model_laws.specs.Keeping.{KeptOfAppended, KeptOfKept, LiveOfKept, SinceOfKept, KeptRises}
 use Rattle.model_laws.proofs.LastLaws.{some_or_none, none_any, all_last}
 
-pub since_kept : SinceOfKept
+pub since_kept : (c r : ℕ) (xs : List Recorded) → c ≤ r → since r (kept c xs) ≡ since r xs
 since_kept c n [] le = refl
 since_kept c n (x ∷ xs) le = grind (arith, nat_tests, since_kept c n xs le)
 
@@ -21,7 +20,7 @@ any_append key c [] [] later = refl
 any_append key c [] (y ∷ ys) later = grind (arith, nat_tests, later.0, any_append key c [] ys later.1)
 any_append key c (x ∷ xs) ys later = grind (arith, any_append key c xs ys later)
 
-pub kept_append : KeptOfAppended
+pub kept_append : (c : ℕ) (xs ys : List Recorded) → AllByRecursion (λ y. c < y.revision) ys → kept c (xs ++ ys) ≡ kept c xs ++ ys
 kept_append c [] [] later = refl
 kept_append c [] (y ∷ ys) later = grind (arith, nat_tests, later.0, kept_append c [] ys later.1)
 kept_append c (x ∷ xs) ys later = grind (arith, any_append x.key c xs ys later, kept_append c xs ys later)
@@ -60,7 +59,7 @@ keeps_alike c r x xs le all keep = elim (cases_lt x.revision c) [
     keeps_below : (c r : ℕ) (x : Recorded) (xs : List Recorded) → c ≤ r → x.revision < c → keeps c x xs ≡ true → keeps r x (kept c xs) ≡ keeps r x xs
     keeps_below c r x xs le below keep = grind (arith, nat_tests, any_kept x.key c r xs le)
 
-pub kept_kept : KeptOfKept
+pub kept_kept : (c r : ℕ) (xs : List Recorded) → c ≤ r → Rises xs → kept r (kept c xs) ≡ kept r xs
 kept_kept c r [] le rises = refl
 kept_kept c r (x ∷ xs) le rises = grind (arith, keeps_alike c r x xs le rises.0, not_later c r x xs le, kept_kept c r xs le rises.1)
 
@@ -164,7 +163,7 @@ last_kept key c r (x ∷ xs) le rises = elim (last_kept key c r xs le rises.1) [
     any_here : (p : Recorded → Bool) (x : Recorded) (xs : List Recorded) → p x ≡ true → list_any p (x ∷ xs) ≡ true
     any_here p x xs h = grind arith
 
-pub live_kept : LiveOfKept
+pub live_kept : (key : List ℕ) (c r : ℕ) (xs : List Recorded) → c ≤ r → Rises xs → live key r (kept c xs) ≡ live key r xs
 live_kept key c r xs le rises = elim (last_kept key c r xs le rises) [
   | inl eq ↦ ap (option_and_then (λ x. x.row)) eq
   | inr l ↦ ap (option_and_then (λ x. x.row)) l.1.none ∙ sym l.1.delete ∙ sym (ap (option_and_then (λ x. x.row)) l.1.last)
@@ -177,7 +176,7 @@ all_kept P c (x ∷ xs) all = elim (cases_Bool (keeps c x xs)) [
   | inr lost ↦ subst (AllByRecursion P) (sym (kept_false c x xs lost)) (all_kept P c xs all.1)
 ]
 
-pub kept_rises : KeptRises
+pub kept_rises : (c : ℕ) (xs : List Recorded) → Rises xs → Rises (kept c xs)
 kept_rises c [] rises = tt
 kept_rises c (x ∷ xs) rises = elim (cases_Bool (keeps c x xs)) [
   | inl keep ↦ subst Rises (sym (kept_true c x xs keep)) (all_kept (λ y. x.revision ≤ y.revision) c xs rises.0, kept_rises c xs rises.1)

@@ -1,9 +1,9 @@
 -- The last change of a key is the one with the greatest revision.
-use Rattle.std.proofs.Common.{◌≡◌, ◌≤◌, List, [], ◌∷◌, Bool, true, false, Option, Some, None, if◌then◌else◌, sym, ap, ◌∙◌, subst, arith, inl, inr}
+use Rattle.std.proofs.Common.{◌≡◌, ◌≤◌, List, [], ◌∷◌, Bool, true, false, Option, Some, None, if◌then◌else◌, sym, ap, ◌∙◌, subst, arith, inl, inr, ℕ}
 use Rattle.std.specs.List.{AllByRecursion}
 use Rattle.std.proofs.lemmas.Option.{cond_some}
 use Rattle.etcd_model.specs.Changes.{Recorded, last_by, is_up_to, last, Rises}
-use Rattle.model_laws.specs.Recording.{IsIn, LastIs, LastOfNone}
+use Rattle.model_laws.specs.Recording.{IsIn}
 use Rattle.model_laws.proofs.LastLaws.{or_some, or_none, some_or_none, last_passes, cond_none}
 use Rattle.model_laws.proofs.KeptLaws.{same_key, up_to_key}
 
@@ -46,7 +46,10 @@ last_max p (x ∷ xs) y k rises is h pass = elim (or_some (last_by p xs) (if p x
       ]
 ]
 
-pub last_is : LastIs
+pub last_is : (xs : List Recorded) (key : List ℕ) (r : ℕ) (k : Recorded) → Rises xs → IsIn k xs → is_up_to key r k ≡ true
+    → ((w : Recorded) → IsIn w xs → is_up_to key r w ≡ true → w.revision ≤ k.revision)
+    → ((w : Recorded) → IsIn w xs → w.key ≡ k.key → w.revision ≡ k.revision → w ≡ k)
+    → last key r xs ≡ Some k
 last_is xs key r k rises h pass greatest once = elim (some_or_none (last key r xs)) [
   | inl none ↦ absurd (none_passes (is_up_to key r) xs k none h pass)
   | inr y ↦
@@ -58,7 +61,7 @@ last_is xs key r k rises h pass greatest once = elim (some_or_none (last key r x
       y.1 ∙ ap (λ (z : Recorded). let o : Option Recorded = Some z in o) one
 ]
 
-pub last_of_none : LastOfNone
+pub last_of_none : (xs : List Recorded) (key : List ℕ) (r : ℕ) → ((w : Recorded) → IsIn w xs → is_up_to key r w ≡ true → ⊥) → last key r xs ≡ None
 last_of_none xs key r never = elim (some_or_none (last key r xs)) [
   | inl none ↦ none
   | inr y ↦ absurd (never y.0 (last_in (is_up_to key r) xs y.0 y.1) (last_passes (is_up_to key r) xs y.0 y.1))

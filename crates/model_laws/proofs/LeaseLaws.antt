@@ -14,10 +14,9 @@ use Rattle.std.proofs.lemmas.List.Kept.{IsStrictlySortedBy-filter}
 use Rattle.etcd_model.specs.declared.state.Lease.{Lease}
 use Rattle.etcd_model.specs.Order.{beside, put_in, in_order}
 use Rattle.etcd_model.specs.Operations.{has_lease}
-use Rattle.etcd_model.specs.Leases.{step_past, end_cmp}
+use Rattle.etcd_model.specs.Leases.{step_past, end_cmp, free_id, run_out, with_lease}
 use Rattle.etcd_model.proofs.OrderLaws.{sorted-put_in, sorted-in_order, below_less}
 use Rattle.etcd_model.specs.Held.{by_id}
-use Rattle.model_laws.specs.Leases.{FreeIdIsLeast, WithLeaseAscends, WithoutLeaseAscends, RunOutAscend, RunOutRest}
 
 pub by_id_total : IsTotalOrder by_id
 by_id_total = on_total (λ (l : Lease). l.id) int_cmp_total
@@ -25,13 +24,13 @@ by_id_total = on_total (λ (l : Lease). l.id) int_cmp_total
 pub end_cmp_total : IsTotalOrder end_cmp
 end_cmp_total = then_total (on_total (λ (l : Lease). l.end) nat_cmp_total) (on_total (λ (l : Lease). l.id) int_cmp_total)
 
-pub with_lease_ascends : WithLeaseAscends
+pub with_lease_ascends : (moment : ℕ) (leases : List Lease) (id : ℤ) (ttl : ℕ) → IsStrictlySortedBy by_id leases → IsStrictlySortedBy by_id (with_lease moment leases id ttl)
 with_lease_ascends moment leases id ttl h = sorted-put_in by_id by_id_total (record { id = id; ttl = ttl; end = moment + ttl }) leases h
 
-pub without_lease_ascends : WithoutLeaseAscends
+pub without_lease_ascends : (leases : List Lease) (id : ℤ) → IsStrictlySortedBy by_id leases → IsStrictlySortedBy by_id (filter (λ l. not (int_eq l.id id)) leases)
 without_lease_ascends leases id h = IsStrictlySortedBy-filter by_id (λ (l : Lease). not (int_eq l.id id)) leases h
 
-pub run_out_ascend : RunOutAscend
+pub run_out_ascend : (moment : ℕ) (leases : List Lease) → IsStrictlySortedBy end_cmp (run_out moment leases)
 run_out_ascend moment leases = sorted-in_order end_cmp end_cmp_total (filter (λ (l : Lease). nat_le l.end moment) leases)
 
 -- ---- the chosen ID
@@ -87,7 +86,9 @@ least n (l ∷ ls) h = elim (int_eq l.id (pos n)) as (λ b. int_eq l.id (pos n) 
       }
 ] refl
 
-pub free_id_is_least : FreeIdIsLeast
+pub free_id_is_least : (counter : ℕ) (leases : List Lease) → IsStrictlySortedBy by_id leases
+    → (counter ≤ free_id counter leases) × (has_lease leases (pos (free_id counter leases)) ≡ false)
+    × ((n : ℕ) → counter ≤ n → n < free_id counter leases → has_lease leases (pos n) ≡ true)
 free_id_is_least counter leases h = let r = least counter leases h in (r.from, r.free, r.taken)
 
 -- ---- a filter that cannot tell apart what ties
@@ -197,7 +198,8 @@ others_stay id (l ∷ ls) h = step (others_stay id ls) (int_eq l.id id) h
     step rest true few = absurd (omega (arith, few))
     step rest false few = ap (λ xs. l ∷ xs) (rest few)
 
-pub run_out_rest : RunOutRest
+pub run_out_rest : (moment : ℕ) (leases : List Lease) (first : Lease) (rest : List Lease) → IsStrictlySortedBy by_id leases
+    → run_out moment leases ≡ first ∷ rest → run_out moment (filter (λ l. not (int_eq l.id first.id)) leases) ≡ rest
 run_out_rest moment leases first rest sorted is =
     let due : Lease → Bool = λ l. nat_le l.end moment in
     let id = first.id in

@@ -49,7 +49,6 @@ use Rattle.etcd_model.proofs.HistoryLaws.{is_past, changes_of, kv-current_after,
 use Rattle.etcd_model.proofs.PutLaws.{rows-interval, row_among}
 use Rattle.etcd_model.proofs.GrowthLaws.{first_none, store_stays}
 use Rattle.etcd_model.proofs.OnceLaws.{not_refused}
-use Rattle.model_laws.specs.Runs.{OpeningHasKeys, StepHasKeys, OpeningHoldsLeased, StepHoldsLeased}
 use Rattle.model_laws.proofs.RecordedLaws.{all_push, all_append}
 use Rattle.model_laws.proofs.HeldLaws.{after_allowed, after_machine}
 use Rattle.model_laws.proofs.LeaseLaws.{same_id}
@@ -147,10 +146,10 @@ keys_outcome S step has f = subst HasKeys (sym (store_stays S step refl)) has
 before_has_keys : (S : State History) (step : Step) → HasKeys S.store → HasKeys (machine.before_space S step).state.store
 before_has_keys S step has = after_allowed (λ T. HasKeys T.store) S step has (λ f e. keys_outcome S step has f)
 
-pub step_has_keys : StepHasKeys
+pub step_has_keys : (S : State History) (step : Step) → HasKeys S.store → HasKeys (machine.machine S step).state.store
 step_has_keys S step has = after_machine (λ T. HasKeys T.store) S step has has (before_has_keys S step has)
 
-pub opening_has_keys : OpeningHasKeys
+pub opening_has_keys : (cluster quota first : ℕ) → HasKeys (opening cluster quota first).store
 opening_has_keys cluster quota first = tt
 
 -- ---- the rows of a step's writes
@@ -320,8 +319,8 @@ leased_outcome S step given has e = quiet_outcome HoldsLeased S has (λ i w. has
 before_holds_leased : (S : State History) (step : Step) → HasKeys S.store → HoldsLeased S → HoldsLeased (machine.before_space S step).state
 before_holds_leased S step given has = after_allowed HoldsLeased S step has (λ f e. leased_outcome S step given has e)
 
-pub step_holds_leased : StepHoldsLeased
+pub step_holds_leased : (S : State History) (step : Step) → HasKeys S.store → HoldsLeased S → HoldsLeased (machine.machine S step).state
 step_holds_leased S step given has = after_machine HoldsLeased S step has has (before_holds_leased S step given has)
 
-pub opening_holds_leased : OpeningHoldsLeased
+pub opening_holds_leased : (cluster quota first : ℕ) → HoldsLeased (opening cluster quota first)
 opening_holds_leased cluster quota first key = tt

@@ -8,10 +8,12 @@ use Rattle.std.proofs.lemmas.List.Elements.{All-head, All-tail}
 use Rattle.std.proofs.lemmas.List.Sums.{fold-append}
 use Rattle.etcd_types.specs.declared.key_value.KeyValue.{KeyValue}
 use Rattle.etcd_model.specs.declared.state.Change.{Change}
+use Rattle.etcd_model.specs.declared.state.History.{History}
 use Rattle.etcd_model.specs.declared.state.Change.TheVariants.{Put as Set, Delete as Del}
 use Rattle.etcd_model.specs.History.{key_of, entries_after}
-use Rattle.etcd_model.specs.Changes.{Recorded, entry_at, next_row, is_up_to, last, live, recorded, record_change, record_revision}
-use Rattle.model_laws.specs.Numbers.{IsWithin, HasNumbers, ChangesHaveNumbers, KeptHaveNumbers, RecordedHaveNumbers, LiveIsWithin}
+use Rattle.etcd_model.specs.Changes.{Recorded, entry_at, next_row, is_up_to, last, live, recorded, record_change, record_revision, ChangesOnce, changes_of, kept}
+use Rattle.model_laws.specs.Once.{IsOnce}
+use Rattle.model_laws.specs.Numbers.{IsWithin, HasNumbers}
 use Rattle.model_laws.proofs.LastLaws.{all_last, last_passes}
 use Rattle.model_laws.proofs.KeptLaws.{all_kept}
 use Rattle.model_laws.proofs.RecordedLaws.{all_append, all_weaker}
@@ -26,10 +28,10 @@ from_last : (n : ℕ) (o : Option Recorded) (row : KeyValue) → ((x : Recorded)
 from_last n None row each h = let bad : ⊥ = cc in absurd bad
 from_last n (Some x) row each h = let parts = each x refl in later x.revision n row parts.1 (subst (λ o. IfSome o (IsWithin x.revision)) h parts.0)
 
-pub live_is_within : LiveIsWithin
+pub live_is_within : (key : List ℕ) (r : ℕ) (xs : List Recorded) (row : KeyValue) → AllByRecursion HasNumbers xs → live key r xs ≡ Some row → IsWithin r row
 live_is_within key r xs row all h = from_last r (last key r xs) row (λ x is. (all_last (is_up_to key r) HasNumbers xs x all is, leb-true x.revision r (and_parts (bytes_eq x.key key) (nat_le x.revision r) (last_passes (is_up_to key r) xs x is)).1)) h
 
-pub kept_have_numbers : KeptHaveNumbers
+pub kept_have_numbers : (c : ℕ) (xs : List Recorded) → AllByRecursion HasNumbers xs → AllByRecursion HasNumbers (kept c xs)
 kept_have_numbers c xs all = all_kept HasNumbers c xs all
 
 -- by one more change at revision n, of a row from before it
@@ -54,7 +56,7 @@ recorded_numbers n xs (c ∷ cs) some all below = (
   recorded_numbers n xs cs some all below,
 )
 
-pub recorded_have_numbers : RecordedHaveNumbers
+pub recorded_have_numbers : (n : ℕ) (xs : List Recorded) (cs : List Change) → 1 ≤ n → AllByRecursion HasNumbers xs → AllByRecursion (λ x. x.revision < n) xs → IsOnce cs → AllByRecursion HasNumbers (record_revision n xs cs)
 recorded_have_numbers n xs cs some all below once =
     subst (AllByRecursion HasNumbers) (sym (recorded_where_once n xs cs once)) (all_append HasNumbers xs (map (λ c. recorded xs (entry_at n c)) cs) all (recorded_numbers n xs cs some all below))
 
@@ -72,5 +74,5 @@ numbers_from r xs (cs ∷ more) all up once =
     subst (AllByRecursion HasNumbers) (sym (fold-append record_change xs (map (entry_at n) cs) (entries_after n more)))
     (numbers_from n ys more here (all_up n xs cs to) (λ key. All-tail (λ ds. length (filter (λ c. bytes_eq (key_of c) key) ds) ≤ 1) cs more (once key)))
 
-pub changes_have_numbers : ChangesHaveNumbers
+pub changes_have_numbers : (H : History) → ChangesOnce H → AllByRecursion HasNumbers (changes_of H)
 changes_have_numbers H once = numbers_from H.first [] H.revisions tt tt once

@@ -1,5 +1,5 @@
 -- A step's writes over what is kept change no key twice.
-use Rattle.std.proofs.Common.{◌≡◌, ℕ, ◌+◌, ◌≤◌, List, [], ◌∷◌, ◌++◌, length, refl, ap, ◌∙◌, sym, arith, subst, map}
+use Rattle.std.proofs.Common.{◌≡◌, ℕ, ◌+◌, ◌≤◌, List, [], ◌∷◌, ◌++◌, length, refl, ap, ◌∙◌, sym, arith, subst, map, ℤ}
 use Rattle.std.specs.Prelude.{Bool, true, false, cond, ◌&&◌, ◌||◌, fold, filter, find, Some, None, nat_le, if◌then◌else◌}
 use Rattle.std.specs.List.{AllByRecursion, list_any}
 use Rattle.std.specs.Ordering.{int_eq}
@@ -11,8 +11,11 @@ use Rattle.std.proofs.lemmas.List.{append-nil}
 use Rattle.std.proofs.lemmas.List.Kept.{IsStrictlySortedBy-filter}
 use Rattle.std.proofs.lemmas.Map.Views.{any-filter_same}
 use Rattle.std.proofs.lemmas.Simd.{map-map}
+use Rattle.etcd_types.specs.declared.txn.Op.{Op}
 use Rattle.etcd_types.specs.declared.key_value.KeyValue.{KeyValue}
 use Rattle.etcd_model.specs.declared.state.Change.{Change}
+use Rattle.etcd_model.specs.Operations.{pending_after}
+use Rattle.etcd_model.specs.Fields.{has_duplicate}
 use Rattle.etcd_model.specs.declared.state.Change.TheVariants.{Delete as Del}
 use Rattle.etcd_model.specs.History.{key_of}
 use Rattle.etcd_model.specs.Interval.{is_in, every_key}
@@ -20,22 +23,13 @@ use Rattle.etcd_model.specs.Leases.{attached}
 use Rattle.etcd_model.specs.Changes.{Recorded, entry_at, next_row, live, rows, recorded, record_revision}
 use Rattle.etcd_model.specs.Store.{Store, IsStore, after, reads_of, kept_store}
 use Rattle.etcd_model.proofs.HistoryLaws.{changes_of}
-use Rattle.etcd_model.proofs.OnceLaws.{Shows, branch_once, taken_branch, no_delete, one_delete, at_most_one, IsDeleteAtMost, ChangesOnce-run, ChangesOnce-opening}
-use Rattle.model_laws.specs.Recording.{by_key}
-use Rattle.model_laws.specs.Once.{RunChangesOnce, OpeningChangesOnce, TakenBranchIsDistinct, BranchChangesOnce, FinishChangesOnce, RecordedWhereOnce}
+use Rattle.etcd_model.proofs.OnceLaws.{Shows, branch_once, no_delete, one_delete, at_most_one, IsDeleteAtMost}
+use Rattle.etcd_model.specs.Order.{by_key}
+use Rattle.model_laws.specs.Once.{IsOnce}
 use Rattle.model_laws.proofs.RowLaws.{has_key, row_found, rows_inside, rows_rise}
 use Rattle.model_laws.proofs.RecordedLaws.{live_push, live_push_up_to}
 use Rattle.model_laws.proofs.HistoryKeptLaws.{no_more, fewer}
 use Rattle.model_laws.proofs.SpaceLaws.{row_pending, after_is_store}
-
-pub run_changes_once : RunChangesOnce
-run_changes_once = ChangesOnce-run
-
-pub opening_changes_once : OpeningChangesOnce
-opening_changes_once = ChangesOnce-opening
-
-pub taken_branch_is_distinct : TakenBranchIsDistinct
-taken_branch_is_distinct = taken_branch
 
 -- ---- a key with changes pending
 
@@ -87,10 +81,10 @@ shows s is key = record {
       ∙ any-filter_same (has_key key) (λ (row : KeyValue). is_in first end row.key) false (λ row t. ap (is_in first end) ((bytes_decides row.key key).0 t) ∙ h) all);
 }
 
-pub branch_changes_once : BranchChangesOnce
+pub branch_changes_once : (s : Store) (ops : List Op) → IsStore s → has_duplicate ops ≡ false → IsOnce (pending_after (kept_store.look s) [] ops)
 branch_changes_once s ops is distinct key = branch_once (kept_store.look s) key (shows s is key) ops distinct
 
-pub finish_changes_once : FinishChangesOnce
+pub finish_changes_once : (s : Store) (id : ℤ) → IsStore s → IsOnce (map Del (attached (reads_of s) id))
 finish_changes_once s id is key =
     let held : KeyValue → Bool = λ row. int_eq row.lease id in
     let rs = rows (is_in (0 ∷ []) (0 ∷ [])) s.current s.changes in
@@ -119,7 +113,7 @@ others_recorded n xs y (c ∷ cs) apart =
     ap (λ (x : Recorded). x ∷ map (λ d. recorded (xs ++ y ∷ []) (entry_at n d)) cs) (recorded_other n xs y c apart.0)
     ∙ ap (λ ys. recorded xs (entry_at n c) ∷ ys) (others_recorded n xs y cs apart.1)
 
-pub recorded_where_once : RecordedWhereOnce
+pub recorded_where_once : (n : ℕ) (xs : List Recorded) (cs : List Change) → IsOnce cs → record_revision n xs cs ≡ xs ++ map (λ c. recorded xs (entry_at n c)) cs
 recorded_where_once n xs [] once = sym (append-nil xs)
 recorded_where_once n xs (c ∷ cs) once =
     let y = recorded xs (entry_at n c) in

@@ -1,5 +1,5 @@
 -- What one more pending change makes of what is read.
-use Rattle.std.proofs.Common.{◌≡◌, ℕ, ◌+◌, List, [], ◌∷◌, ◌++◌, refl, ap, ◌∙◌, sym, arith, map}
+use Rattle.std.proofs.Common.{◌≡◌, ℕ, ◌+◌, List, [], ◌∷◌, ◌++◌, refl, ap, ◌∙◌, sym, arith, map, ℤ}
 use Rattle.std.specs.Prelude.{Bool, true, false, not, fold, filter, filter_map, Some, None, if◌then◌else◌}
 use Rattle.std.specs.Str.{bytes_eq}
 use Rattle.std.specs.Cmp.Lexicographic.{bytes_decides}
@@ -7,35 +7,29 @@ use Rattle.std.proofs.lemmas.Bool.{true≢false, false_from_ne_true}
 use Rattle.std.proofs.lemmas.List.{map-append}
 use Rattle.std.proofs.lemmas.List.Sums.{fold-append}
 use Rattle.std.proofs.lemmas.List.Kept.{IsStrictlySortedBy-filter}
+use Rattle.std.specs.List.{AllByRecursion}
+use Rattle.std.specs.Option.{option_to_list}
+use Rattle.etcd_types.specs.declared.key_value.KeyValue.{KeyValue}
 use Rattle.etcd_model.specs.declared.state.Change.{Change}
 use Rattle.etcd_model.specs.declared.state.Change.TheVariants.{Put as Set, Delete as Del}
 use Rattle.etcd_model.specs.Order.{key_cmp, put_in, in_order}
 use Rattle.etcd_model.specs.History.{key_of}
-use Rattle.etcd_model.specs.Interval.{every_key}
-use Rattle.etcd_model.specs.Changes.{Recorded, entry_at, next_row, live, keys, rows, recorded}
-use Rattle.etcd_model.specs.Store.{Store, after}
+use Rattle.etcd_model.specs.Interval.{every_key, is_in}
+use Rattle.etcd_model.specs.Changes.{Recorded, entry_at, next_row, live, keys, rows, recorded, OwnRow}
+use Rattle.etcd_model.specs.Store.{Store, after, IsStore, reads_of}
 use Rattle.etcd_model.proofs.RowLaws.{rows_of_one, rows-put_in}
 use Rattle.etcd_model.proofs.PutLaws.{every_one}
-use Rattle.model_laws.specs.Recording.{by_key}
-use Rattle.model_laws.specs.Pending.{RowsRise, RowAmong, RowsOfKey, RowsInside, RowWithPending, RowsAfterPut, RowsAfterDelete, RowsAtNext}
-use Rattle.model_laws.proofs.RowLaws.{live-key, absent, keys_ascend, rows_by_their_keys, rows_rise, row_found, rows_inside}
+use Rattle.etcd_model.specs.Order.{by_key}
+use Rattle.model_laws.proofs.RowLaws.{live-key, absent, keys_ascend, rows_by_their_keys, rows_rise, row_found}
 use Rattle.model_laws.proofs.RecordedLaws.{live_push_up_to}
 use Rattle.model_laws.proofs.SpaceLaws.{pend, own_pend, pend_push, row_pending, rows_pending, find_without}
 use Rattle.model_laws.proofs.OnceStoreLaws.{live_revision}
 
-pub rows_strictly_rise : RowsRise
-rows_strictly_rise interval r xs own = rows_rise xs own r interval
-
-pub row_among_all : RowAmong
-row_among_all key r xs own = row_found xs own r key
-
-pub rows_of_key : RowsOfKey
+pub rows_of_key : (key : List ℕ) (r : ℕ) (xs : List Recorded) → AllByRecursion OwnRow xs → rows (is_in key []) r xs ≡ option_to_list (live key r xs)
 rows_of_key key r xs own = rows_of_one (λ k. live k r xs) (λ k row. live-key xs own k r row) key (keys xs) (keys_ascend xs) (absent xs r key)
 
-pub rows_lie_inside : RowsInside
-rows_lie_inside interval r xs own = rows_inside xs own r interval
-
-pub row_with_pending : RowWithPending
+pub row_with_pending : (s : Store) (cs : List Change) (key : List ℕ) → IsStore s
+    → (reads_of (after s cs)).row key ≡ fold (next_row (s.current + 1)) ((reads_of s).row key) (filter (λ c. bytes_eq (key_of c) key) cs)
 row_with_pending s cs key is =
     row_pending s cs is key ∙ live_revision key (s.current + 1) s.changes cs
     ∙ ap (λ o. fold (next_row (s.current + 1)) o (filter (λ c. bytes_eq (key_of c) key) cs)) (sym (row_pending s [] is key))
@@ -45,7 +39,7 @@ pend_changes : (s : Store) (cs : List Change) → (after s cs).changes ≡ pend 
 pend_changes s [] = refl
 pend_changes s (c ∷ cs) = refl
 
-pub rows_at_next : RowsAtNext
+pub rows_at_next : (s : Store) (cs : List Change) (interval : List ℕ → Bool) → IsStore s → rows interval (s.current + 1) (after s cs).changes ≡ rows interval (after s cs).current (after s cs).changes
 rows_at_next s cs interval is = ap (rows interval (s.current + 1)) (pend_changes s cs) ∙ sym (rows_pending s cs is interval)
 
 -- what a key shows once one more change of the revision is recorded
@@ -57,7 +51,9 @@ keys_push xs y =
     ap (in_order key_cmp) (map-append (λ (x : Recorded). x.key) xs (y ∷ []))
     ∙ fold-append (put_in key_cmp) [] (map (λ (x : Recorded). x.key) xs) (y.key ∷ [])
 
-pub rows_after_put : RowsAfterPut
+pub rows_after_put : (s : Store) (cs : List Change) (key value : List ℕ) (lease : ℤ) (row : KeyValue) → IsStore s
+    → (reads_of (after s (cs ++ Set key value lease ∷ []))).row key ≡ Some row
+    → rows every_key (s.current + 1) (after s (cs ++ Set key value lease ∷ [])).changes ≡ put_in by_key (rows every_key (s.current + 1) (after s cs).changes) row
 rows_after_put s cs key value lease row is shown =
     let n = s.current + 1 in
     let c : Change = Set key value lease in
@@ -74,7 +70,8 @@ rows_after_put s cs key value lease row is shown =
     ∙ ap (λ ks. put_in by_key (filter_map (λ k. live k n xs) ks) row) (sym (every_one (keys xs)))
     ∙ ap (λ zs. put_in by_key (rows every_key n zs) row) (sym (pend_changes s cs))
 
-pub rows_after_delete : RowsAfterDelete
+pub rows_after_delete : (s : Store) (cs : List Change) (key : List ℕ) → IsStore s
+    → rows every_key (s.current + 1) (after s (cs ++ Del key ∷ [])).changes ≡ filter (λ row. not (bytes_eq row.key key)) (rows every_key (s.current + 1) (after s cs).changes)
 rows_after_delete s cs key is =
     let n = s.current + 1 in
     let c : Change = Del key in

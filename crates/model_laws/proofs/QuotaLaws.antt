@@ -41,7 +41,6 @@ use Rattle.std.proofs.lemmas.Cmp.{int_cmp_total, tied_itself}
 use Rattle.etcd_model.proofs.OrderLaws.{below_less}
 use Rattle.etcd_model.proofs.GrowthLaws.{first_none}
 use Rattle.etcd_model.proofs.OnceLaws.{outcome_once, finish_once}
-use Rattle.model_laws.specs.Runs.{StepWithinQuota, RunWithinQuota}
 use Rattle.model_laws.proofs.CarryLaws.{above, up_to_current}
 use Rattle.model_laws.proofs.HeldLaws.{up_after, none_refused, carries, keep_after, keep_compact, keep_cells, step_is_history}
 use Rattle.model_laws.proofs.SpaceLaws.{keep_is_store, no_put_takes_none, finish_takes_none, compaction_takes_none}
@@ -195,10 +194,10 @@ checked : (S : State History) (step : Step) → IsHistory S.store → HasLeases 
 checked S step is has (Some r) e = let fall = refused_falls S step (first S step) (λ f. none-some r (sym (none_refused S step f).0 ∙ e)) in omega (arith, fall)
 checked S step is has None e = either (Bounded S) (S.alarm && may_add step) (record { state = S; reply = Refused NoSpace }) (stepping.within_quota machine.history S step (machine.before_space S step) (look_up machine.history S step)) (omega arith) (counted S step is has (look_up machine.history S step) refl)
 
-pub step_within_quota : StepWithinQuota
+pub step_within_quota : (S : State History) (step : Step) → IsHistory S.store → HasLeases S → used machine.history (machine.machine S step).state ≤ max S.quota (used machine.history S)
 step_within_quota S step is has = checked S step is has (early machine.history S step) refl
 
-pub run_within_quota : RunWithinQuota
+pub run_within_quota : (S : State History) (steps : List Step) → IsHistory S.store → HasLeases S → used machine.history (state_after S steps) ≤ max S.quota (used machine.history S)
 run_within_quota S [] is has = omega arith
 run_within_quota S (step ∷ steps) is has =
     let T = (machine.machine S step).state in

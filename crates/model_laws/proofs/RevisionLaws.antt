@@ -32,7 +32,7 @@ use Rattle.etcd_model.specs.Store as store
 use Rattle.etcd_model.specs.Held.{keep, IsHistory, HasLeases}
 use Rattle.etcd_model.proofs.HistoryLaws.{current-after}
 use Rattle.etcd_model.proofs.GrowthLaws.{is_tick, current-machine}
-use Rattle.model_laws.specs.Runs.{FitsRevisions, StepFitsRevisions}
+use Rattle.model_laws.specs.Runs.{FitsRevisions}
 use Rattle.model_laws.proofs.HeldLaws.{keep_after, rows_kept_history, after_early, none_used_up, after_allowed, after_machine}
 use Rattle.model_laws.proofs.SpaceLaws.{a_cell_each, keep_is_store, finish_takes_keys}
 use Rattle.model_laws.proofs.RunLaws.{quiet_outcome}
@@ -143,5 +143,5 @@ by_writes : (S : State History) (step : Step) (bound : ℕ) → IsHistory S.stor
 by_writes S step bound is has quota space fits true w = by_revision S step bound is has quota space fits w (nat_le last_revision (current S.store)) refl
 by_writes S step bound is has quota space fits false w = after_machine (FitsRevisions bound) S step fits fits (after_allowed (FitsRevisions bound) S step fits (λ f e. unwritten_fits bound S step is fits w))
 
-pub step_fits_revisions : StepFitsRevisions
+pub step_fits_revisions : (S : State History) (step : Step) (bound : ℕ) → IsHistory S.store → HasLeases S → S.quota ≤ bound → used machine.history S ≤ bound → FitsRevisions bound S → FitsRevisions bound (machine.machine S step).state
 step_fits_revisions S step bound is has quota space fits = by_writes S step bound is has quota space fits (writes step) refl

@@ -19,7 +19,7 @@ use Rattle.etcd_model.specs.Changes.{Recorded, OwnRow, is_up_to, last, live, key
 use Rattle.etcd_model.proofs.OrderLaws.{below_less, tied_keys, keys_in_order, any-keys_in_order}
 use Rattle.etcd_model.proofs.RowLaws.{later_key, sorted-rows, filter-rows, find-rows}
 use Rattle.etcd_model.proofs.PutLaws.{every_one}
-use Rattle.model_laws.specs.Recording.{by_key, RowsByTheirKeys}
+use Rattle.etcd_model.specs.Order.{by_key}
 use Rattle.model_laws.proofs.LastLaws.{last_passes, any_none, all_last}
 
 -- the test for the row of a key
@@ -42,7 +42,8 @@ same_rest true c r q o p same both h = both refl
 same_rest false true r q o p same both h = absurd (let bad : ⊥ = cc in bad)
 same_rest false false r q o p same both h = h
 
-pub rows_by_their_keys : RowsByTheirKeys
+pub rows_by_their_keys : (rs qs : List KeyValue) → IsStrictlySortedBy by_key rs → IsStrictlySortedBy by_key qs
+    → ((key : List ℕ) → find (λ row. bytes_eq row.key key) rs ≡ find (λ row. bytes_eq row.key key) qs) → rs ≡ qs
 unfolding IsStrictlySortedBy
 rows_by_their_keys [] [] sr sq h = refl
 rows_by_their_keys [] (q ∷ qs) sr sq h = absurd (none-some q (h q.key ∙ own_found q qs))

@@ -20,7 +20,7 @@ use Rattle.etcd_types.specs.declared.alarm.AlarmKind.TheVariants.{Any, NoSpace a
 use Rattle.etcd_types.specs.declared.key_value.Event.{Event}
 use Rattle.etcd_types.specs.declared.refusal.Refusal.TheVariants.{TtlTooLarge}
 use Rattle.etcd_types.specs.declared.reply.Reply.TheVariants.{Canceled}
-use Rattle.etcd_types.specs.Limits.{last_moment, max_ttl}
+use Rattle.etcd_types.specs.Limits.{last_moment, max_ttl, watch_slots}
 use Rattle.etcd_model.specs.declared.state.Lease.{Lease}
 use Rattle.etcd_model.specs.declared.state.Watch.{Watch as Watching}
 use Rattle.etcd_model.specs.Order.{beside, put_in}
@@ -42,7 +42,6 @@ use Rattle.etcd_model.specs.Machine.{opening}
 use Rattle.etcd_model.proofs.OrderLaws.{any-in_order}
 use Rattle.etcd_model.proofs.GrowthLaws.{store_stays}
 use Rattle.etcd_model.specs.Held.{by_id, IsFull, IsRunning, HasLeases}
-use Rattle.model_laws.specs.Runs.{OpeningIsFull, OpeningHasLeases, OpeningHasSlots, StepIsFull, StepHasLeases, StepHasSlots}
 use Rattle.model_laws.proofs.RecordedLaws.{all_push, all_weaker}
 use Rattle.model_laws.proofs.HeldLaws.{after_allowed, after_machine}
 use Rattle.model_laws.proofs.LeaseLaws.{with_lease_ascends, without_lease_ascends, ends_alike}
@@ -128,10 +127,10 @@ full_outcome S step full = subst IsFull (sym (store_stays S step refl)) full
 before_is_full : (S : State History) (step : Step) → IsFull S.store → IsFull (machine.before_space S step).state.store
 before_is_full S step full = after_allowed (λ T. IsFull T.store) S step full (λ f e. full_outcome S step full)
 
-pub step_is_full : StepIsFull
+pub step_is_full : (S : State History) (step : Step) → IsFull S.store → IsFull (machine.machine S step).state.store
 step_is_full S step full = after_machine (λ T. IsFull T.store) S step full full (before_is_full S step full)
 
-pub opening_is_full : OpeningIsFull
+pub opening_is_full : (cluster quota first : ℕ) → IsFull (opening cluster quota first).store
 opening_is_full cluster quota first = tt
 
 -- ---- what no step changes: the number of watch slots, and the quota
@@ -161,10 +160,10 @@ limits_outcome S step = quiet_outcome (SameLimits S) S (refl, refl) (λ i w. (le
 step_keeps_limits : (S : State History) (step : Step) → SameLimits S (machine.machine S step).state
 step_keeps_limits S step = after_machine (SameLimits S) S step (refl, refl) (refl, refl) (after_allowed (SameLimits S) S step (refl, refl) (λ f e. limits_outcome S step))
 
-pub step_has_slots : StepHasSlots
+pub step_has_slots : (S : State History) (step : Step) → length (machine.machine S step).state.slots ≡ length S.slots
 step_has_slots S step = (step_keeps_limits S step).0
 
-pub opening_has_slots : OpeningHasSlots
+pub opening_has_slots : (cluster quota first : ℕ) → length (opening cluster quota first).slots ≡ watch_slots
 opening_has_slots cluster quota first = refl
 
 pub step_keeps_quota : (S : State History) (step : Step) → (machine.machine S step).state.quota ≡ S.quota
@@ -325,9 +324,9 @@ leases_outcome S step has h = quiet_outcome HasLeases S has (λ i w. same_leases
 before_has_leases : (S : State History) (step : Step) → HasLeases S → HasLeases (machine.before_space S step).state
 before_has_leases S step has = after_allowed HasLeases S step has (λ f e. leases_outcome S step has f)
 
-pub step_has_leases : StepHasLeases
+pub step_has_leases : (S : State History) (step : Step) → HasLeases S → HasLeases (machine.machine S step).state
 step_has_leases S step has = after_machine HasLeases S step has (same_leases S (record S { alarm = true }) has refl refl) (before_has_leases S step has)
 
-pub opening_has_leases : OpeningHasLeases
+pub opening_has_leases : (cluster quota first : ℕ) → HasLeases (opening cluster quota first)
 unfolding IsStrictlySortedBy
 opening_has_leases cluster quota first = record { ascend = tt; running = tt; moment = omega arith }

@@ -1,6 +1,6 @@
 -- What a change makes of the cells in use.
 use Rattle.std.proofs.Common.{◌≡◌, ℕ, ◌+◌, ◌≤◌, List, [], ◌∷◌, ◌++◌, length, refl, ap, ◌∙◌, sym, arith, subst, map, append_assoc, inl, inr}
-use Rattle.std.specs.Prelude.{Bool, true, false, not, cond, fold, filter, filter_map, find, sum_by, Option, Some, None, if◌then◌else◌}
+use Rattle.std.specs.Prelude.{Bool, true, false, not, cond, fold, filter, filter_map, find, sum_by, Option, Some, None, if◌then◌else◌, ℤ, ◌-◌}
 use Rattle.std.specs.Str.{bytes_eq}
 use Rattle.std.specs.List.{AllByRecursion, cons_option}
 use Rattle.std.specs.Ordering.{is_eq, int_eq}
@@ -12,24 +12,28 @@ use Rattle.std.proofs.lemmas.Bool.{cases_Bool, false_from_ne_true, true≢false}
 use Rattle.std.proofs.lemmas.List.{append-nil, map-append, length-map}
 use Rattle.std.proofs.lemmas.List.Kept.{IsStrictlySortedBy-filter}
 use Rattle.std.proofs.lemmas.List.Sums.{fold-append, sum_by-cons, sum_by_push}
+use Rattle.etcd_types.specs.declared.kv.DeleteReq.{DeleteReq}
 use Rattle.etcd_types.specs.declared.key_value.KeyValue.{KeyValue}
 use Rattle.etcd_types.specs.declared.txn.Op.{Op}
 use Rattle.etcd_types.specs.declared.txn.Op.TheVariants.{Range as RangeOp, Put as PutOp, Delete as DeleteOp, Nested}
 use Rattle.etcd_model.specs.declared.state.Change.{Change}
+use Rattle.etcd_model.specs.declared.state.State.{State}
+use Rattle.etcd_model.specs.declared.state.History.{History}
+use Rattle.etcd_model.specs.Tenant.{used}
 use Rattle.etcd_model.specs.declared.state.Change.TheVariants.{Put as Set, Delete as Del}
 use Rattle.etcd_model.specs.History.{key_of, current}
 use Rattle.etcd_model.specs.Order.{key_cmp}
 use Rattle.etcd_model.specs.Interval.{is_in, every_key}
-use Rattle.etcd_model.specs.Kept.{cost, cost_delete}
+use Rattle.etcd_model.specs.Kept.{cost, cost_delete, cost_put}
 use Rattle.etcd_model.specs.Operations.{kept_value, kept_lease, and_changes, pending_after, adds_any}
 use Rattle.etcd_model.specs.Leases.{attached}
 use Rattle.etcd_model.specs.Changes.{Recorded, OwnRow, keys, Rises, entry_at, change_by, change_of, changes_of, next_row, live, rows, recorded, record_change, record_revision, kept, keeps}
-use Rattle.etcd_model.specs.Store.{Store, IsStore, after, reads_of, record_cells, reserved_cells, cells, kept_store}
-use Rattle.etcd_model.specs.Held.{keep}
+use Rattle.etcd_model.specs.Store.{Store, IsStore, after, reads_of, record_cells, reserved_cells, cells, kept_store, compact}
+use Rattle.etcd_model.specs.Held.{keep, IsHistory}
 use Rattle.etcd_model.proofs.OrderLaws.{bytes_eq-key_cmp}
 use Rattle.etcd_model.proofs.OnceLaws.{deletes_of}
-use Rattle.model_laws.specs.Recording.{by_key}
-use Rattle.model_laws.specs.Space.{if_row, room, KeepIsStore, AfterIsStore, CompactIsStore, PutTakesCells, DeleteTakesItsRoom, DeleteTakesNone, OpTakesCells, FinishTakesNone, FinishTakesKeys, NoPutTakesNone, CompactionTakesNone, RecordsAreUsedCells, KeysAreReserved}
+use Rattle.etcd_model.specs.Order.{by_key}
+use Rattle.model_laws.specs.Space.{if_row, room, given_by, taken_by}
 use Rattle.model_laws.proofs.KeptLaws.{all_kept, kept_rises, kept_true, kept_false}
 use Rattle.model_laws.proofs.RowLaws.{has_key, rows_by_their_keys, not_found, row_found, rows_rise, same_rows, live-key}
 use Rattle.model_laws.proofs.RecordedLaws.{all_push, all_weaker, live_later, live_push_up_to, own_fold, own_recorded, changes_rise, changes_up_to_current, changes_own_their_rows}
@@ -162,10 +166,12 @@ change_cells s cs c is =
     let one = cells_push n (pend s cs) y own (own_recorded n (live (key_of c) n (pend s cs)) c) (omega arith) in
     omega (arith, one, cells_pending s (cs ++ c ∷ []) is, ap (cells_of n) (pend_push s cs c), cells_pending s cs is, ap room (row_pending s cs is (key_of c)), same_cost n (live (key_of c) n (pend s cs)) c)
 
-pub put_takes_cells : PutTakesCells
+pub put_takes_cells : (s : Store) (cs : List Change) (key value : List ℕ) (lease : ℤ) → IsStore s
+    → cells (after s (cs ++ Set key value lease ∷ [])) + room ((reads_of (after s cs)).row key) ≡ cells (after s cs) + (cost_put key value + cost_delete key)
 put_takes_cells s cs key value lease is = change_cells s cs (Set key value lease) is
 
-pub delete_takes_its_room : DeleteTakesItsRoom
+pub delete_takes_its_room : (s : Store) (cs : List Change) (key : List ℕ) → IsStore s
+    → cells (after s (cs ++ Del key ∷ [])) + room ((reads_of (after s cs)).row key) ≡ cells (after s cs) + cost_delete key
 delete_takes_its_room s cs key is = omega (arith, change_cells s cs (Del key) is)
 
 -- ---- deletes of live keys
@@ -208,7 +214,7 @@ all_live s cs is (k ∷ ks) =
       | Some row ↦ λ e. (ap (λ a. live a n (pend s cs)) (live-key (pend s cs) (own_pend s cs is) k n row e) ∙ e, all_live s cs is ks)
     ] refl
 
-pub delete_takes_none : DeleteTakesNone
+pub delete_takes_none : (s : Store) (cs : List Change) (d : DeleteReq) → IsStore s → cells (after s (and_changes (kept_store.look s) cs (DeleteOp d))) ≡ cells (after s cs)
 delete_takes_none s cs d is =
     let inside : List ℕ → Bool = is_in d.key d.range_end in
     let n = s.current + 1 in
@@ -220,7 +226,7 @@ all_passed : (s : Store) (cs : List Change) (p : KeyValue → Bool) (rs : List K
 all_passed s cs p [] all = tt
 all_passed s cs p (r ∷ rs) all = elim (p r) as (λ b. AllLive s cs (cond b (r ∷ filter p rs) (filter p rs))) [ true ↦ (all.0, all_passed s cs p rs all.1) | false ↦ all_passed s cs p rs all.1 ]
 
-pub finish_takes_none : FinishTakesNone
+pub finish_takes_none : (s : Store) (id : ℤ) → IsStore s → cells (after s (map Del (attached (reads_of s) id))) ≡ cells s
 finish_takes_none s id is =
     let every : List ℕ → Bool = is_in (0 ∷ []) (0 ∷ []) in
     let held : KeyValue → Bool = λ row. int_eq row.lease id in
@@ -230,7 +236,8 @@ finish_takes_none s id is =
     ∙ ap (λ cs. cells (after s cs)) (map-map Del (λ (row : KeyValue). row.key) (filter held rs))
     ∙ deletes_take_none s [] (filter held rs) is (IsStrictlySortedBy-filter by_key held rs (rows_rise s.changes is.own n every)) (all_passed s [] held rs (all_live s [] is (filter every (keys s.changes))))
 
-pub op_takes_cells : OpTakesCells
+pub op_takes_cells : (s : Store) (cs : List Change) (op : Op) → IsStore s
+    → cells (after s (and_changes (kept_store.look s) cs op)) + given_by (kept_store.look s cs) op ≡ cells (after s cs) + taken_by (kept_store.look s cs) op
 op_takes_cells s cs (RangeOp q) is = omega (arith, ap (λ ds. cells (after s ds)) (append-nil cs))
 op_takes_cells s cs (PutOp p) is =
     let now = (reads_of (after s cs)).row p.key in
@@ -245,7 +252,7 @@ no_put s cs (PutOp p ∷ ops) is h = absurd (true≢false h)
 no_put s cs (DeleteOp d ∷ ops) is h = no_put s (and_changes (kept_store.look s) cs (DeleteOp d)) ops is h ∙ delete_takes_none s cs d is
 no_put s cs (Nested ∷ ops) is h = no_put s (cs ++ []) ops is h ∙ ap (λ ds. cells (after s ds)) (append-nil cs)
 
-pub no_put_takes_none : NoPutTakesNone
+pub no_put_takes_none : (s : Store) (ops : List Op) → IsStore s → adds_any ops ≡ false → cells (after s (pending_after (kept_store.look s) [] ops)) ≡ cells s
 no_put_takes_none s ops is h = no_put s [] ops is h
 
 -- ---- how many keys are live
@@ -275,7 +282,9 @@ deletes_take_keys s cs (r ∷ rs) is h all =
       ap (λ zs. length (rows every_key n (pend s zs))) (append_assoc cs (Del r.key ∷ []) (deletes_of rs)),
     )
 
-pub finish_takes_keys : FinishTakesKeys
+pub finish_takes_keys : (s : Store) (id : ℤ) → IsStore s
+    → length (rows every_key (after s (map Del (attached (reads_of s) id))).current (after s (map Del (attached (reads_of s) id))).changes) + length (attached (reads_of s) id)
+    ≡ length (rows every_key s.current s.changes)
 finish_takes_keys s id is =
     let every : List ℕ → Bool = is_in (0 ∷ []) (0 ∷ []) in
     let held : KeyValue → Bool = λ row. int_eq row.lease id in
@@ -306,17 +315,17 @@ fewer_records c (x ∷ xs) =
       | inr lost ↦ omega (arith, fewer_records c xs, sum_by-cons f x xs, ap record_cells (kept_false c x xs lost))
     ]
 
-pub compaction_takes_none : CompactionTakesNone
+pub compaction_takes_none : (s : Store) (r : ℕ) → IsStore s → s.compacted ≤ r → r ≤ s.current → cells (compact s r) ≤ cells s
 compaction_takes_none s r is from to = omega (arith, fewer_records r s.changes, ap (sum_by (λ (row : KeyValue). cost_delete row.key)) (rows_kept every_key r s.current s.changes to is.rises is.own))
 
-pub records_are_used_cells : RecordsAreUsedCells
+pub records_are_used_cells : (t : State Store) → record_cells t.store.changes + length t.leases ≡ used kept_store t - reserved_cells t.store.current t.store.changes
 records_are_used_cells t = omega arith
 
 pub a_cell_each : (rs : List KeyValue) → length rs ≤ sum_by (λ row. cost_delete row.key) rs
 a_cell_each [] = omega arith
 a_cell_each (r ∷ rs) = omega (arith, sum_by-cons (λ (row : KeyValue). cost_delete row.key) r rs, a_cell_each rs)
 
-pub keys_are_reserved : KeysAreReserved
+pub keys_are_reserved : (s : Store) → length (rows every_key s.current s.changes) ≤ reserved_cells s.current s.changes
 keys_are_reserved s = a_cell_each (rows every_key s.current s.changes)
 
 -- ---- stores
@@ -331,7 +340,7 @@ rises_revision n xs (c ∷ cs) rises up =
     let x = recorded xs (entry_at n c) in
     rises_revision n (xs ++ x ∷ []) cs (rises_push xs x rises up) (all_push (λ (y : Recorded). y.revision ≤ n) xs x up (omega arith))
 
-pub after_is_store : AfterIsStore
+pub after_is_store : (s : Store) (cs : List Change) → IsStore s → IsStore (after s cs)
 after_is_store s [] is = is
 after_is_store s (c ∷ cs) is =
     let n = s.current + 1 in
@@ -343,7 +352,7 @@ after_is_store s (c ∷ cs) is =
       compacted = omega (arith, is.compacted);
     }
 
-pub compact_is_store : CompactIsStore
+pub compact_is_store : (s : Store) (r : ℕ) → r ≤ s.current → IsStore s → IsStore (compact s r)
 compact_is_store s r le is = record {
   rises = kept_rises r s.changes is.rises;
   own = all_kept OwnRow r s.changes is.own;
@@ -351,7 +360,7 @@ compact_is_store s r le is = record {
   compacted = le;
 }
 
-pub keep_is_store : KeepIsStore
+pub keep_is_store : (H : History) → IsHistory H → IsStore (keep H)
 keep_is_store H is = record {
   rises = kept_rises H.compacted (changes_of H) (changes_rise H);
   own = all_kept OwnRow H.compacted (changes_of H) (changes_own_their_rows H);

@@ -14,49 +14,33 @@ use Rattle.etcd_model.specs.Store as store
 use Rattle.etcd_model.specs.Store.{Store, kept_store}
 use Rattle.etcd_model.specs.Held.{keep, empty_store, over, outcome_over, IsHistory, Holds}
 
--- ---- what is kept answers as the history does
-
-abbrev pub KeepAfter : Type 0
-KeepAfter = (H : History) (cs : List Change) → H.compacted ≤ current H → store.after (keep H) cs ≡ keep (history.after H cs)
-
-abbrev pub KeepCompact : Type 0
-KeepCompact = (H : History) (r : ℕ) → H.compacted ≤ r → store.compact (keep H) r ≡ keep (machine.history.compact H r)
-
-abbrev pub KeepReads : Type 0
-KeepReads = (H : History) → H.compacted ≤ current H → store.reads_of (keep H) ≡ machine.reads_of H
-
--- with changes pending too
-abbrev pub KeepLook : Type 0
-KeepLook = (H : History) → H.compacted ≤ current H → kept_store.look (keep H) ≡ machine.history.look H
-
--- what a watch is still to be told of, and what a key was before a change
-abbrev pub KeepAhead : Type 0
-KeepAhead = (H : History) → H.compacted ≤ current H → kept_store.ahead (keep H) ≡ machine.history.ahead H
-
-abbrev pub KeepRowAt : Type 0
-KeepRowAt = (H : History) → H.compacted ≤ current H → kept_store.row_at (keep H) ≡ machine.history.row_at H
-
-abbrev pub KeepCells : Type 0
-KeepCells = (H : History) → IsHistory H → store.cells (keep H) ≡ over_history.cells H
-
--- ---- the steps
-
--- an opening is a history as runs make it, and each step keeps that
-abbrev pub OpeningIsHistory : Type 0
-OpeningIsHistory = (cluster quota first : ℕ) → IsHistory (opening cluster quota first).store
-
-abbrev pub StepIsHistory : Type 0
-StepIsHistory = (S : State History) (step : Step) → IsHistory S.store → IsHistory (machine.machine S step).state.store
-
--- one step of the machine over what is kept is the step over the history
-abbrev pub StepOverKept : Type 0
-StepOverKept = (S : State History) (step : Step) → IsHistory S.store → stepping.machine kept_store (over keep S) step ≡ outcome_over keep (machine.machine S step)
-
--- a tenant as it was opened holds the opening
-abbrev pub OpeningIsHeld : Type 0
-OpeningIsHeld = (cluster quota first : ℕ) → Holds (opening cluster quota first) (over (λ (H : History). empty_store first) (opening cluster quota first))
-
--- Whatever state was held: what the machine makes of the tenant holds the state afterwards, and answers alike.
-abbrev pub HeldAfterStep : Type 0
-HeldAfterStep = (S : State History) (m : State Store) (step : Step) → Holds S m
-    → Holds (machine.machine S step).state (stepping.machine kept_store m step).state × ((stepping.machine kept_store m step).reply ≡ (machine.machine S step).reply)
+pub record HoldingLaws : Type 0 where
+  -- what is kept follows the history: one more revision, and a later compaction
+  pub keep_after : (H : History) (cs : List Change) → H.compacted ≤ current H
+      → store.after (keep H) cs ≡ keep (history.after H cs)
+  pub keep_compact : (H : History) (r : ℕ) → H.compacted ≤ r
+      → store.compact (keep H) r ≡ keep (machine.history.compact H r)
+  -- it shows what can be read of the history, with changes pending too
+  pub keep_reads : (H : History) → H.compacted ≤ current H → store.reads_of (keep H) ≡ machine.reads_of H
+  pub keep_look : (H : History) → H.compacted ≤ current H → kept_store.look (keep H) ≡ machine.history.look H
+  -- it tells a watch what the history tells it, and of a key before a change what the history shows
+  pub keep_ahead : (H : History) → H.compacted ≤ current H
+      → kept_store.ahead (keep H) ≡ machine.history.ahead H
+  pub keep_row_at : (H : History) → H.compacted ≤ current H
+      → kept_store.row_at (keep H) ≡ machine.history.row_at H
+  -- it takes the cells that the history counts
+  pub keep_cells : (H : History) → IsHistory H → store.cells (keep H) ≡ over_history.cells H
+  -- from an opening on the compaction is not above the current revision, and no revision changes a key twice
+  pub opening_is_history : (cluster quota first : ℕ) → IsHistory (opening cluster quota first).store
+  pub step_is_history : (S : State History) (step : Step) → IsHistory S.store
+      → IsHistory (machine.machine S step).state.store
+  -- a step of the machine over what is kept is the step over the history
+  pub step_over_kept : (S : State History) (step : Step) → IsHistory S.store
+      → stepping.machine kept_store (over keep S) step ≡ outcome_over keep (machine.machine S step)
+  -- a tenant with an empty store holds the opening
+  pub opening_is_held : (cluster quota first : ℕ) → Holds (opening cluster quota first)
+      (over (λ (H : History). empty_store first) (opening cluster quota first))
+  -- whatever state a tenant held, after a step it holds the state afterwards, and it answers alike
+  pub held_after_step : (S : State History) (m : State Store) (step : Step) → Holds S m
+      → Holds (machine.machine S step).state (stepping.machine kept_store m step).state
+      × ((stepping.machine kept_store m step).reply ≡ (machine.machine S step).reply)

@@ -16,17 +16,15 @@ pub record IsWithin (revision : ℕ) (row : KeyValue) : Type 0 where
 abbrev pub HasNumbers : Recorded → Type 0
 HasNumbers x = IfSome x.row (λ row. IsWithin x.revision row)
 
--- so it is of each recorded change, where no revision changes a key twice
-abbrev pub ChangesHaveNumbers : Type 0
-ChangesHaveNumbers = (H : History) → ChangesOnce H → AllByRecursion HasNumbers (changes_of H)
-
--- of what a compaction keeps, and with one more revision
-abbrev pub KeptHaveNumbers : Type 0
-KeptHaveNumbers = (c : ℕ) (xs : List Recorded) → AllByRecursion HasNumbers xs → AllByRecursion HasNumbers (kept c xs)
-
-abbrev pub RecordedHaveNumbers : Type 0
-RecordedHaveNumbers = (n : ℕ) (xs : List Recorded) (cs : List Change) → 1 ≤ n → AllByRecursion HasNumbers xs → AllByRecursion (λ x. x.revision < n) xs → IsOnce cs → AllByRecursion HasNumbers (record_revision n xs cs)
-
--- and so a row that a key shows at a revision is within it
-abbrev pub LiveIsWithin : Type 0
-LiveIsWithin = (key : List ℕ) (r : ℕ) (xs : List Recorded) (row : KeyValue) → AllByRecursion HasNumbers xs → live key r xs ≡ Some row → IsWithin r row
+pub record NumberLaws : Type 0 where
+  -- the numbers of a recorded row are within the revision that wrote it, if no revision changes a key twice
+  pub changes_have_numbers : (H : History) → ChangesOnce H → AllByRecursion HasNumbers (changes_of H)
+  -- so it is of what a compaction keeps, and with one more revision of changes of different keys
+  pub kept_have_numbers : (c : ℕ) (xs : List Recorded) → AllByRecursion HasNumbers xs
+      → AllByRecursion HasNumbers (kept c xs)
+  pub recorded_have_numbers : (n : ℕ) (xs : List Recorded) (cs : List Change) → 1 ≤ n
+      → AllByRecursion HasNumbers xs → AllByRecursion (λ x. x.revision < n) xs → IsOnce cs
+      → AllByRecursion HasNumbers (record_revision n xs cs)
+  -- then a row that a key shows at a revision is within it
+  pub live_is_within : (key : List ℕ) (r : ℕ) (xs : List Recorded) (row : KeyValue)
+      → AllByRecursion HasNumbers xs → live key r xs ≡ Some row → IsWithin r row

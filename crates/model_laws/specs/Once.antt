@@ -18,29 +18,21 @@ use Rattle.etcd_model.specs.Machine.{opening, state_after}
 use Rattle.etcd_model.specs.Changes.{Recorded, ChangesOnce, entry_at, recorded, record_revision}
 use Rattle.etcd_model.specs.Store.{Store, IsStore, reads_of, kept_store}
 
--- no run comes to a history in which one does
-abbrev pub OpeningChangesOnce : Type 0
-OpeningChangesOnce = (cluster quota first : ℕ) → ChangesOnce (opening cluster quota first).store
-
-abbrev pub RunChangesOnce : Type 0
-RunChangesOnce = (S : State History) (steps : List Step) → ChangesOnce S.store → ChangesOnce (state_after S steps).store
-
 -- each key is in some changes once at most
 abbrev pub IsOnce : List Change → Type 0
 IsOnce cs = (key : List ℕ) → length (filter (λ c. bytes_eq (key_of c) key) cs) ≤ 1
 
--- the branch that a transaction takes has no duplicate, where its fields don't refuse it
-abbrev pub TakenBranchIsDistinct : Type 0
-TakenBranchIsDistinct = (R : Reads) (t : TxnReq) → fields (Txn t) ≡ None → has_duplicate (branch R t) ≡ false
-
--- and then its operations change no key twice
-abbrev pub BranchChangesOnce : Type 0
-BranchChangesOnce = (s : Store) (ops : List Op) → IsStore s → has_duplicate ops ≡ false → IsOnce (pending_after (kept_store.look s) [] ops)
-
--- nor does the end of a lease
-abbrev pub FinishChangesOnce : Type 0
-FinishChangesOnce = (s : Store) (id : ℤ) → IsStore s → IsOnce (map Del (attached (reads_of s) id))
-
--- such changes are each recorded over what was there before all of them
-abbrev pub RecordedWhereOnce : Type 0
-RecordedWhereOnce = (n : ℕ) (xs : List Recorded) (cs : List Change) → IsOnce cs → record_revision n xs cs ≡ xs ++ map (λ c. recorded xs (entry_at n c)) cs
+pub record OnceLaws : Type 0 where
+  -- no run comes to a revision that changes a key twice
+  pub opening_changes_once : (cluster quota first : ℕ) → ChangesOnce (opening cluster quota first).store
+  pub run_changes_once : (S : State History) (steps : List Step) → ChangesOnce S.store
+      → ChangesOnce (state_after S steps).store
+  -- the branch that a transaction takes has no duplicate if its fields don't refuse it
+  pub taken_branch : (R : Reads) (t : TxnReq) → fields (Txn t) ≡ None → has_duplicate (branch R t) ≡ false
+  -- operations with no duplicate change no key twice, and nor does the end of a lease
+  pub branch_changes_once : (s : Store) (ops : List Op) → IsStore s → has_duplicate ops ≡ false
+      → IsOnce (pending_after (kept_store.look s) [] ops)
+  pub finish_changes_once : (s : Store) (id : ℤ) → IsStore s → IsOnce (map Del (attached (reads_of s) id))
+  -- such changes are each recorded over what was there before all of them
+  pub recorded_where_once : (n : ℕ) (xs : List Recorded) (cs : List Change) → IsOnce cs
+      → record_revision n xs cs ≡ xs ++ map (λ c. recorded xs (entry_at n c)) cs

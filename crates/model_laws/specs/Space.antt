@@ -1,5 +1,6 @@
 -- Laws: what a step makes of the cells in use.
-use Rattle.std.specs.Prelude.{◌≡◌, ℕ, ◌+◌, ◌-◌, ◌≤◌, true, false, ℤ, List, [], ◌∷◌, ◌++◌, length, map, Option, Some, None, if◌then◌else◌}
+use Rattle.std.specs.Prelude.{◌≡◌, ℕ, ◌+◌, ◌-◌, ◌≤◌, true, false, ℤ, List, [], ◌∷◌, ◌++◌, length, map}
+use Rattle.std.specs.Prelude.{Option, Some, None, if◌then◌else◌}
 use Rattle.std.specs.List.Sorted.{IsStrictlySortedBy}
 use Rattle.etcd_types.specs.declared.key_value.KeyValue.{KeyValue}
 use Rattle.etcd_types.specs.declared.kv.DeleteReq.{DeleteReq}
@@ -16,23 +17,11 @@ use Rattle.etcd_model.specs.Tenant.{used}
 use Rattle.etcd_model.specs.Leases.{attached, finish}
 use Rattle.etcd_model.specs.Interval.{every_key}
 use Rattle.etcd_model.specs.Changes.{rows}
-use Rattle.etcd_model.specs.Store.{Store, IsStore, after, compact, reads_of, record_cells, reserved_cells, cells, kept_store}
+use Rattle.etcd_model.specs.Store.{Store, IsStore, after, compact, reads_of, kept_store}
+use Rattle.etcd_model.specs.Store.{record_cells, reserved_cells, cells}
 use Rattle.etcd_model.specs.Held.{keep, IsHistory, by_id}
 
--- ---- stores as appends and compactions make them
-
-abbrev pub KeepIsStore : Type 0
-KeepIsStore = (H : History) → IsHistory H → IsStore (keep H)
-
-abbrev pub AfterIsStore : Type 0
-AfterIsStore = (s : Store) (cs : List Change) → IsStore s → IsStore (after s cs)
-
-abbrev pub CompactIsStore : Type 0
-CompactIsStore = (s : Store) (r : ℕ) → r ≤ s.current → IsStore s → IsStore (compact s r)
-
--- ---- writes
-
--- a number for each row, and 0 where there is none
+-- a number for each row, and 0 if there is none
 abbrev pub if_row : (KeyValue → ℕ) → Option KeyValue → ℕ
 if_row f None = 0
 if_row f (Some row) = f row
@@ -41,59 +30,64 @@ if_row f (Some row) = f row
 abbrev pub room : Option KeyValue → ℕ
 room o = if_row (λ row. cost_delete row.key) o
 
--- A put takes its record, and room for a delete of its key where none was held, with some changes before it in its revision.
-abbrev pub PutTakesCells : Type 0
-PutTakesCells = (s : Store) (cs : List Change) (key value : List ℕ) (lease : ℤ) → IsStore s
-    → cells (after s (cs ++ Set key value lease ∷ [])) + room ((reads_of (after s cs)).row key) ≡ cells (after s cs) + (cost_put key value + cost_delete key)
+-- the cells in use, and the room that is held for a key, once some changes are one more revision
+abbrev pub cells_after : Store → List Change → ℕ
+cells_after s cs = cells (after s cs)
 
--- a delete takes the room that was held for it, where its key is live
-abbrev pub DeleteTakesItsRoom : Type 0
-DeleteTakesItsRoom = (s : Store) (cs : List Change) (key : List ℕ) → IsStore s
-    → cells (after s (cs ++ Del key ∷ [])) + room ((reads_of (after s cs)).row key) ≡ cells (after s cs) + cost_delete key
-
--- so a deleterange takes no cell
-abbrev pub DeleteTakesNone : Type 0
-DeleteTakesNone = (s : Store) (cs : List Change) (d : DeleteReq) → IsStore s → cells (after s (and_changes (kept_store.look s) cs (DeleteOp d))) ≡ cells (after s cs)
+abbrev pub room_after : Store → List Change → List ℕ → ℕ
+room_after s cs key = room ((reads_of (after s cs)).row key)
 
 -- An operation of a transaction reads what is pending: what it takes of the cells, and what it gives back.
 abbrev pub taken_by : Reads → Op → ℕ
-taken_by R (PutOp p) = cost_put p.key (if p.ignore_value then kept_value (R.row p.key) else p.value) + cost_delete p.key
+taken_by R (PutOp p) =
+    cost_put p.key (if p.ignore_value then kept_value (R.row p.key) else p.value) + cost_delete p.key
 taken_by R op = 0
 
 abbrev pub given_by : Reads → Op → ℕ
 given_by R (PutOp p) = room (R.row p.key)
 given_by R op = 0
 
-abbrev pub OpTakesCells : Type 0
-OpTakesCells = (s : Store) (cs : List Change) (op : Op) → IsStore s
-    → cells (after s (and_changes (kept_store.look s) cs op)) + given_by (kept_store.look s cs) op ≡ cells (after s cs) + taken_by (kept_store.look s cs) op
+-- the store once a lease has ended, which deletes the keys that it holds
+abbrev pub finished : Store → ℤ → Store
+finished s id = after s (map Del (attached (reads_of s) id))
 
--- nor do operations of which none is a put
-abbrev pub NoPutTakesNone : Type 0
-NoPutTakesNone = (s : Store) (ops : List Op) → IsStore s → adds_any ops ≡ false → cells (after s (pending_after (kept_store.look s) [] ops)) ≡ cells s
+-- how many keys are live
+abbrev pub live_keys : Store → ℕ
+live_keys s = length (rows every_key s.current s.changes)
 
--- nor does the end of a lease, which deletes the keys that it holds
-abbrev pub FinishTakesNone : Type 0
-FinishTakesNone = (s : Store) (id : ℤ) → IsStore s → cells (after s (map Del (attached (reads_of s) id))) ≡ cells s
-
--- and each of those keys is live no more
-abbrev pub FinishTakesKeys : Type 0
-FinishTakesKeys = (s : Store) (id : ℤ) → IsStore s
-    → length (rows every_key (after s (map Del (attached (reads_of s) id))).current (after s (map Del (attached (reads_of s) id))).changes) + length (attached (reads_of s) id)
-    ≡ length (rows every_key s.current s.changes)
-
--- so the end of a lease frees the cell of the lease itself
-abbrev pub FinishFreesACell : Type 0
-FinishFreesACell = (t : State Store) (id : ℤ) → IsStore t.store → IsStrictlySortedBy by_id t.leases → has_lease t.leases id ≡ true → used kept_store (finish kept_store t id) + 1 ≡ used kept_store t
-
--- and a compaction takes none
-abbrev pub CompactionTakesNone : Type 0
-CompactionTakesNone = (s : Store) (r : ℕ) → IsStore s → s.compacted ≤ r → r ≤ s.current → cells (compact s r) ≤ cells s
-
--- the cells of the records are those in use without the reserved ones
-abbrev pub RecordsAreUsedCells : Type 0
-RecordsAreUsedCells = (t : State Store) → record_cells t.store.changes + length t.leases ≡ used kept_store t - reserved_cells t.store.current t.store.changes
-
--- there is a reserved cell for each live key at least
-abbrev pub KeysAreReserved : Type 0
-KeysAreReserved = (s : Store) → length (rows every_key s.current s.changes) ≤ reserved_cells s.current s.changes
+pub record SpaceLaws : Type 0 where
+  -- what is kept of a history is a store as revisions and compactions make it, and both keep that
+  pub keep_is_store : (H : History) → IsHistory H → IsStore (keep H)
+  pub after_is_store : (s : Store) (cs : List Change) → IsStore s → IsStore (after s cs)
+  pub compact_is_store : (s : Store) (r : ℕ) → r ≤ s.current → IsStore s → IsStore (compact s r)
+  -- With some changes before it in its revision, a put takes its record, and room for a delete of its key
+  -- if none was held, and a delete takes the room that was held for it, if its key is live.
+  pub put_takes_cells : (s : Store) (cs : List Change) (key value : List ℕ) (lease : ℤ) → IsStore s
+      → cells_after s (cs ++ Set key value lease ∷ []) + room_after s cs key
+      ≡ cells_after s cs + (cost_put key value + cost_delete key)
+  pub delete_takes_its_room : (s : Store) (cs : List Change) (key : List ℕ) → IsStore s
+      → cells_after s (cs ++ Del key ∷ []) + room_after s cs key ≡ cells_after s cs + cost_delete key
+  -- so a deleterange takes no cell
+  pub delete_takes_none : (s : Store) (cs : List Change) (d : DeleteReq) → IsStore s
+      → cells_after s (and_changes (kept_store.look s) cs (DeleteOp d)) ≡ cells_after s cs
+  -- an operation with changes pending before it takes and gives back so many cells
+  pub op_takes_cells : (s : Store) (cs : List Change) (op : Op) → IsStore s
+      → cells_after s (and_changes (kept_store.look s) cs op) + given_by (kept_store.look s cs) op
+      ≡ cells_after s cs + taken_by (kept_store.look s cs) op
+  -- operations of which none is a put take no cell
+  pub no_put_takes_none : (s : Store) (ops : List Op) → IsStore s → adds_any ops ≡ false
+      → cells_after s (pending_after (kept_store.look s) [] ops) ≡ cells s
+  -- nor does the end of a lease: each of its keys is live no more, and the cell of the lease itself is free
+  pub finish_takes_none : (s : Store) (id : ℤ) → IsStore s → cells (finished s id) ≡ cells s
+  pub finish_takes_keys : (s : Store) (id : ℤ) → IsStore s
+      → live_keys (finished s id) + length (attached (reads_of s) id) ≡ live_keys s
+  pub finish_frees_a_cell : (t : State Store) (id : ℤ) → IsStore t.store → IsStrictlySortedBy by_id t.leases
+      → has_lease t.leases id ≡ true → used kept_store (finish kept_store t id) + 1 ≡ used kept_store t
+  -- nor does a compaction
+  pub compaction_takes_none : (s : Store) (r : ℕ) → IsStore s → s.compacted ≤ r → r ≤ s.current
+      → cells (compact s r) ≤ cells s
+  -- the records take the cells in use without the reserved ones
+  pub records_are_used_cells : (t : State Store) → record_cells t.store.changes + length t.leases
+      ≡ used kept_store t - reserved_cells t.store.current t.store.changes
+  -- there is a reserved cell for each live key at least
+  pub keys_are_reserved : (s : Store) → live_keys s ≤ reserved_cells s.current s.changes

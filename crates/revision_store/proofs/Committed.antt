@@ -16,7 +16,7 @@ use Rattle.model_laws.proofs.HistoryKeptLaws.{no_more, fewer}
 use Rattle.model_laws.proofs.NumberLaws.{recorded_have_numbers}
 use Rattle.model_laws.proofs.OnceStoreLaws.{keys_apart, recorded_where_once}
 use Rattle.model_laws.proofs.RecordedLaws.{all_append, all_push, all_weaker, live_later}
-use Rattle.key_index.specs.Entries.{Cells, Entry}
+use Rattle.key_index.specs.Links.{Cells, Linked}
 use Rattle.revision_store.specs.declared.plan.Write.{Write}
 use Rattle.revision_store.specs.declared.plan.Write.TheVariants.{Put, Delete}
 use Rattle.revision_store.specs.Logged.{LogState}
@@ -134,7 +134,7 @@ follows_of store (Put row) follows = let same = ap row_revision follows in cc
     row_revision (Some r) = r.mod_revision
 follows_of store (Delete c) follows = some_cell (cells store c) follows.1
   where
-    some_cell : (o : Option Entry) → option_and_then (λ x. x.row) (option_map (λ e. e.change) o) ≡ Some follows.0 → IsSome o
+    some_cell : (o : Option Linked) → option_and_then (λ x. x.row) (option_map (λ e. e.change) o) ≡ Some follows.0 → IsSome o
     some_cell None is = absurd (cc)
     some_cell (Some e) is = refl
 

@@ -12,7 +12,7 @@ use Rattle.etcd_types.specs.declared.txn.Compare.{Compare}
 use Rattle.etcd_model.specs.Compares.{holds_of}
 use Rattle.etcd_model.specs.Interval.{is_in}
 use Rattle.etcd_model.specs.Changes.{Recorded, live, rows}
-use Rattle.key_index.specs.Entries.{Cells, IsNewest}
+use Rattle.key_index.specs.Links.{Cells, IsNewest}
 use Rattle.key_index.specs.Index.{Heads, IsIndexOf, IsSpan}
 use Rattle.key_index.specs.Order.{changes_in}
 use Rattle.revision_store.specs.Comparing.{meets, rows_shown}

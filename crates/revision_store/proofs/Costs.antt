@@ -2,7 +2,7 @@
 use Rattle.std.proofs.Common.{◌≡◌, ℕ, ◌+◌, ◌<◌, ◌≤◌, List, get_or, length, drop, ap, ◌∙◌, subst}
 use Rattle.std.proofs.lemmas.List.{drop_all}
 use Rattle.std.proofs.lemmas.List.Sums.{sum_by-cons}
-use Rattle.key_index.specs.Entries.{Cells}
+use Rattle.key_index.specs.Links.{Cells}
 use Rattle.revision_store.specs.declared.plan.Write.{Write}
 use Rattle.revision_store.specs.Plans.{cost_in, costs_in}
 use Rattle.revision_store.proofs.Writing.{ahead_here}

@@ -22,7 +22,7 @@ use Rattle.model_laws.proofs.NumberLaws.{live_is_within}
 use Rattle.model_laws.proofs.PendingLaws.{row_with_pending}
 use Rattle.model_laws.proofs.RowLaws.{live-key}
 use Rattle.model_laws.proofs.SpaceLaws.{delete_takes_its_room, put_takes_cells, same_cost}
-use Rattle.key_index.specs.Entries.{Cells}
+use Rattle.key_index.specs.Links.{Cells}
 use Rattle.revision_store.specs.Plans.{change_in, costs_in, cost_in, growth_of, key_at}
 use Rattle.revision_store.specs.Stored.{Follows, IsPlanFor, StoreState, cells, changes_of}
 use Rattle.revision_store.specs.Pending.{IsSound}

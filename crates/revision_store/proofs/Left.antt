@@ -7,7 +7,7 @@ use Rattle.cell_arena.specs.declared.cell.Kind.{Kind}
 use Rattle.cell_arena.specs.declared.cell.Kind.TheVariants.{Put, Delete, Lease}
 use Rattle.cell_arena.specs.Chain.{Record}
 use Rattle.key_index.specs.Order.{AreAll, with_records}
-use Rattle.revision_store.specs.Recorded.{AreCounted, LeaseCells, cells_of, entry_by, entry_of, lease_by, leases_of}
+use Rattle.revision_store.specs.Recorded.{AreCounted, LeaseCells, cells_of, linked_by, linked_of, lease_by, leases_of}
 
 filter_alike : {X : Type 0} (p q : X → Bool) (xs : List X) → All (λ x. p x ≡ q x) xs → filter p xs ≡ filter q xs
 filter_alike p q [] all = refl
@@ -17,12 +17,12 @@ filter_alike p q (x ∷ xs) all =
     ap (λ b. cond b (x ∷ filter p xs) (filter p xs)) here ∙ ap (λ ys. cond (q x) (x ∷ ys) ys) rest
 
 -- a record where a change was, while the leases stay, is one of a change
-there_alike : (o n : Option Record) → IsSome (option_and_then entry_of o) → option_and_then (λ r. lease_by r.kind r) n ≡ option_and_then (λ r. lease_by r.kind r) o → is_some n ≡ is_some (option_and_then entry_of n)
+there_alike : (o n : Option Record) → IsSome (option_and_then linked_of o) → option_and_then (λ r. lease_by r.kind r) n ≡ option_and_then (λ r. lease_by r.kind r) o → is_some n ≡ is_some (option_and_then linked_of n)
 there_alike None n some same = absurd (cc)
 there_alike (Some r) None some same = refl
 there_alike (Some r) (Some s) some same = by_kinds r.kind s.kind some same
   where
-    by_kinds : (k l : Kind) → IsSome (entry_by k r) → lease_by l s ≡ lease_by k r → true ≡ is_some (entry_by l s)
+    by_kinds : (k l : Kind) → IsSome (linked_by k r) → lease_by l s ≡ lease_by k r → true ≡ is_some (linked_by l s)
     by_kinds k Put some same = refl
     by_kinds k Delete some same = refl
     by_kinds Put Lease some same = absurd (cc)

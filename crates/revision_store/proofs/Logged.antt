@@ -14,13 +14,13 @@ use Rattle.etcd_types.specs.declared.key_value.KeyValue.{KeyValue}
 use Rattle.etcd_model.specs.Changes.{Recorded, Rises, change_by, change_of}
 use Rattle.etcd_model.specs.Kept.{cost}
 use Rattle.etcd_model.specs.Store.{record_cells}
-use Rattle.key_index.specs.Entries.{Cells, Entry, IsChained, IsPlaced, SameChanges, change_at, without}
+use Rattle.key_index.specs.Links.{Cells, Linked, IsChained, IsPlaced, SameChanges, change_at, without}
 use Rattle.key_index.specs.Index.{Heads, IsIndexOf}
 use Rattle.key_index.specs.Order.{AreAll, changes_in, with_record}
 use Rattle.key_index.proofs.Links.{if_other}
 use Rattle.key_index.proofs.Order.{changes_some, heads_few, which}
 use Rattle.key_index.proofs.OrderAdded.{changes_added, all_added, in_order_added, each_record, without_record, placed_record}
-use Rattle.revision_store.specs.Recorded.{LeaseRecord, cells_of, entry_of, lease_by, leases_of, with_lease, without_lease, AreCounted, ArePlain}
+use Rattle.revision_store.specs.Recorded.{LeaseRecord, cells_of, linked_of, lease_by, leases_of, with_lease, without_lease, AreCounted, ArePlain}
 use Rattle.revision_store.specs.Logged.{IsLog, AllStay}
 use Rattle.revision_store.specs.Plans.{change_in, cost_in, recorded_in}
 use Rattle.revision_store.specs.declared.plan.Write.{Write}
@@ -33,29 +33,29 @@ none_there : (c : ℕ) (r : Record) → get {R = nat_cmp} map.empty c ≡ Some r
 none_there c r at = let none : get {X = Record} {R = nat_cmp} map.empty c ≡ None = get-empty nat_cmp c in cc
 
 no_change : (c : ℕ) → cells_of map.empty c ≡ None
-no_change c = ap (option_and_then entry_of) (get-empty nat_cmp c)
+no_change c = ap (option_and_then linked_of) (get-empty nat_cmp c)
 
-no_entry : (c : ℕ) (e : Entry) → cells_of map.empty c ≡ Some e → ⊥
-no_entry c e at = let none = no_change c in cc
+no_linked : (c : ℕ) (e : Linked) → cells_of map.empty c ≡ Some e → ⊥
+no_linked c e at = let none = no_change c in cc
 
 no_lease : (c : ℕ) → leases_of map.empty c ≡ None
 no_lease c = ap (option_and_then (λ (r : Record). lease_by r.kind r)) (get-empty nat_cmp c)
 
 pub empty_is_log : (cells room places : ℕ) → cells % 64 ≡ 0 → cells ≤ 2 ^ 20 → cells ≤ room → cells ≤ places
-    → IsLog (no_records cells) (record { cells = []; room = room }) [] places 0
+    → IsLog (no_records cells) (record { cells = []; capacity = room }) [] places 0
 empty_is_log cells room places whole few has_room has_places = record {
   index = record {
     newest = λ i lt. absurd (omega (arith, lt));
     sorted = λ i j e f below lt. absurd (omega (arith, lt));
-    whole = λ c e at. absurd (no_entry c e at);
+    whole = λ c e at. absurd (no_linked c e at);
   };
   chained = record {
-    linked = λ c d e at. absurd (no_entry c e at);
-    oldest = λ c e at. absurd (no_entry c e at);
-    unique = λ b c g e at. absurd (no_entry b g at);
+    linked = λ c d e at. absurd (no_linked c e at);
+    oldest = λ c e at. absurd (no_linked c e at);
+    unique = λ b c g e at. absurd (no_linked b g at);
   };
   all = record {
-    once = λ c e at. absurd (no_entry c e at);
+    once = λ c e at. absurd (no_linked c e at);
     some = λ k d lt. absurd (omega (arith, lt));
   };
   rises = tt;
@@ -68,8 +68,8 @@ empty_is_log cells room places whole few has_room has_places = record {
   };
   space = omega (arith, whole);
   most = omega (arith, few);
-  index_room = omega (arith, has_room);
-  order_room = omega (arith, has_places);
+  index_capacity = omega (arith, has_room);
+  order_capacity = omega (arith, has_places);
 }
 
 -- ---- one change more
@@ -103,24 +103,24 @@ module _ {r0 : Held} (r1 : Held) {heads0 : Heads} {order : List ℕ} {places lea
   abbrev new_change : Recorded
   new_change = recorded_in (cells_of r0.records) revision write
 
-  abbrev new_entry : Entry
-  new_entry = record { change = new_change; older = None }
+  abbrev new_linked : Linked
+  new_linked = record { change = new_change; older = None }
 
   free1 : r1.free + cost (change_of new_change) ≡ r0.free
   free1 = ap (λ x. r1.free + cost x) (recorded_change (cells_of r0.records) revision write) ∙ free
 
   fresh_cell : cells_of r0.records c ≡ None
-  fresh_cell = ap (option_and_then entry_of) fresh
+  fresh_cell = ap (option_and_then linked_of) fresh
 
   -- each of the places is of a cell in use
   pub order_fits : length order < places
-  order_fits = omega (arith, order_few (cells_of r0.records) order log.all.some, some_cells new_change, free1, log.space, log.order_room)
+  order_fits = omega (arith, order_few (cells_of r0.records) order log.all.some, some_cells new_change, free1, log.space, log.order_capacity)
 
-  pub heads_fit : length heads0.cells < heads0.room
-  heads_fit = omega (arith, heads_few (cells_of r0.records) heads0.cells order log.index log.all, order_few (cells_of r0.records) order log.all.some, some_cells new_change, free1, log.space, log.index_room)
+  pub heads_fit : length heads0.cells < heads0.capacity
+  heads_fit = omega (arith, heads_few (cells_of r0.records) heads0.cells order log.index log.all, order_few (cells_of r0.records) order log.all.some, some_cells new_change, free1, log.space, log.index_capacity)
 
   was_there : without (cells_of r1.records) c ≡ cells_of r0.records
-  was_there = ap (λ (m : Cells). without m c) placed ∙ without_record (cells_of r0.records) c new_entry fresh_cell
+  was_there = ap (λ (m : Cells). without m c) placed ∙ without_record (cells_of r0.records) c new_linked fresh_cell
 
   pub index_before : IsIndexOf (without (cells_of r1.records) c) heads0.cells
   index_before = subst (λ (m : Cells). IsIndexOf m heads0.cells) (sym was_there) log.index
@@ -132,26 +132,26 @@ module _ {r0 : Held} (r1 : Held) {heads0 : Heads} {order : List ℕ} {places lea
   placed_newest once =
       let later : AllByRecursion (λ x. x.key ≡ new_change.key → x.revision < new_change.revision) (changes_in (cells_of r0.records) order) =
       subst (λ (n : ℕ). AllByRecursion (λ x. x.key ≡ new_change.key → x.revision < n) (changes_in (cells_of r0.records) order)) (sym (recorded_revision (cells_of r0.records) revision write)) once in
-      subst (λ (m : Cells). IsPlaced m c) (sym placed) (placed_record (cells_of r0.records) c new_entry fresh_cell
+      subst (λ (m : Cells). IsPlaced m c) (sym placed) (placed_record (cells_of r0.records) c new_linked fresh_cell
       (each_record (λ x. x.key ≡ new_change.key → x.revision < new_change.revision) (cells_of r0.records) order log.all later))
 
   module _ (r2 : Held) (same : SameChanges (cells_of r1.records) (cells_of r2.records)) where
-    same_changes : SameChanges (with_record (cells_of r0.records) c new_entry) (cells_of r2.records)
+    same_changes : SameChanges (with_record (cells_of r0.records) c new_linked) (cells_of r2.records)
     same_changes = subst (λ (m : Cells). SameChanges m (cells_of r2.records)) placed same
 
     pub changes_more : changes_in (cells_of r2.records) (order ++ c ∷ []) ≡ changes_in (cells_of r0.records) order ++ new_change ∷ []
-    changes_more = changes_added (cells_of r0.records) (cells_of r2.records) c new_entry fresh_cell same_changes order log.all
+    changes_more = changes_added (cells_of r0.records) (cells_of r2.records) c new_linked fresh_cell same_changes order log.all
 
     pub changes_stay : AllStay (cells_of r0.records) (cells_of r2.records)
     changes_stay b x at = elim (cases_eq b c) [
       | inl eq ↦
-          let none : change_at (cells_of r0.records) b ≡ None = ap (λ (k : ℕ). change_at (cells_of r0.records) k) eq ∙ ap (option_map (λ (g : Entry). g.change)) fresh_cell in
+          let none : change_at (cells_of r0.records) b ≡ None = ap (λ (k : ℕ). change_at (cells_of r0.records) k) eq ∙ ap (option_map (λ (g : Linked). g.change)) fresh_cell in
           absurd (cc)
-      | inr differs ↦ same_changes b ∙ ap (option_map (λ (g : Entry). g.change)) (if_other b c (Some new_entry) (cells_of r0.records b) differs) ∙ at
+      | inr differs ↦ same_changes b ∙ ap (option_map (λ (g : Linked). g.change)) (if_other b c (Some new_linked) (cells_of r0.records b) differs) ∙ at
     ]
 
     pub log_more : (heads2 : Heads) → AllByRecursion (λ x. x.revision ≤ revision) (changes_in (cells_of r0.records) order)
-        → IsIndexOf (cells_of r2.records) heads2.cells → IsChained (cells_of r2.records) → heads2.room ≡ heads0.room
+        → IsIndexOf (cells_of r2.records) heads2.cells → IsChained (cells_of r2.records) → heads2.capacity ≡ heads0.capacity
         → leases_of r2.records ≡ leases_of r0.records → ArePlain r2.records → r2.free ≡ r1.free → r2.share.reserved ≡ r0.share.reserved
         → IsLog r2 heads2 (order ++ c ∷ []) places leases
     log_more heads2 up index chained room same_leases plain same_free reserved =
@@ -162,14 +162,14 @@ module _ {r0 : Held} (r1 : Held) {heads0 : Heads} {order : List ℕ} {places lea
         record {
           index = index;
           chained = chained;
-          all = all_added (cells_of r0.records) (cells_of r2.records) c new_entry fresh_cell same_changes order log.all;
-          rises = in_order_added (cells_of r0.records) (cells_of r2.records) c new_entry fresh_cell same_changes order log.all log.rises later;
+          all = all_added (cells_of r0.records) (cells_of r2.records) c new_linked fresh_cell same_changes order log.all;
+          rises = in_order_added (cells_of r0.records) (cells_of r2.records) c new_linked fresh_cell same_changes order log.all log.rises later;
           plain = plain;
           leases = subst (λ l. AreCounted l leases) (sym same_leases) log.leases;
           space = omega (arith, cells, split, free1, same_free, reserved, log.space);
           most = omega (arith, reserved, log.most);
-          index_room = omega (arith, reserved, room, log.index_room);
-          order_room = omega (arith, reserved, log.order_room);
+          index_capacity = omega (arith, reserved, room, log.index_capacity);
+          order_capacity = omega (arith, reserved, log.order_capacity);
         }
 
 -- ---- one lease more or fewer
@@ -187,8 +187,8 @@ module _ {r0 : Held} (r1 : Held) {heads : Heads} {order : List ℕ} {places leas
         leases = counted;
         space = omega (arith, same, space, reserved, log.space);
         most = omega (arith, reserved, log.most);
-        index_room = omega (arith, reserved, log.index_room);
-        order_room = omega (arith, reserved, log.order_room);
+        index_capacity = omega (arith, reserved, log.index_capacity);
+        order_capacity = omega (arith, reserved, log.order_capacity);
       }
 
   pub lease_more : (l : LeaseRecord) (now : ℕ) → get r0.records c ≡ None → leases_of r1.records ≡ with_lease (leases_of r0.records) c l → r1.free + 1 ≡ r0.free → now ≡ leases + 1 → IsLog r1 heads order places now

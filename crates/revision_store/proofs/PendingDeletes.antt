@@ -20,7 +20,7 @@ use Rattle.etcd_model.specs.Changes.{Recorded, OwnRow, live, rows}
 use Rattle.etcd_model.specs.Store.{IsStore, after}
 use Rattle.etcd_model.proofs.HistoryLaws.{changes_of as of_key}
 use Rattle.etcd_model.proofs.OnceLaws.{deletes_of, no_delete, one_delete, at_most_one}
-use Rattle.model_laws.specs.Recording.{by_key}
+use Rattle.etcd_model.specs.Order.{by_key}
 use Rattle.model_laws.proofs.LastLaws.{any_none}
 use Rattle.model_laws.proofs.OnceStoreLaws.{none_found as any_found}
 use Rattle.model_laws.proofs.RecordedLaws.{all_append, all_weaker}

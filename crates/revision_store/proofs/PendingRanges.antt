@@ -12,7 +12,7 @@ use Rattle.etcd_model.specs.Interval.{is_in}
 use Rattle.etcd_model.specs.Changes.{Recorded, entry_at, live, recorded, record_revision, rows}
 use Rattle.etcd_model.specs.Reads.{Reads, revision_read, rows_read, unreadable}
 use Rattle.etcd_model.specs.Store.{Store, IsStore, after, reads_of}
-use Rattle.model_laws.specs.Recording.{by_key}
+use Rattle.etcd_model.specs.Order.{by_key}
 use Rattle.model_laws.proofs.RecordedLaws.{live_push}
 use Rattle.model_laws.proofs.RowLaws.{rows_rise, same_rows}
 use Rattle.model_laws.proofs.SpaceLaws.{after_is_store, own_pend}

@@ -16,7 +16,7 @@ use Rattle.etcd_model.specs.Interval.{is_in}
 use Rattle.etcd_model.specs.Changes.{live, or_before, rows}
 use Rattle.etcd_model.specs.Store.{after}
 use Rattle.etcd_model.proofs.OrderLaws.{sorted-put_in, tied_keys, bytes_eq-key_cmp}
-use Rattle.model_laws.specs.Recording.{by_key}
+use Rattle.etcd_model.specs.Order.{by_key}
 use Rattle.model_laws.proofs.LastLaws.{or_before-none}
 use Rattle.model_laws.proofs.RowLaws.{has_key, rows_by_their_keys, rows_rise}
 use Rattle.model_laws.proofs.SpaceLaws.{after_is_store}

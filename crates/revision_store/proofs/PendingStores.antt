@@ -19,10 +19,10 @@ use Rattle.model_laws.proofs.NumberLaws.{live_is_within}
 use Rattle.etcd_model.specs.Interval.{is_in}
 use Rattle.etcd_model.specs.Order.{key_cmp, key_le}
 use Rattle.etcd_model.proofs.OrderLaws.{bytes_eq-key_cmp}
-use Rattle.key_index.specs.Entries.{Cells, Entry, change_at}
+use Rattle.key_index.specs.Links.{Cells, Linked, change_at}
 use Rattle.key_index.specs.Order.{changes_in}
 use Rattle.revision_store.specs.Plans.{key_at}
-use Rattle.revision_store.specs.Recorded.{cells_of, entry_by, entry_of}
+use Rattle.revision_store.specs.Recorded.{cells_of, linked_by, linked_of}
 use Rattle.revision_store.specs.Stored.{StoreState, cells, changes_of, row_at}
 use Rattle.revision_store.specs.Pending.{is_row_in, left_cells, put_row, puts_within}
 use Rattle.revision_store.specs.declared.plan.Write.{Write}
@@ -32,12 +32,12 @@ use Rattle.revision_store.specs.declared.plan.Write.TheVariants.{Put as PutWrite
 pub own_change : (records : FinMap nat_cmp Record) (c : ℕ) (x : Recorded) → change_at (cells_of records) c ≡ Some x → OwnRow x
 own_change records c x e = from (get records c) e
   where
-    by : (kind : Kind) (r : Record) → option_map (λ (e : Entry). e.change) (entry_by kind r) ≡ Some x → OwnRow x
+    by : (kind : Kind) (r : Record) → option_map (λ (e : Linked). e.change) (linked_by kind r) ≡ Some x → OwnRow x
     by Put r h = let is : record { key = r.key; revision = r.fields.revision; row = Some (record { key = r.key; create_revision = r.fields.create_revision; mod_revision = r.fields.revision; version = r.fields.version; value = r.value; lease = r.fields.lease }) } ≡ x = cc in subst OwnRow is refl
     by Delete r h = let is : record { key = r.key; revision = r.fields.revision; row = None } ≡ x = cc in subst OwnRow is tt
     by Lease r h = let bad : ⊥ = cc in absurd bad
 
-    from : (o : Option Record) → option_map (λ (e : Entry). e.change) (option_and_then entry_of o) ≡ Some x → OwnRow x
+    from : (o : Option Record) → option_map (λ (e : Linked). e.change) (option_and_then linked_of o) ≡ Some x → OwnRow x
     from None h = let bad : ⊥ = cc in absurd bad
     from (Some r) h = by r.kind r h
 
@@ -71,7 +71,7 @@ puts_are store key end (DeleteWrite c ∷ ws) = puts_are store key end ws
 pub held : (records : FinMap nat_cmp Record) (c : ℕ) → IsSome (row_at (cells_of records) c) → IsSome (get records c)
 held records c h = by (get records c) h
   where
-    by : (o : Option Record) → IsSome (option_and_then (λ (x : Recorded). x.row) (option_map (λ (e : Entry). e.change) (option_and_then entry_of o))) → IsSome o
+    by : (o : Option Record) → IsSome (option_and_then (λ (x : Recorded). x.row) (option_map (λ (e : Linked). e.change) (option_and_then linked_of o))) → IsSome o
     by None e = let bad : ⊥ = cc in absurd bad
     by (Some r) e = refl
 
@@ -79,14 +79,14 @@ held records c h = by (get records c) h
 pub compared : (records : FinMap nat_cmp Record) (c : ℕ) (key : List ℕ) (o : Ordering) → IsSome (row_at (cells_of records) c) → IfSome (get records c) (λ r. o ≡ slice_cmp nat_cmp r.key key) → o ≡ key_cmp (key_at (cells_of records) c) key
 compared records c key o h e = from (get records c) h e
   where
-    by : (kind : Kind) (r : Record) → IsSome (option_and_then (λ (x : Recorded). x.row) (option_map (λ (e : Entry). e.change) (entry_by kind r))) → o ≡ slice_cmp nat_cmp r.key key
-        → o ≡ key_cmp (unwrap_or (option_map (λ (x : Recorded). x.key) (option_map (λ (e : Entry). e.change) (entry_by kind r))) []) key
+    by : (kind : Kind) (r : Record) → IsSome (option_and_then (λ (x : Recorded). x.row) (option_map (λ (e : Linked). e.change) (linked_by kind r))) → o ≡ slice_cmp nat_cmp r.key key
+        → o ≡ key_cmp (unwrap_or (option_map (λ (x : Recorded). x.key) (option_map (λ (e : Linked). e.change) (linked_by kind r))) []) key
     by Put r some is = is
     by Delete r some is = is
     by Lease r some is = let bad : ⊥ = cc in absurd bad
 
-    from : (p : Option Record) → IsSome (option_and_then (λ (x : Recorded). x.row) (option_map (λ (e : Entry). e.change) (option_and_then entry_of p))) → IfSome p (λ r. o ≡ slice_cmp nat_cmp r.key key)
-        → o ≡ key_cmp (unwrap_or (option_map (λ (x : Recorded). x.key) (option_map (λ (e : Entry). e.change) (option_and_then entry_of p))) []) key
+    from : (p : Option Record) → IsSome (option_and_then (λ (x : Recorded). x.row) (option_map (λ (e : Linked). e.change) (option_and_then linked_of p))) → IfSome p (λ r. o ≡ slice_cmp nat_cmp r.key key)
+        → o ≡ key_cmp (unwrap_or (option_map (λ (x : Recorded). x.key) (option_map (λ (e : Linked). e.change) (option_and_then linked_of p))) []) key
     from None some is = let bad : ⊥ = cc in absurd bad
     from (Some r) some is = by r.kind r some is
 

@@ -8,9 +8,9 @@ use Rattle.cell_arena.specs.declared.cell.Kind.{Kind}
 use Rattle.cell_arena.specs.declared.cell.Kind.TheVariants.{Put, Delete, Lease}
 use Rattle.cell_arena.specs.declared.cell.Fields.{Fields}
 use Rattle.cell_arena.specs.Chain.{Record}
-use Rattle.key_index.specs.Entries.{Entry}
+use Rattle.key_index.specs.Links.{Linked}
 use Rattle.key_index.specs.Order.{with_record}
-use Rattle.revision_store.specs.Recorded.{entry_by, entry_of, cells_of, leases_of, with_lease, ArePlain}
+use Rattle.revision_store.specs.Recorded.{linked_by, linked_of, cells_of, leases_of, with_lease, ArePlain}
 use Rattle.revision_store.specs.Plans.{key_at}
 use Rattle.revision_store.proofs.Recorded.{at_some, is_change, cells_placed, cells_beside, leases_placed, lease_placed, plain_placed}
 
@@ -23,8 +23,8 @@ put_record row = record {
   older = None;
 }
 
-abbrev put_entry : KeyValue → ℕ → Entry
-put_entry row revision = record { change = record { key = row.key; revision = revision; row = Some row }; older = None }
+abbrev put_linked : KeyValue → ℕ → Linked
+put_linked row revision = record { change = record { key = row.key; revision = revision; row = Some row }; older = None }
 
 -- the record of a row's parts is that of the row
 pub put_parts : (m n : FinMap nat_cmp Record) (k : ℕ) (row : KeyValue) (fields : Fields) (key value : List ℕ) → n ≡ insert m k (record { kind = Put; fields = fields; key = key; value = value; older = None })
@@ -37,8 +37,8 @@ put_parts m n k row fields key value placed same_fields same_key same_value =
 module _ (m n : FinMap nat_cmp Record) (k : ℕ) (row : KeyValue) (is : n ≡ insert m k (put_record row)) where
   pub put_cells : (revision : ℕ) → row.mod_revision ≡ revision → cells_of n ≡ with_record (cells_of m) k (record { change = record { key = row.key; revision = revision; row = Some row }; older = None })
   put_cells revision of =
-      let here : entry_of (put_record row) ≡ Some (put_entry row revision) = ap (λ (x : ℕ). let o : Option Entry = Some (put_entry row x) in o) of in
-      ap cells_of is ∙ cells_placed m k (put_record row) (put_entry row revision) here
+      let here : linked_of (put_record row) ≡ Some (put_linked row revision) = ap (λ (x : ℕ). let o : Option Linked = Some (put_linked row x) in o) of in
+      ap cells_of is ∙ cells_placed m k (put_record row) (put_linked row revision) here
 
   pub put_leases : get m k ≡ None → leases_of n ≡ leases_of m
   put_leases fresh = ap leases_of is ∙ leases_placed m k (put_record row) fresh refl
@@ -49,10 +49,10 @@ module _ (m n : FinMap nat_cmp Record) (k : ℕ) (row : KeyValue) (is : n ≡ in
 -- the key of a change's record is that of the change
 pub key_of_record : (m : FinMap nat_cmp Record) (c : ℕ) (r : Record) → get m c ≡ Some r → IsSome (cells_of m c) → key_at (cells_of m) c ≡ r.key
 key_of_record m c r at some =
-    let here : cells_of m c ≡ entry_of r = ap (option_and_then entry_of) at in
-    ap (λ (o : Option Entry). unwrap_or (option_map (λ x. x.key) (option_map (λ (e : Entry). e.change) o)) []) here ∙ by_kind r.kind r (subst IsSome here some)
+    let here : cells_of m c ≡ linked_of r = ap (option_and_then linked_of) at in
+    ap (λ (o : Option Linked). unwrap_or (option_map (λ x. x.key) (option_map (λ (e : Linked). e.change) o)) []) here ∙ by_kind r.kind r (subst IsSome here some)
   where
-    by_kind : (kind : Kind) (r : Record) → IsSome (entry_by kind r) → unwrap_or (option_map (λ x. x.key) (option_map (λ (e : Entry). e.change) (entry_by kind r))) [] ≡ r.key
+    by_kind : (kind : Kind) (r : Record) → IsSome (linked_by kind r) → unwrap_or (option_map (λ x. x.key) (option_map (λ (e : Linked). e.change) (linked_by kind r))) [] ≡ r.key
     by_kind Put r some = refl
     by_kind Delete r some = refl
     by_kind Lease r some = absurd (cc)
@@ -60,8 +60,8 @@ key_of_record m c r at some =
 abbrev delete_record : Fields → List ℕ → Record
 delete_record fields key = record { kind = Delete; fields = fields; key = key; value = []; older = None }
 
-abbrev delete_entry : List ℕ → ℕ → Entry
-delete_entry key revision = record { change = record { key = key; revision = revision; row = None }; older = None }
+abbrev delete_linked : List ℕ → ℕ → Linked
+delete_linked key revision = record { change = record { key = key; revision = revision; row = None }; older = None }
 
 module _ (m n : FinMap nat_cmp Record) (of k : ℕ) (fields : Fields) (some : IsSome (cells_of m of)) (placed : IfSome (get m of) (λ r. n ≡ insert m k (record { kind = Delete; fields = fields; key = r.key; value = []; older = None }))) where
   delete_is : n ≡ insert m k (delete_record fields (key_at (cells_of m) of))
@@ -73,8 +73,8 @@ module _ (m n : FinMap nat_cmp Record) (of k : ℕ) (fields : Fields) (some : Is
   pub delete_cells : (revision : ℕ) → fields.revision ≡ revision → cells_of n ≡ with_record (cells_of m) k (record { change = record { key = key_at (cells_of m) of; revision = revision; row = None }; older = None })
   delete_cells revision of_revision =
       let key = key_at (cells_of m) of in
-      let here : entry_of (delete_record fields key) ≡ Some (delete_entry key revision) = ap (λ (x : ℕ). let o : Option Entry = Some (delete_entry key x) in o) of_revision in
-      ap cells_of delete_is ∙ cells_placed m k (delete_record fields key) (delete_entry key revision) here
+      let here : linked_of (delete_record fields key) ≡ Some (delete_linked key revision) = ap (λ (x : ℕ). let o : Option Linked = Some (delete_linked key x) in o) of_revision in
+      ap cells_of delete_is ∙ cells_placed m k (delete_record fields key) (delete_linked key revision) here
 
   pub delete_leases : get m k ≡ None → leases_of n ≡ leases_of m
   delete_leases fresh = ap leases_of delete_is ∙ leases_placed m k (delete_record fields (key_at (cells_of m) of)) fresh refl

@@ -8,7 +8,7 @@ use Rattle.etcd_types.specs.declared.key_value.KeyValue.{KeyValue}
 use Rattle.etcd_types.specs.declared.kv.RangeReq.{RangeReq}
 use Rattle.std.specs.List.Sorted.{IsStrictlySortedBy}
 use Rattle.etcd_model.specs.Ranges.{is_wanted}
-use Rattle.model_laws.specs.Recording.{by_key}
+use Rattle.etcd_model.specs.Order.{by_key}
 use Rattle.revision_store.specs.Answering.{IsLimit, given, is_by_key, wants_all}
 use Rattle.revision_store.specs.Ranging.{passes}
 use Rattle.revision_store.proofs.AnsweringLaws.{given_taken, sorted-take}

@@ -8,26 +8,26 @@ use Rattle.cell_arena.specs.declared.cell.Kind.{Kind}
 use Rattle.cell_arena.specs.declared.cell.Kind.TheVariants.{Put, Delete, Lease}
 use Rattle.cell_arena.specs.Held.{Held}
 use Rattle.etcd_model.specs.Changes.{Recorded, OwnRow, last}
-use Rattle.key_index.specs.Entries.{Cells, Entry, change_at, IsChained, IsLast, NoneUpTo}
+use Rattle.key_index.specs.Links.{Cells, Linked, change_at, IsChained, IsLast, NoneUpTo}
 use Rattle.key_index.specs.Index.{Heads}
 use Rattle.key_index.specs.Order.{AreAll, IsInOrder, changes_in}
 use Rattle.key_index.proofs.Compacted.{change_some}
 use Rattle.key_index.proofs.Links.{is_some_from}
 use Rattle.key_index.proofs.Order.{last_in_order, none_in_order}
-use Rattle.revision_store.specs.Recorded.{cells_of, entry_by, entry_of}
+use Rattle.revision_store.specs.Recorded.{cells_of, linked_by, linked_of}
 use Rattle.revision_store.specs.Logged.{IsLog}
 
 -- a row is of its change's key
-own_by : (k : Kind) (q : Record) (e : Entry) → entry_by k q ≡ Some e → OwnRow e.change
-own_by Put q e h = let F : Option Entry → Type 0 = λ o. IfSome o (λ (x : Entry). OwnRow x.change) in subst F h refl
-own_by Delete q e h = let F : Option Entry → Type 0 = λ o. IfSome o (λ (x : Entry). OwnRow x.change) in subst F h tt
+own_by : (k : Kind) (q : Record) (e : Linked) → linked_by k q ≡ Some e → OwnRow e.change
+own_by Put q e h = let F : Option Linked → Type 0 = λ o. IfSome o (λ (x : Linked). OwnRow x.change) in subst F h refl
+own_by Delete q e h = let F : Option Linked → Type 0 = λ o. IfSome o (λ (x : Linked). OwnRow x.change) in subst F h tt
 own_by Lease q e h = let bad : ⊥ = cc in absurd bad
 
-own_in : (o : Option Record) (e : Entry) → option_and_then entry_of o ≡ Some e → OwnRow e.change
+own_in : (o : Option Record) (e : Linked) → option_and_then linked_of o ≡ Some e → OwnRow e.change
 own_in None e h = let bad : ⊥ = cc in absurd bad
 own_in (Some q) e h = own_by q.kind q e h
 
-pub own_rows : (records : FinMap nat_cmp Record) (c : ℕ) (e : Entry) → cells_of records c ≡ Some e → OwnRow e.change
+pub own_rows : (records : FinMap nat_cmp Record) (c : ℕ) (e : Linked) → cells_of records c ≡ Some e → OwnRow e.change
 own_rows records c e h = own_in (get records c) e h
 
 -- ---- the last change of a key

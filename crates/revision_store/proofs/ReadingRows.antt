@@ -20,7 +20,7 @@ use Rattle.etcd_model.specs.Interval.{is_in, every_key}
 use Rattle.etcd_model.specs.Changes.{Recorded, OwnRow, live, rows}
 use Rattle.etcd_model.proofs.RowLaws.{filter-rows, find-rows, sorted-rows}
 use Rattle.model_laws.proofs.RowLaws.{live-key, row_found, rows_by_their_keys, rows_inside, rows_rise}
-use Rattle.key_index.specs.Entries.{Cells, Entry, IsNewest, IsOf}
+use Rattle.key_index.specs.Links.{Cells, Linked, IsNewest, IsOf}
 use Rattle.key_index.specs.Index.{Heads, IsIndexOf, IsSpan}
 use Rattle.key_index.specs.Order.{changes_in}
 use Rattle.key_index.proofs.Order.{none_in_order}
@@ -125,8 +125,8 @@ filter_span p f (h ∷ hs) (suc from) n within exact =
 
 -- ---- the rows of an interval
 
-key_is : (cells : Cells) (c : ℕ) (e : Entry) → cells c ≡ Some e → key_at cells c ≡ e.change.key
-key_is cells c e at = ap (λ (o : Option Entry). unwrap_or (option_map (λ (x : Recorded). x.key) (option_map (λ (y : Entry). y.change) o)) []) at
+key_is : (cells : Cells) (c : ℕ) (e : Linked) → cells c ≡ Some e → key_at cells c ≡ e.change.key
+key_is cells c e at = ap (λ (o : Option Linked). unwrap_or (option_map (λ (x : Recorded). x.key) (option_map (λ (y : Linked). y.change) o)) []) at
 
 -- the newest record of a key has it
 pub head_key : (cells : Cells) (head : ℕ) → IsNewest cells head → IsOf cells (key_at cells head) head
@@ -143,7 +143,7 @@ newest_in cells heads hs from to i c index same lt at =
     let there = get_or_default (slice_range hs from to) i c 0 lt ∙ get_or-take (to - from) (drop from hs) i 0 here ∙ get_or-drop from hs i 0 ∙ ap (λ (ys : List ℕ). get_or ys (from + i) 0) same in
     subst (IsNewest cells) (sym (at ∙ there)) (index.newest (from + i) within)
 
-module _ (cells : Cells) (heads order : List ℕ) (index : IsIndexOf cells heads) (own : (c : ℕ) (e : Entry) → cells c ≡ Some e → OwnRow e.change) (r : ℕ) where
+module _ (cells : Cells) (heads order : List ℕ) (index : IsIndexOf cells heads) (own : (c : ℕ) (e : Linked) → cells c ≡ Some e → OwnRow e.change) (r : ℕ) where
   abbrev look : List ℕ → Option KeyValue
   look key = live key r (changes_in cells order)
 

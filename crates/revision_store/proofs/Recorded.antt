@@ -13,10 +13,10 @@ use Rattle.cell_arena.specs.Held.{cost}
 use Rattle.etcd_model.specs.Changes.{change_of}
 use Rattle.etcd_model.specs.Kept.{cost as cost_of_change}
 use Rattle.key_index.specs.Compaction.{cost_of}
-use Rattle.key_index.specs.Entries.{Entry, linked, with_older, without}
+use Rattle.key_index.specs.Links.{Linked, with_link, with_older, without}
 use Rattle.key_index.specs.Order.{with_record}
 use Rattle.key_index.proofs.Links.{if_same, if_other}
-use Rattle.revision_store.specs.Recorded.{LeaseRecord, entry_by, entry_of, cells_of, lease_by, leases_of, with_lease, without_lease, IsPlain, ArePlain}
+use Rattle.revision_store.specs.Recorded.{LeaseRecord, linked_by, linked_of, cells_of, lease_by, leases_of, with_lease, without_lease, IsPlain, ArePlain}
 
 through : {A B : Type 0} (f : A → B) (b : Bool) (x y : A) → f (cond b x y) ≡ cond b (f x) (f y)
 through f true x y = refl
@@ -49,11 +49,11 @@ pub at_some : {A : Type 0} (o : Option A) (P : A → Type 0) (x : A) → o ≡ S
 at_some {A} o P x at holds = let F : Option A → Type 0 = λ y. IfSome y P in subst F at holds
 
 -- a change is of a record that is there, which is no lease
-pub is_change : (o : Option Record) → IsSome (option_and_then entry_of o) → (r : Record) × (o ≡ Some r) × (lease_by r.kind r ≡ None)
+pub is_change : (o : Option Record) → IsSome (option_and_then linked_of o) → (r : Record) × (o ≡ Some r) × (lease_by r.kind r ≡ None)
 is_change None some = absurd (cc)
 is_change (Some r) some = (r, refl, by_kind r.kind r some)
   where
-    by_kind : (kind : Kind) (r : Record) → IsSome (entry_by kind r) → lease_by kind r ≡ None
+    by_kind : (kind : Kind) (r : Record) → IsSome (linked_by kind r) → lease_by kind r ≡ None
     by_kind Put r some = refl
     by_kind Delete r some = refl
     by_kind Lease r some = absurd (cc)
@@ -71,8 +71,8 @@ is_lease (Some r) some = (r, refl, by_kind r.kind r some)
 -- ---- a record comes
 
 module _ (m : FinMap nat_cmp Record) (k : ℕ) (r : Record) where
-  pub cells_placed : (e : Entry) → entry_of r ≡ Some e → cells_of (insert m k r) ≡ with_record (cells_of m) k e
-  cells_placed e is = fun_ext (λ q. seen_inserted entry_of m k r q ∙ ap (λ (o : Option Entry). cond (q == k) o (cells_of m q)) is)
+  pub cells_placed : (e : Linked) → linked_of r ≡ Some e → cells_of (insert m k r) ≡ with_record (cells_of m) k e
+  cells_placed e is = fun_ext (λ q. seen_inserted linked_of m k r q ∙ ap (λ (o : Option Linked). cond (q == k) o (cells_of m q)) is)
 
   pub leases_placed : get m k ≡ None → lease_by r.kind r ≡ None → leases_of (insert m k r) ≡ leases_of m
   leases_placed fresh none = fun_ext (λ q.
@@ -84,8 +84,8 @@ module _ (m : FinMap nat_cmp Record) (k : ℕ) (r : Record) where
       let f : Record → Option LeaseRecord = λ r. lease_by r.kind r in
       seen_inserted f m k r q ∙ ap (λ (o : Option LeaseRecord). cond (q == k) o (leases_of m q)) is)
 
-  pub cells_beside : get m k ≡ None → entry_of r ≡ None → cells_of (insert m k r) ≡ cells_of m
-  cells_beside fresh none = fun_ext (λ q. seen_inserted entry_of m k r q ∙ same_there (cells_of m) k q (entry_of r) (ap (option_and_then entry_of) fresh ∙ sym none))
+  pub cells_beside : get m k ≡ None → linked_of r ≡ None → cells_of (insert m k r) ≡ cells_of m
+  cells_beside fresh none = fun_ext (λ q. seen_inserted linked_of m k r q ∙ same_there (cells_of m) k q (linked_of r) (ap (option_and_then linked_of) fresh ∙ sym none))
 
   pub plain_placed : ArePlain m → IsPlain r → ArePlain (insert m k r)
   plain_placed plain here q x at = by_case (q == k) (sym (get_inserted m k r q) ∙ at)
@@ -96,10 +96,10 @@ module _ (m : FinMap nat_cmp Record) (k : ℕ) (r : Record) where
 
 -- ---- a record is linked
 
-older_entry : (o : Option ℕ) (kind : Kind) (r : Record) → entry_by kind (record r { older = o }) ≡ option_map (with_older o) (entry_by kind r)
-older_entry o Put r = refl
-older_entry o Delete r = refl
-older_entry o Lease r = refl
+older_linked : (o : Option ℕ) (kind : Kind) (r : Record) → linked_by kind (record r { older = o }) ≡ option_map (with_older o) (linked_by kind r)
+older_linked o Put r = refl
+older_linked o Delete r = refl
+older_linked o Lease r = refl
 
 older_lease : (o : Option ℕ) (kind : Kind) (r : Record) → lease_by kind (record r { older = o }) ≡ lease_by kind r
 older_lease o Put r = refl
@@ -113,15 +113,15 @@ module _ (m n : FinMap nat_cmp Record) (k : ℕ) (o : Option ℕ) (some : IsSome
   of_record : (r : Record) → get m k ≡ Some r → n ≡ insert m k (record r { older = o })
   of_record r at = at_some (get m k) (λ (r : Record). n ≡ insert m k (record r { older = o })) r at set
 
-  pub cells_linked : cells_of n ≡ linked (cells_of m) k o
+  pub cells_linked : cells_of n ≡ with_link (cells_of m) k o
   cells_linked =
       let h = is_change (get m k) some in
       let r = h.0 in
-      let here : cells_of m k ≡ entry_of r = ap (option_and_then entry_of) h.1 in
+      let here : cells_of m k ≡ linked_of r = ap (option_and_then linked_of) h.1 in
       fun_ext (λ q.
       ap (λ (x : FinMap nat_cmp Record). cells_of x q) (of_record r h.1)
-      ∙ seen_inserted entry_of m k (record r { older = o }) q
-      ∙ ap (λ (e : Option Entry). cond (q == k) e (cells_of m q)) (older_entry o r.kind r ∙ ap (option_map (with_older o)) (sym here))
+      ∙ seen_inserted linked_of m k (record r { older = o }) q
+      ∙ ap (λ (e : Option Linked). cond (q == k) e (cells_of m q)) (older_linked o r.kind r ∙ ap (option_map (with_older o)) (sym here))
       ∙ (elim (cases_eq q k) [
         | inl eq ↦ ap (λ (x : ℕ). cond (q == k) (option_map (with_older o) (cells_of m x)) (cells_of m q)) (sym eq)
         | inr differs ↦ if_other q k (option_map (with_older o) (cells_of m k)) (cells_of m q) differs ∙ sym (if_other q k (option_map (with_older o) (cells_of m q)) (cells_of m q) differs)
@@ -155,10 +155,10 @@ no_pieces : (k v : ℕ) → k ≡ 0 → v ≡ 0 → 1 + (k + v + 47) / 48 ≡ 1
 no_pieces k v no_key none = omega arith
 
 -- what the record of a change costs
-entry_cost : (kind : Kind) (r : Record) → r.kind ≡ kind → IsPlain r → IsSome (entry_by kind r) → cost r ≡ cost_of (λ x. cost_of_change (change_of x)) (entry_by kind r)
-entry_cost Put r is plain some = both_pieces (length r.key) (length r.value)
-entry_cost Delete r is plain some = key_pieces (length r.key) (length r.value) (ap length (plain.delete is))
-entry_cost Lease r is plain some = absurd (cc)
+linked_cost : (kind : Kind) (r : Record) → r.kind ≡ kind → IsPlain r → IsSome (linked_by kind r) → cost r ≡ cost_of (λ x. cost_of_change (change_of x)) (linked_by kind r)
+linked_cost Put r is plain some = both_pieces (length r.key) (length r.value)
+linked_cost Delete r is plain some = key_pieces (length r.key) (length r.value) (ap length (plain.delete is))
+linked_cost Lease r is plain some = absurd (cc)
 
 -- a lease takes one cell
 lease_cost : (r : Record) → r.kind ≡ Lease → IsPlain r → cost r ≡ 1
@@ -166,7 +166,7 @@ lease_cost r is plain = no_pieces (length r.key) (length r.value) (ap length (pl
 
 module _ (m : FinMap nat_cmp Record) (k : ℕ) where
   pub cells_removed : cells_of (remove m k) ≡ without (cells_of m) k
-  cells_removed = fun_ext (λ q. seen_removed entry_of m k q)
+  cells_removed = fun_ext (λ q. seen_removed linked_of m k q)
 
   pub leases_removed : IsSome (cells_of m k) → leases_of (remove m k) ≡ leases_of m
   leases_removed some =
@@ -180,7 +180,7 @@ module _ (m : FinMap nat_cmp Record) (k : ℕ) where
   pub cells_left : IsSome (leases_of m k) → cells_of (remove m k) ≡ cells_of m
   cells_left some =
       let h = is_lease (get m k) some in
-      fun_ext (λ q. seen_removed entry_of m k q ∙ same_there (cells_of m) k q None (ap (option_and_then entry_of) h.1 ∙ ap (λ kind. entry_by kind h.0) h.2))
+      fun_ext (λ q. seen_removed linked_of m k q ∙ same_there (cells_of m) k q None (ap (option_and_then linked_of) h.1 ∙ ap (λ kind. linked_by kind h.0) h.2))
 
   pub plain_removed : ArePlain m → ArePlain (remove m k)
   plain_removed plain q x at = by_case (q == k) (sym (get_removed m k q) ∙ at)
@@ -195,9 +195,9 @@ module _ (m : FinMap nat_cmp Record) (k : ℕ) where
     change_freed some =
         let h = is_change (get m k) some in
         let r = h.0 in
-        let here : cells_of m k ≡ entry_of r = ap (option_and_then entry_of) h.1 in
+        let here : cells_of m k ≡ linked_of r = ap (option_and_then linked_of) h.1 in
         let back : free_new ≡ free_old + cost r = at_some (get m k) (λ (r : Record). free_new ≡ free_old + cost r) r h.1 free in
-        let same : cost r ≡ cost_of (λ x. cost_of_change (change_of x)) (entry_of r) = entry_cost r.kind r refl (plain k r h.1) (subst IsSome here some) in
+        let same : cost r ≡ cost_of (λ x. cost_of_change (change_of x)) (linked_of r) = linked_cost r.kind r refl (plain k r h.1) (subst IsSome here some) in
         back ∙ ap (λ (n : ℕ). free_old + n) (same ∙ ap (cost_of (λ x. cost_of_change (change_of x))) (sym here))
 
     pub freed_some : IsSome (cells_of m k) → free_old < free_new

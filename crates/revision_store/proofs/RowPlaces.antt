@@ -9,7 +9,7 @@ use Rattle.std.specs.declared.cmp.Ordering.TheVariants.{Less, Equal, Greater}
 use Rattle.etcd_types.specs.declared.key_value.KeyValue.{KeyValue}
 use Rattle.etcd_model.specs.Order.{beside, key_cmp, put_in}
 use Rattle.etcd_model.proofs.OrderLaws.{sorted-put_in, tied_keys}
-use Rattle.model_laws.specs.Recording.{by_key}
+use Rattle.etcd_model.specs.Order.{by_key}
 use Rattle.revision_store.proofs.SortingRows.{by_key_total}
 
 -- rows that ascend still do with one more in its place

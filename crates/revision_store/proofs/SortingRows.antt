@@ -14,7 +14,7 @@ use Rattle.etcd_types.specs.declared.kv.SortTarget.{SortTarget}
 use Rattle.etcd_types.specs.declared.kv.SortTarget.TheVariants.{Key, Version, Create, Mod, Value}
 use Rattle.etcd_model.specs.Order.{in_order}
 use Rattle.etcd_model.specs.Ranges.{row_cmp, target_cmp}
-use Rattle.model_laws.specs.Recording.{by_key}
+use Rattle.etcd_model.specs.Order.{by_key}
 use Rattle.model_laws.proofs.RecordedLaws.{all_weaker}
 use Rattle.revision_store.specs.Answering.{ascends_by_key}
 use Rattle.revision_store.proofs.SortingLaws.{sorted_is, length-in_order, already_in_order}

@@ -6,39 +6,39 @@ use Rattle.std.proofs.lemmas.Bool.Decides.{nat_tests}
 use Rattle.std.proofs.lemmas.List.{get_or_default}
 use Rattle.std.proofs.lemmas.List.Elements.{All-head, All-tail}
 use Rattle.etcd_model.specs.Changes.{Recorded, Rises, since}
-use Rattle.key_index.specs.Entries.{Cells, Entry, change_at}
+use Rattle.key_index.specs.Links.{Cells, Linked, change_at}
 use Rattle.key_index.specs.Order.{IsInOrder, changes_in}
-use Rattle.key_index.proofs.Links.{at_entry, one_entry}
+use Rattle.key_index.proofs.Links.{at_linked, one_linked}
 use Rattle.key_index.proofs.Order.{which}
 
-abbrev change_in : Option Entry → Option Recorded
-change_in o = option_map (λ (e : Entry). e.change) o
+abbrev change_in : Option Linked → Option Recorded
+change_in o = option_map (λ (e : Linked). e.change) o
 
 module _ (cells : Cells) where
   -- ---- along the order
 
-  later_all : (P : Recorded → Type 0) (o : Option Entry) (xs : List Recorded) → AllByRecursion P (cons_option (change_in o) xs) → AllByRecursion P xs
+  later_all : (P : Recorded → Type 0) (o : Option Linked) (xs : List Recorded) → AllByRecursion P (cons_option (change_in o) xs) → AllByRecursion P xs
   later_all P None xs all = all
   later_all P (Some e) xs all = all.1
 
-  later_rises : (o : Option Entry) (xs : List Recorded) → Rises (cons_option (change_in o) xs) → Rises xs
+  later_rises : (o : Option Linked) (xs : List Recorded) → Rises (cons_option (change_in o) xs) → Rises xs
   later_rises None xs rises = rises
   later_rises (Some e) xs rises = rises.1
 
-  at_all : (P : Recorded → Type 0) (order : List ℕ) (j : ℕ) (f : Entry) → AllByRecursion P (changes_in cells order) → j < length order → cells (get_or order j 0) ≡ Some f → P f.change
+  at_all : (P : Recorded → Type 0) (order : List ℕ) (j : ℕ) (f : Linked) → AllByRecursion P (changes_in cells order) → j < length order → cells (get_or order j 0) ≡ Some f → P f.change
   at_all P [] j f all lt at = absurd (omega (arith, lt))
   at_all P (c ∷ cs) zero f all lt at =
-      let here : AllByRecursion P (f.change ∷ changes_in cells cs) = subst (λ (o : Option Entry). AllByRecursion P (cons_option (change_in o) (changes_in cells cs))) at all in
+      let here : AllByRecursion P (f.change ∷ changes_in cells cs) = subst (λ (o : Option Linked). AllByRecursion P (cons_option (change_in o) (changes_in cells cs))) at all in
       here.0
   at_all P (c ∷ cs) (suc j) f all lt at = at_all P cs j f (later_all P (cells c) (changes_in cells cs) all) (omega (arith, lt)) at
 
-  rises_along : (order : List ℕ) (i j : ℕ) (e f : Entry) → IsInOrder cells order → i ≤ j → j < length order → cells (get_or order i 0) ≡ Some e → cells (get_or order j 0) ≡ Some f → e.change.revision ≤ f.change.revision
+  rises_along : (order : List ℕ) (i j : ℕ) (e f : Linked) → IsInOrder cells order → i ≤ j → j < length order → cells (get_or order i 0) ≡ Some e → cells (get_or order j 0) ≡ Some f → e.change.revision ≤ f.change.revision
   rises_along [] i j e f rises le lt here there = absurd (omega (arith, lt))
   rises_along (c ∷ cs) zero zero e f rises le lt here there =
-      let same = ap (λ (x : Entry). x.change.revision) (one_entry (cells c) e f here there) in
+      let same = ap (λ (x : Linked). x.change.revision) (one_linked (cells c) e f here there) in
       omega (arith, same)
   rises_along (c ∷ cs) zero (suc j) e f rises le lt here there =
-      let first : Rises (e.change ∷ changes_in cells cs) = subst (λ (o : Option Entry). Rises (cons_option (change_in o) (changes_in cells cs))) here rises in
+      let first : Rises (e.change ∷ changes_in cells cs) = subst (λ (o : Option Linked). Rises (cons_option (change_in o) (changes_in cells cs))) here rises in
       at_all (λ y. e.change.revision ≤ y.revision) cs j f first.0 (omega (arith, lt)) there
   rises_along (c ∷ cs) (suc i) zero e f rises le lt here there = absurd (omega (arith, le))
   rises_along (c ∷ cs) (suc i) (suc j) e f rises le lt here there =
@@ -48,18 +48,18 @@ module _ (cells : Cells) where
 
   -- all before a place are below the revision
   abbrev pub AreBelow : List ℕ → ℕ → ℕ → Type 0
-  AreBelow order r low = (j : ℕ) (e : Entry) → j < low → cells (get_or order j 0) ≡ Some e → e.change.revision < r
+  AreBelow order r low = (j : ℕ) (e : Linked) → j < low → cells (get_or order j 0) ≡ Some e → e.change.revision < r
 
   -- none from it on is
   abbrev pub AreFrom : List ℕ → ℕ → ℕ → Type 0
-  AreFrom order r high = (j : ℕ) (e : Entry) → high ≤ j → j < length order → cells (get_or order j 0) ≡ Some e → r ≤ e.change.revision
+  AreFrom order r high = (j : ℕ) (e : Linked) → high ≤ j → j < length order → cells (get_or order j 0) ≡ Some e → r ≤ e.change.revision
 
   module _ (order : List ℕ) (rises : IsInOrder cells order) (there : All (λ c. IsSome (cells c)) order) (r m b told : ℕ) (within : m < length order) (is : b ≡ get_or order m b) (says : IfSome (cells b) (λ e. told ≡ e.change.revision)) where
-    looked_at : (e : Entry) × (cells (get_or order m 0) ≡ Some e) × (told ≡ e.change.revision)
+    looked_at : (e : Linked) × (cells (get_or order m 0) ≡ Some e) × (told ≡ e.change.revision)
     looked_at =
         let same : get_or order m 0 ≡ b = get_or_default order m 0 b within ∙ sym is in
         let e = which (cells (get_or order m 0)) (there m 0 within) in
-        (e.0, e.1, at_entry (cells b) (λ x. told ≡ x.change.revision) e.0 (ap cells (sym same) ∙ e.1) says)
+        (e.0, e.1, at_linked (cells b) (λ x. told ≡ x.change.revision) e.0 (ap cells (sym same) ∙ e.1) says)
 
     pub below_up : told < r → AreBelow order r (m + 1)
     below_up less j e lt at =
@@ -73,11 +73,11 @@ module _ (cells : Cells) where
 
   -- ---- what is found
 
-  keeps : (r : ℕ) (o : Option Entry) (xs ys : List Recorded) → ((e : Entry) → o ≡ Some e → r ≤ e.change.revision) → since r xs ≡ ys → since r (cons_option (change_in o) xs) ≡ cons_option (change_in o) ys
+  keeps : (r : ℕ) (o : Option Linked) (xs ys : List Recorded) → ((e : Linked) → o ≡ Some e → r ≤ e.change.revision) → since r xs ≡ ys → since r (cons_option (change_in o) xs) ≡ cons_option (change_in o) ys
   keeps r None xs ys least same = same
   keeps r (Some e) xs ys least same = grind (arith, nat_tests, least e refl, same)
 
-  skips : (r : ℕ) (o : Option Entry) (xs ys : List Recorded) → ((e : Entry) → o ≡ Some e → e.change.revision < r) → since r xs ≡ ys → since r (cons_option (change_in o) xs) ≡ ys
+  skips : (r : ℕ) (o : Option Linked) (xs ys : List Recorded) → ((e : Linked) → o ≡ Some e → e.change.revision < r) → since r xs ≡ ys → since r (cons_option (change_in o) xs) ≡ ys
   skips r None xs ys less same = same
   skips r (Some e) xs ys less same = grind (arith, nat_tests, less e refl, same)
 
@@ -91,7 +91,7 @@ module _ (cells : Cells) where
       sym (skips r (cells c) (changes_in cells cs) (changes_in cells (drop n cs)) (λ e at. below 0 e (omega arith) at)
       (sym (since_found r cs n (λ j e lt at. below (suc j) e (omega (arith, lt)) at) (λ j e le lt at. least (suc j) e (omega (arith, le)) (omega (arith, lt)) at))))
 
-  shows : (o : Option Entry) (xs : List (Option Recorded)) (ys : List Recorded) → IsSome o → xs ≡ map Some ys → change_in o ∷ xs ≡ map Some (cons_option (change_in o) ys)
+  shows : (o : Option Linked) (xs : List (Option Recorded)) (ys : List Recorded) → IsSome o → xs ≡ map Some ys → change_in o ∷ xs ≡ map Some (cons_option (change_in o) ys)
   shows None xs ys some same = absurd (cc)
   shows (Some e) xs ys some same = ap (λ (zs : List (Option Recorded)). Some e.change ∷ zs) same
 

@@ -5,7 +5,7 @@ use Rattle.std.proofs.lemmas.List.Sums.{sum_by-cons}
 use Rattle.etcd_model.specs.Changes.{Recorded}
 use Rattle.etcd_model.specs.Kept.{cost_delete}
 use Rattle.model_laws.proofs.RecordedLaws.{all_push}
-use Rattle.key_index.specs.Entries.{Cells, Entry, change_at}
+use Rattle.key_index.specs.Links.{Cells, Linked, change_at}
 use Rattle.revision_store.specs.declared.plan.Write.{Write}
 use Rattle.revision_store.specs.declared.plan.Write.TheVariants.{Put, Delete}
 use Rattle.revision_store.specs.Recorded.{cells_of}
@@ -16,7 +16,7 @@ use Rattle.revision_store.specs.Appending.{CanAppend, Appends, IsAppending}
 change_there : (cells : Cells) (c : ℕ) → IsSome (cells c) → (x : Recorded) × (change_at cells c ≡ Some x)
 change_there cells c some = by_case (cells c) some
   where
-    by_case : (o : Option Entry) → IsSome o → (x : Recorded) × (option_map (λ e. e.change) o ≡ Some x)
+    by_case : (o : Option Linked) → IsSome o → (x : Recorded) × (option_map (λ e. e.change) o ≡ Some x)
     by_case None some = absurd (cc)
     by_case (Some e) some = (e.change, refl)
 
@@ -70,7 +70,7 @@ of_stays old new revision (Delete c) stay of =
     let there = change_there old c of in
     some_entry (new c) there.0 (stay c there.0 there.1)
   where
-    some_entry : (o : Option Entry) (x : Recorded) → option_map (λ e. e.change) o ≡ Some x → IsSome o
+    some_entry : (o : Option Linked) (x : Recorded) → option_map (λ e. e.change) o ≡ Some x → IsSome o
     some_entry None x is = absurd (cc)
     some_entry (Some e) x is = refl
 

@@ -10,7 +10,7 @@ use Rattle.etcd_types.specs.declared.kv.SortTarget.{SortTarget}
 use Rattle.etcd_types.specs.declared.kv.SortTarget.TheVariants.{Key}
 use Rattle.etcd_model.specs.Order.{in_order}
 use Rattle.etcd_model.specs.Ranges.{is_wanted, row_cmp, limited, without_value, found}
-use Rattle.model_laws.specs.Recording.{by_key}
+use Rattle.etcd_model.specs.Order.{by_key}
 
 -- b says whether a row of these revisions passes the filters
 abbrev pub SaysWanted : RangeReq → ℕ → ℕ → Bool → Type 0

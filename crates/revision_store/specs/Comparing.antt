@@ -4,7 +4,7 @@ use Rattle.etcd_types.specs.declared.key_value.KeyValue.{KeyValue}
 use Rattle.etcd_types.specs.declared.txn.Compare.{Compare}
 use Rattle.etcd_model.specs.Changes.{Recorded, live}
 use Rattle.etcd_model.specs.Compares.{operand_cmp, is_met}
-use Rattle.key_index.specs.Entries.{Cells}
+use Rattle.key_index.specs.Links.{Cells}
 use Rattle.revision_store.specs.Plans.{key_at}
 
 -- a row meets the compare

@@ -9,7 +9,7 @@ use Rattle.cell_arena.specs.Held.{Held, no_records, record_code}
 use Rattle.cell_arena.specs.Loan.{Share, share_code}
 use Rattle.etcd_model.specs.Changes.{Recorded, Rises}
 use Rattle.etcd_model.specs.Store.{record_cells}
-use Rattle.key_index.specs.Entries.{Cells, IsChained, change_at}
+use Rattle.key_index.specs.Links.{Cells, IsChained, change_at}
 use Rattle.key_index.specs.Index.{Heads, IsIndexOf}
 use Rattle.key_index.specs.Order.{AreAll, changes_in}
 use Rattle.revision_store.specs.Codes.{changes_code}
@@ -46,7 +46,7 @@ log_of region order lease_cells = record {
 abbrev pub empty_log : ℕ → LogState
 empty_log cells = log_of (no_records cells) [] 0
 
--- index, links, order and rooms agree with the records, and each cell in use is of a change or a lease
+-- index, links, order and capacities agree with the records, and each cell in use is of a change or a lease
 pub record IsLog (region : Held) (heads : Heads) (order : List ℕ) (places lease_cells : ℕ) : Type 0 where
   pub index : IsIndexOf (cells_of region.records) heads.cells
   pub chained : IsChained (cells_of region.records)
@@ -56,8 +56,8 @@ pub record IsLog (region : Held) (heads : Heads) (order : List ℕ) (places leas
   pub leases : AreCounted (leases_of region.records) lease_cells
   pub space : region.free + record_cells (changes_in (cells_of region.records) order) + lease_cells ≡ 64 * region.share.reserved
   pub most : 64 * region.share.reserved ≤ 2 ^ 20
-  pub index_room : 64 * region.share.reserved ≤ heads.room
-  pub order_room : 64 * region.share.reserved ≤ places
+  pub index_capacity : 64 * region.share.reserved ≤ heads.capacity
+  pub order_capacity : 64 * region.share.reserved ≤ places
 
 -- how many cells are in use
 abbrev pub used_in : LogState → ℕ

@@ -24,7 +24,7 @@ use Rattle.model_laws.specs.Numbers.{HasNumbers}
 use Rattle.revision_store.specs.Codes.{bytes_code}
 use Rattle.revision_store.specs.Stored.{StoreState, store_code, IsPlanFor, changes_of, look, reads, row_at}
 use Rattle.revision_store.specs.Plans.{key_at}
-use Rattle.key_index.specs.Entries.{Cells}
+use Rattle.key_index.specs.Links.{Cells}
 use Rattle.revision_store.specs.declared.plan.Write.{Write}
 use Rattle.revision_store.specs.declared.plan.Write.TheVariants.{Put, Delete}
 

@@ -5,7 +5,7 @@ use Rattle.etcd_model.specs.declared.state.Change.{Change}
 use Rattle.etcd_model.specs.declared.state.Change.TheVariants.{Put as Set, Delete as Del}
 use Rattle.etcd_model.specs.Changes.{Recorded}
 use Rattle.etcd_model.specs.Kept.{cost, cost_put, cost_delete}
-use Rattle.key_index.specs.Entries.{Cells, change_at}
+use Rattle.key_index.specs.Links.{Cells, change_at}
 use Rattle.revision_store.specs.declared.plan.Write.{Write}
 use Rattle.revision_store.specs.declared.plan.Write.TheVariants.{Put, Delete}
 

@@ -7,7 +7,7 @@ use Rattle.etcd_types.specs.declared.kv.SortTarget.TheVariants.{Value}
 use Rattle.etcd_types.specs.declared.reply.OpReply.{OpReply}
 use Rattle.etcd_types.specs.declared.reply.OpReply.TheVariants.{Range}
 use Rattle.etcd_model.specs.Ranges.{is_wanted, without_value, found}
-use Rattle.key_index.specs.Entries.{Cells}
+use Rattle.key_index.specs.Links.{Cells}
 use Rattle.revision_store.specs.Stored.{row_at}
 
 -- the rows under some cells

@@ -6,7 +6,7 @@ use Rattle.etcd_types.specs.declared.key_value.KeyValue.{KeyValue}
 use Rattle.cell_arena.specs.declared.cell.Kind.{Kind}
 use Rattle.cell_arena.specs.declared.cell.Kind.TheVariants.{Put, Delete, Lease}
 use Rattle.cell_arena.specs.Chain.{Record}
-use Rattle.key_index.specs.Entries.{Cells, Entry}
+use Rattle.key_index.specs.Links.{Cells, Linked}
 use Rattle.key_index.specs.Compaction.{times}
 
 abbrev pub row_of : Record → KeyValue
@@ -20,17 +20,17 @@ row_of r = record {
 }
 
 -- a change of a key with its link, by the kind of the record
-abbrev pub entry_by : Kind → Record → Option Entry
-entry_by Put r = Some (record { change = record { key = r.key; revision = r.fields.revision; row = Some (row_of r) }; older = r.older })
-entry_by Delete r = Some (record { change = record { key = r.key; revision = r.fields.revision; row = None }; older = r.older })
-entry_by Lease r = None
+abbrev pub linked_by : Kind → Record → Option Linked
+linked_by Put r = Some (record { change = record { key = r.key; revision = r.fields.revision; row = Some (row_of r) }; older = r.older })
+linked_by Delete r = Some (record { change = record { key = r.key; revision = r.fields.revision; row = None }; older = r.older })
+linked_by Lease r = None
 
-abbrev pub entry_of : Record → Option Entry
-entry_of r = entry_by r.kind r
+abbrev pub linked_of : Record → Option Linked
+linked_of r = linked_by r.kind r
 
 -- the changes under their cells
 abbrev pub cells_of : FinMap nat_cmp Record → Cells
-cells_of records c = option_and_then entry_of (get records c)
+cells_of records c = option_and_then linked_of (get records c)
 
 -- a lease: its ID and its granted time to live, in seconds
 pub record LeaseRecord : Type 0 where

@@ -15,7 +15,7 @@ use Rattle.etcd_model.specs.Changes.{live, next_row}
 use Rattle.etcd_model.specs.Store.{Store, after, kept_store, reads_of}
 use Rattle.model_laws.specs.Once.{IsOnce}
 use Rattle.model_laws.specs.Numbers.{HasNumbers}
-use Rattle.key_index.specs.Entries.{Cells, change_at}
+use Rattle.key_index.specs.Links.{Cells, change_at}
 use Rattle.revision_store.specs.Codes.{kept_code}
 use Rattle.revision_store.specs.Recorded.{cells_of, leases_of}
 use Rattle.revision_store.specs.Logged.{LogState, empty_log}

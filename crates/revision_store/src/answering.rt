@@ -2,7 +2,7 @@
 ghost use Rattle.std.specs.Prelude.{◌≡◌, ◌≤◌, false, map, pos};
 ghost use Rattle.std.specs.List.Sorted.{IsStrictlySortedBy};
 ghost use Rattle.etcd_model.specs.Ranges.{is_within, without_value};
-ghost use Rattle.model_laws.specs.Recording.{by_key};
+ghost use Rattle.etcd_model.specs.Order.{by_key};
 ghost use Rattle.revision_store.specs.Answering.{given, is_by_key, IsLimit, SaysMore, SaysWanted, wants_all};
 
 use crate::sorting::sort_rows;

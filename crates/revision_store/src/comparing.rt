@@ -5,7 +5,7 @@ ghost use Rattle.std.specs.Ordering.{int_cmp};
 ghost use Rattle.etcd_model.specs.Changes.{rows};
 ghost use Rattle.etcd_model.specs.Compares.{holds, holds_of, is_met, is_met_by_none, operand_cmp};
 ghost use Rattle.etcd_model.specs.Interval.{is_in};
-ghost use Rattle.key_index.specs.Entries.{IsNewest};
+ghost use Rattle.key_index.specs.Links.{IsNewest};
 ghost use Rattle.revision_store.specs.Comparing.{meets, rows_shown};
 ghost use Rattle.revision_store.specs.Recorded.{cells_of};
 ghost use Rattle.revision_store.specs.Stored.{reads, row_at};

@@ -3,7 +3,7 @@ ghost use Rattle.std.specs.Prelude.{◌≡◌, ◌≤◌, length};
 ghost use Rattle.etcd_model.specs.Changes.{change_of};
 ghost use Rattle.etcd_model.specs.Kept.{cost};
 ghost use Rattle.key_index.specs.Compaction.{GivesBack, IsCompacted};
-ghost use Rattle.key_index.specs.Entries.{IsChained};
+ghost use Rattle.key_index.specs.Links.{IsChained};
 ghost use Rattle.key_index.specs.Index.{IsIndexOf};
 ghost use Rattle.revision_store.specs.Loans.{KeepsRest};
 ghost use Rattle.cell_arena.specs.Loan.{IsLent};
@@ -28,7 +28,7 @@ pub(crate) fn cut<S: Segments>(
     ensures index { IsIndexOf (cells_of region.new.records) index.new.cells }
     ensures chained { IsChained (cells_of region.new.records) }
     ensures compacted { IsCompacted (cells_of region.old.records) (cells_of region.new.records) revision }
-    ensures index_room { index.new.room ≡ index.old.room }
+    ensures capacity { index.new.capacity ≡ index.old.capacity }
     ensures free { GivesBack (λ x. cost (change_of x)) (cells_of region.old.records) (cells_of region.new.records) region.old.free region.new.free }
     ensures rest { KeepsRest region.old (S.loan segments.old) region.new (S.loan segments.new) }
     ensures plain { ArePlain region.new.records }

@@ -5,7 +5,7 @@ ghost use Rattle.std.specs.List.Sorted.{IsStrictlySortedBy};
 ghost use Rattle.std.specs.Option.{option_copied};
 ghost use Rattle.etcd_model.specs.Interval.{is_in};
 ghost use Rattle.etcd_model.specs.Order.{put_in};
-ghost use Rattle.model_laws.specs.Recording.{by_key};
+ghost use Rattle.etcd_model.specs.Order.{by_key};
 ghost use Rattle.revision_store.specs.Pending.{is_row_in, put_at, rows_at};
 
 use crate::plan::Write;

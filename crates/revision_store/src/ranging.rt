@@ -6,7 +6,7 @@ ghost use Rattle.etcd_types.specs.declared.txn.Op.TheVariants.{Range as RangeOp}
 ghost use Rattle.etcd_model.specs.Operations.{op_reply};
 ghost use Rattle.etcd_model.specs.Ranges.{is_wanted};
 ghost use Rattle.etcd_model.specs.Reads.{revision_read, unreadable};
-ghost use Rattle.model_laws.specs.Recording.{by_key};
+ghost use Rattle.etcd_model.specs.Order.{by_key};
 ghost use Rattle.revision_store.specs.Answering.{given};
 ghost use Rattle.revision_store.specs.Pending.{AreRows};
 ghost use Rattle.revision_store.specs.Ranging.{needs_values, passes, range_answer, read, rows_of, wanted_cells};

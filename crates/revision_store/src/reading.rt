@@ -3,7 +3,7 @@ ghost use Rattle.std.specs.Prelude.{◌≡◌, map, Some, IsSome, IfSome, IfOk, 
 ghost use Rattle.etcd_model.specs.Changes.{Recorded, last, live, rows};
 ghost use Rattle.etcd_model.specs.Interval.{is_in};
 ghost use Rattle.etcd_model.specs.Ranges.{without_value};
-ghost use Rattle.key_index.specs.Entries.{IsNewest, change_at};
+ghost use Rattle.key_index.specs.Links.{IsNewest, change_at};
 ghost use Rattle.revision_store.specs.Recorded.{cells_of};
 ghost use Rattle.revision_store.specs.Plans.{key_at};
 ghost use Rattle.revision_store.specs.Stored.{row_at};

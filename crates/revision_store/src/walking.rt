@@ -2,7 +2,7 @@
 ghost use Rattle.std.specs.Prelude.{◌≡◌, ◌≤◌, length, map, drop, Some, IsSome};
 ghost use Rattle.std.specs.List.{All};
 ghost use Rattle.etcd_model.specs.Changes.{since};
-ghost use Rattle.key_index.specs.Entries.{change_at};
+ghost use Rattle.key_index.specs.Links.{change_at};
 ghost use Rattle.key_index.specs.Order.{IsInOrder, changes_in};
 ghost use Rattle.revision_store.specs.Recorded.{cells_of};
 ghost use Rattle.revision_store.specs.Stored.{cells};

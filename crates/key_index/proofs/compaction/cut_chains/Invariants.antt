@@ -1,4 +1,4 @@
-use Rattle.key_index.specs.Entries.{IsChained}
+use Rattle.key_index.specs.Links.{IsChained}
 use Rattle.key_index.specs.Compaction.{GivesBack}
 use Rattle.key_index.proofs.Whole.{IsGoing}
 use Rattle.key_index.proofs.compaction.cut_chains.Given as goal

@@ -1,4 +1,4 @@
-use Rattle.key_index.specs.Entries.{IsNewest}
+use Rattle.key_index.specs.Links.{IsNewest}
 use Rattle.key_index.proofs.Cut.{IsWalking}
 use Rattle.key_index.proofs.Dropped.{left}
 use Rattle.key_index.proofs.compaction.cut_place.Given as goal

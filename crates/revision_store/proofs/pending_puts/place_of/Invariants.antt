@@ -1,6 +1,6 @@
 use Rattle.std.proofs.Common.{◌≡◌, ◌≤◌, ◌-◌, ◌∷◌, ◌++◌, drop, take, length}
 use Rattle.etcd_model.specs.Order.{put_in}
-use Rattle.model_laws.specs.Recording.{by_key}
+use Rattle.etcd_model.specs.Order.{by_key}
 use Rattle.revision_store.proofs.pending_puts.place_of.Given as goal
 
 abbrev pub invariant-loop-low : goal.invariant-loop-low

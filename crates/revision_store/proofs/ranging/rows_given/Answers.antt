@@ -1,6 +1,6 @@
 use Rattle.std.proofs.Common.{◌≡◌, ◌∙◌, length, map, sym, ap, subst, arith, true}
 use Rattle.std.specs.List.Sorted.{IsStrictlySortedBy}
-use Rattle.model_laws.specs.Recording.{by_key}
+use Rattle.etcd_model.specs.Order.{by_key}
 use Rattle.revision_store.specs.Recorded.{cells_of}
 use Rattle.revision_store.specs.Stored.{row_at}
 use Rattle.revision_store.specs.Answering.{IsLimit, given, is_by_key}

@@ -1,6 +1,6 @@
 use Rattle.std.proofs.Common.{◌∙◌, ℕ, sym, ap, subst, List}
 use Rattle.std.proofs.lemmas.List.{get_or_default}
-use Rattle.key_index.specs.Entries.{without}
+use Rattle.key_index.specs.Links.{without}
 use Rattle.key_index.specs.Index.{Heads, IsIndexOf, IsAt, IsGapFor}
 use Rattle.key_index.specs.Sought.{key_of}
 use Rattle.key_index.proofs.Links.{spread_with}

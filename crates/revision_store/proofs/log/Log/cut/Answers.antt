@@ -42,6 +42,6 @@ invariant_of-self g c =
       leases = counted_alike _ _ _ c.cut.ensures.rest.leases c.self.invariant.leases;
       space = omega (arith, free, c.self.invariant.space, c.cut.ensures.rest.settles.reserved);
       most = omega (arith, c.self.invariant.most, c.cut.ensures.rest.settles.reserved);
-      index_room = omega (arith, c.self.invariant.index_room, c.cut.ensures.rest.settles.reserved, c.cut.ensures.index_room);
-      order_room = omega (arith, c.self.invariant.order_room, c.cut.ensures.rest.settles.reserved, c.retain.ensures.capacity);
+      index_capacity = omega (arith, c.self.invariant.index_capacity, c.cut.ensures.rest.settles.reserved, c.cut.ensures.capacity);
+      order_capacity = omega (arith, c.self.invariant.order_capacity, c.cut.ensures.rest.settles.reserved, c.retain.ensures.capacity);
     })

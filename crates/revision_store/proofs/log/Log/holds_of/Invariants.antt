@@ -1,7 +1,7 @@
 use Rattle.std.proofs.Common.{◌≡◌, drop}
 use Rattle.std.specs.List.{AllByRecursion}
 use Rattle.etcd_model.specs.Compares.{holds_of}
-use Rattle.key_index.specs.Entries.{IsNewest}
+use Rattle.key_index.specs.Links.{IsNewest}
 use Rattle.revision_store.specs.Comparing.{rows_shown}
 use Rattle.revision_store.specs.Recorded.{cells_of}
 use Rattle.revision_store.proofs.ComparingReads.{holds_from}

@@ -1,7 +1,7 @@
 use Rattle.std.proofs.Common.{ap, ◌∙◌, subst}
 use Rattle.std.specs.Prelude.{MatchOption}
 use Rattle.cell_arena.specs.Held.{Held}
-use Rattle.key_index.specs.Entries.{IsLast, NoneUpTo}
+use Rattle.key_index.specs.Links.{IsLast, NoneUpTo}
 use Rattle.revision_store.specs.Recorded.{cells_of}
 use Rattle.revision_store.specs.Logged.{LogState}
 use Rattle.revision_store.proofs.ReadingCells.{log_last}

@@ -2,7 +2,7 @@ use Rattle.std.proofs.Common.{ℕ, List, ap, ◌∙◌, subst}
 use Rattle.std.specs.Prelude.{MatchOption, option_and_then}
 use Rattle.cell_arena.specs.Held.{Held}
 use Rattle.etcd_model.specs.Changes.{Recorded}
-use Rattle.key_index.specs.Entries.{IsLast, IsOf, NoneUpTo}
+use Rattle.key_index.specs.Links.{IsLast, IsOf, NoneUpTo}
 use Rattle.revision_store.specs.Recorded.{cells_of}
 use Rattle.revision_store.specs.Plans.{key_at}
 use Rattle.revision_store.specs.Logged.{LogState}

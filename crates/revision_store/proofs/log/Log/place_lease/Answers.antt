@@ -1,6 +1,6 @@
 use Rattle.std.proofs.Common.{◌+◌, refl, ap, ◌∙◌, arith, w64, to_z, of_z}
 use Rattle.std.proofs.lemmas.Int.{to_z-of_z}
-use Rattle.key_index.specs.Entries.{Cells}
+use Rattle.key_index.specs.Links.{Cells}
 use Rattle.key_index.specs.Order.{changes_in}
 use Rattle.revision_store.specs.Recorded.{cells_of, leases_of, with_lease}
 use Rattle.revision_store.specs.Logged.{LogState}

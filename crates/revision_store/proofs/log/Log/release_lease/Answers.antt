@@ -1,5 +1,5 @@
 use Rattle.std.proofs.Common.{◌+◌, ◌-◌, IsSome, sym, ap, subst, ◌∙◌, arith}
-use Rattle.key_index.specs.Entries.{Cells}
+use Rattle.key_index.specs.Links.{Cells}
 use Rattle.key_index.specs.Order.{changes_in}
 use Rattle.revision_store.specs.Recorded.{ArePlain, cells_of, leases_of, without_lease}
 use Rattle.revision_store.specs.Logged.{LogState}

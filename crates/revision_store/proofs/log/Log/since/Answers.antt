@@ -2,7 +2,7 @@ use Rattle.std.proofs.Common.{◌≡◌, ap, ◌∙◌, subst, drop, List, ℕ, 
 use Rattle.std.proofs.lemmas.List.{take_rest}
 use Rattle.cell_arena.specs.Held.{Held}
 use Rattle.etcd_model.specs.Changes.{since}
-use Rattle.key_index.specs.Entries.{change_at}
+use Rattle.key_index.specs.Links.{change_at}
 use Rattle.key_index.specs.Order.{changes_in}
 use Rattle.revision_store.specs.Recorded.{cells_of}
 use Rattle.revision_store.specs.Logged.{LogState}

@@ -10,7 +10,7 @@ use Rattle.etcd_types.specs.declared.txn.Op.TheVariants.{Range as RangeOp}
 use Rattle.etcd_model.specs.Operations.{op_reply}
 use Rattle.etcd_model.specs.Reads.{Reads, rows_read}
 use Rattle.etcd_model.specs.Store.{IsStore}
-use Rattle.model_laws.specs.Recording.{by_key}
+use Rattle.etcd_model.specs.Order.{by_key}
 use Rattle.revision_store.specs.Stored.{StoreState, cells, changes_of, look, reads, row_at}
 use Rattle.revision_store.specs.Pending.{PendingState, is_row_in, pending_reads}
 use Rattle.revision_store.specs.Ranging.{range_answer, rows_of}

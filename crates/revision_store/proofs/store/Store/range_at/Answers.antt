@@ -6,7 +6,7 @@ use Rattle.etcd_model.specs.Changes.{rows}
 use Rattle.etcd_model.specs.Interval.{is_in}
 use Rattle.etcd_model.specs.Operations.{op_reply}
 use Rattle.etcd_model.specs.Reads.{revision_read, rows_read}
-use Rattle.model_laws.specs.Recording.{by_key}
+use Rattle.etcd_model.specs.Order.{by_key}
 use Rattle.model_laws.proofs.RowLaws.{rows_rise}
 use Rattle.revision_store.specs.Recorded.{cells_of}
 use Rattle.revision_store.specs.Stored.{StoreState, reads, row_at}

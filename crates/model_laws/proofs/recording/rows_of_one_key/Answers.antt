@@ -1,5 +1,0 @@
-use Rattle.model_laws.proofs.RecordedLaws.{rows_of_one_key}
-use Rattle.model_laws.proofs.recording.rows_of_one_key.Goals as goal
-
-pub returns : goal.returns
-returns c = rows_of_one_key

@@ -1,5 +1,0 @@
-use Rattle.model_laws.proofs.RunLaws.{step_has_slots}
-use Rattle.model_laws.proofs.runs.step_has_slots.Goals as goal
-
-pub returns : goal.returns
-returns c = step_has_slots
