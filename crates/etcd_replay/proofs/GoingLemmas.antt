@@ -4,19 +4,22 @@ use Rattle.std.proofs.ByRecursion.{All-push}
 use Rattle.std.proofs.lemmas.Bool.{true≢false}
 use Rattle.std.proofs.lemmas.List.{map-append}
 use Rattle.std.proofs.lemmas.Grind.{flat_map-append}
-use Rattle.std.proofs.KnownBytes.{Appends-nil, Appends-trans}
-use Rattle.std.specs.Io.KnownBytes.{Appends}
+use Rattle.std.proofs.KnownBytes.{Appends-kept, Appends-nil, Appends-trans}
+use Rattle.std.specs.Io.KnownBytes.{Appends, Keeps}
 use Rattle.std.specs.Io.BufRead.{take_through, drop_through, strip_last, DropsThrough}
 use Rattle.etcd_types.specs.Limits.{max_script_line}
 use Rattle.etcd_replay.specs.declared.answer.LineAnswer.{LineAnswer}
-use Rattle.std.specs.Prelude.{Result, Ok, Err, IfErr, ◌==◌}
+use Rattle.std.specs.Prelude.{Result, Ok, Err, IsErr, IsErrAnd, ◌==◌}
 use borrow.Author.Tests.{eqb-true}
+use Rattle.etcd_replay.specs.declared.fault.ReplayFault.{ReplayFault}
+use Rattle.etcd_replay.specs.declared.fault.ReplayFault.TheVariants as fault
 use Rattle.etcd_replay.specs.declared.lines.Taken.{Taken}
 use Rattle.etcd_replay.specs.declared.lines.Taken.TheVariants.{Line, TooLong}
 use Rattle.etcd_replay.specs.Script.{Asked, lines_of, read_line}
 use Rattle.etcd_replay.specs.Answers.{line_of}
 use Rattle.etcd_replay.specs.Replaying.{TenantState, LineTurn, Tells}
-use Rattle.etcd_replay.specs.Written.{Wrote, StopsAt, StopsAmong}
+use Rattle.etcd_replay.specs.Lines.{BeginsTooLong, BeginsWithLine}
+use Rattle.etcd_replay.specs.Written.{EndsAtLine, EndsEarly, Replays, Wrote}
 use Rattle.etcd_replay.specs.Going.{Going}
 use Rattle.etcd_replay.proofs.FirstLine.{first_line, at_end}
 use Rattle.etcd_replay.proofs.Replayed.{replayed_push, spoken_by}
@@ -31,12 +34,31 @@ pub going_first : (o old : Option (List ℕ)) → IfSome o (λ script. Going scr
 going_first None old = tt
 going_first (Some script) old = record { done = []; rest = script; remains = refl; lines = refl; number = refl; turns = []; read = refl; replayed = tt; spoken = tt; text = Appends-nil old }
 
+-- what was written is flushed
+pub going_kept : (o now old mid new : Option (List ℕ)) (tenant : Option TenantState) (n : ℕ)
+    → IfSome o (λ script. Going script now old mid tenant n) → Keeps mid new → IfSome o (λ script. Going script now old new tenant n)
+going_kept None now old mid new tenant n going kept = tt
+going_kept (Some script) now old mid new tenant n going kept =
+    let g : Going script now old mid tenant n = going in
+    record {
+      done = g.done;
+      rest = g.rest;
+      remains = g.remains;
+      lines = g.lines;
+      number = g.number;
+      turns = g.turns;
+      read = g.read;
+      replayed = g.replayed;
+      spoken = g.spoken;
+      text = Appends-kept old mid new _ g.text kept;
+    }
+
 -- what is taken is the first line of what is left
 module _ (script : List ℕ) (now old new : Option (List ℕ)) (tenant : Option TenantState) (n : ℕ) (going : Going script now old new tenant n) where
-  taken_is : (line : List ℕ) → IfSome now (λ xs. line ≡ take_through 10 xs) → line ≡ take_through 10 going.rest
-  taken_is line taken = subst (λ o. IfSome o (λ xs. line ≡ take_through 10 xs)) going.remains taken
+  taken_is : (line : List ℕ) → BeginsWithLine now line → line ≡ take_through 10 going.rest
+  taken_is line taken = subst (λ o. BeginsWithLine o line) going.remains taken
 
-  first_is : (line : List ℕ) → IfSome now (λ xs. line ≡ take_through 10 xs) → line ≢ [] → lines_of going.rest ≡ strip_last 10 line ∷ lines_of (drop_through 10 going.rest)
+  first_is : (line : List ℕ) → BeginsWithLine now line → line ≢ [] → lines_of going.rest ≡ strip_last 10 line ∷ lines_of (drop_through 10 going.rest)
   first_is line taken some =
       let is = taken_is line taken in
       subst (λ l. lines_of going.rest ≡ strip_last 10 l ∷ lines_of (drop_through 10 going.rest)) (sym is) (first_line going.rest (λ e. some (is ∙ e)))
@@ -45,7 +67,7 @@ module _ (script : List ℕ) (now old new : Option (List ℕ)) (tenant : Option 
   so_far = record { turns = going.turns; last = tenant; read = going.read; replayed = going.replayed; spoken = going.spoken; text = going.text }
 
 pub going_more : (o now next old mid new : Option (List ℕ)) (before after : Option TenantState) (n : ℕ) (line : List ℕ) (q : Asked) (a : LineAnswer)
-    → IfSome o (λ script. Going script now old mid before n) → IfSome now (λ xs. line ≡ take_through 10 xs) → DropsThrough now next 10 → line ≢ []
+    → IfSome o (λ script. Going script now old mid before n) → BeginsWithLine now line → DropsThrough now next 10 → line ≢ []
     → read_line (strip_last 10 line) ≡ Some q → Tells before q a after → Appends mid new (line_of a)
     → IfSome o (λ script. Going script next old new after (n + 1))
 going_more None now next old mid new before after n line q a going taken drops some is tells wrote = tt
@@ -68,7 +90,7 @@ going_more (Some script) now next old mid new before after n line q a going take
     }
 
 pub going_ends : (o now old new : Option (List ℕ)) (tenant : Option TenantState) (n : ℕ) (line : List ℕ) → IfSome o (λ script. Going script now old new tenant n)
-    → IfSome now (λ xs. line ≡ take_through 10 xs) → line ≡ [] → IfSome o (λ script. Wrote old new (lines_of script))
+    → BeginsWithLine now line → line ≡ [] → IfSome o (λ script. Wrote old new (lines_of script))
 going_ends None now old new tenant n line going taken none = tt
 going_ends (Some script) now old new tenant n line going taken none =
     let g : Going script now old new tenant n = going in
@@ -77,7 +99,7 @@ going_ends (Some script) now old new tenant n line going taken none =
     subst (Wrote old new) (sym all) (so_far script now old new tenant n g)
 
 pub going_stops : (o now old new : Option (List ℕ)) (tenant : Option TenantState) (n m : ℕ) (line : List ℕ) → IfSome o (λ script. Going script now old new tenant n)
-    → IfSome now (λ xs. line ≡ take_through 10 xs) → line ≢ [] → read_line (strip_last 10 line) ≡ None → n + 1 ≡ m → IfSome o (λ script. StopsAt m script old new)
+    → BeginsWithLine now line → line ≢ [] → read_line (strip_last 10 line) ≡ None → n + 1 ≡ m → IfSome o (λ script. EndsAtLine m script old new)
 going_stops None now old new tenant n m line going taken some unread number = tt
 going_stops (Some script) now old new tenant n m line going taken some unread number =
     let g : Going script now old new tenant n = going in
@@ -91,11 +113,20 @@ going_stops (Some script) now old new tenant n m line going taken some unread nu
       wrote = so_far script now old new tenant n g;
     }
 
-pub going_among : (o now old new : Option (List ℕ)) (tenant : Option TenantState) (n : ℕ) → IfSome o (λ script. Going script now old new tenant n) → IfSome o (λ script. StopsAmong script old new)
+pub going_among : (o now old new : Option (List ℕ)) (tenant : Option TenantState) (n : ℕ) → IfSome o (λ script. Going script now old new tenant n) → IfSome o (λ script. EndsEarly script old new)
 going_among None now old new tenant n going = tt
 going_among (Some script) now old new tenant n going =
     let g : Going script now old new tenant n = going in
     record { before = g.done; rest = lines_of g.rest; lines = g.lines; wrote = so_far script now old new tenant n g }
+
+-- a fault that is not that of a line
+pub going_fault : {T : Type 0} (r : Result T ReplayFault) (f : ReplayFault) (o now old new : Option (List ℕ))
+    (tenant : Option TenantState) (n : ℕ) → IsErr r × IsErrAnd r (λ e. e ≡ f) → ((m : ℕ) → f ≢ fault.Line m)
+    → IfSome o (λ script. Going script now old new tenant n) → Replays o old new r
+going_fault (Ok end) f o now old new tenant n is named going = absurd (true≢false (sym is.0))
+going_fault (Err (fault.Line m)) f o now old new tenant n is named going = absurd (named m (sym is.1))
+going_fault (Err fault.Io) f o now old new tenant n is named going = tt
+going_fault (Err fault.Memory) f o now old new tenant n is named going = going_among o now old new tenant n going
 
 -- ---- a line that is too long
 
@@ -104,13 +135,13 @@ unfolding read_line
 too_long_unread text long = rw (lt-ltb max_script_line (length text) long) refl
 
 pub going_long : (o now old new : Option (List ℕ)) (tenant : Option TenantState) (n m : ℕ) → IfSome o (λ script. Going script now old new tenant n)
-    → IfSome now (λ xs. max_script_line < length (strip_last 10 (take_through 10 xs))) → n + 1 ≡ m → IfSome o (λ script. StopsAt m script old new)
+    → BeginsTooLong now → n + 1 ≡ m → IfSome o (λ script. EndsAtLine m script old new)
 going_long None now old new tenant n m going long number = tt
 going_long (Some script) now old new tenant n m going long number =
     let g : Going script now old new tenant n = going in
     let line = take_through 10 g.rest in
-    let long_line : max_script_line < length (strip_last 10 line) = subst (λ o. IfSome o (λ xs. max_script_line < length (strip_last 10 (take_through 10 xs)))) g.remains long in
-    let taken : IfSome now (λ xs. line ≡ take_through 10 xs) = subst (λ o. IfSome o (λ xs. line ≡ take_through 10 xs)) (sym g.remains) refl in
+    let long_line : max_script_line < length (strip_last 10 line) = subst BeginsTooLong g.remains long in
+    let taken : BeginsWithLine now line = subst (λ o. BeginsWithLine o line) (sym g.remains) refl in
     let some : line ≢ [] = λ e. not_short (ap (λ l. length (strip_last 10 l)) e) long_line in
     going_stops (Some script) now old new tenant n m line g taken some (too_long_unread (strip_last 10 line) long_line) number
   where
@@ -118,10 +149,6 @@ going_long (Some script) now old new tenant n m going long number =
     not_short e h = omega (arith, e, h)
 
 -- ---- facts of values
-
-pub if_err : {T E : Type 0} (r : Result T E) (P : E → Type 0) → ((e : E) → P e) → IfErr r P
-if_err (Ok x) P all = tt
-if_err (Err e) P all = all e
 
 pub line_taken : (t : Taken) → (t ≡ TooLong → ⊥) → t ≡ Line
 line_taken Line short = refl

@@ -15,7 +15,8 @@ word_of Memory = codes "memory"
 abbrev pub ended : List ℕ → List ℕ
 ended text = if ends_with_byte 10 text then text else text ++ 10 ∷ []
 
--- the rest of the line after a status: a space and the body, where there is one, and a newline unless the body ends with one
+-- the rest of the line after a status: a space and the body, where there is one, and a newline unless the
+-- body ends with one
 abbrev pub body_line : List ℕ → List ℕ
 body_line [] = 10 ∷ []
 body_line (b ∷ bs) = 32 ∷ ended (b ∷ bs)

@@ -7,7 +7,8 @@ use Rattle.etcd_replay.specs.Answers.{line_of}
 use Rattle.etcd_replay.specs.Replaying.{TenantState, LineTurn, IsReplayed, IsSpoken}
 
 -- n lines of the script are done, and the bytes after them are left
-pub record Going (script : List ℕ) (left old new : Option (List ℕ)) (tenant : Option TenantState) (n : ℕ) : Type 0 where
+pub record Going (script : List ℕ) (left old new : Option (List ℕ)) (tenant : Option TenantState) (n : ℕ)
+    : Type 0 where
   pub done : List (List ℕ)
   pub rest : List ℕ
   pub remains : left ≡ Some rest

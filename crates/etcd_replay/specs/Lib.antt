@@ -1,4 +1,5 @@
 pub mod Script
+pub mod Lines
 pub mod Parted
 pub mod Answers
 pub mod Bodies

@@ -1,5 +1,6 @@
 -- What a script says: its lines, and what each line asks for.
-use Rattle.std.specs.Prelude.{ℕ, ◌+◌, ◌==◌, ◌^◌, ◌&&◌, Bool, List, [], ◌∷◌, length, take, drop, nat_lt, position, Option, None, Some, option_map, option_and_then, if◌then◌else◌, codes}
+use Rattle.std.specs.Prelude.{ℕ, ◌+◌, ◌==◌, ◌^◌, ◌&&◌, Bool, List, [], ◌∷◌, length, take, drop, nat_lt}
+use Rattle.std.specs.Prelude.{position, Option, None, Some, option_map, option_and_then, if◌then◌else◌, codes}
 use Rattle.std.specs.Char.{is_ascii_digit}
 use Rattle.std.specs.List.{list_all}
 use Rattle.std.specs.Str.{bytes_eq}
@@ -22,7 +23,8 @@ lines_of (x ∷ xs) = if x == 10 then [] ∷ lines_of xs else onto x (lines_of x
 
 -- ---- what a line asks for
 
--- a new tenant: its name, cluster ID, quota in cells and first revision; or a call: its method, target and body
+-- a new tenant: its name, cluster ID, quota in cells and first revision; or a call: its method, target and
+-- body
 pub data Asked : Type 0 where
   Add : List ℕ → ℕ → ℕ → ℕ → Asked
   Call : List ℕ → List ℕ → List ℕ → Asked
@@ -33,7 +35,8 @@ pub record Parts : Type 0 where
   pub rest : List ℕ
 
 abbrev pub parts_of : List ℕ → Option Parts
-parts_of text = option_map (λ i. record { field = take i text; rest = drop (i + 1) text }) (position (λ c. c == 32) text)
+parts_of text =
+    option_map (λ i. record { field = take i text; rest = drop (i + 1) text }) (position (λ c. c == 32) text)
 
 -- one or more decimal digits
 abbrev pub is_number : List ℕ → Bool
@@ -41,7 +44,8 @@ is_number text = nat_lt 0 (length text) && list_all is_ascii_digit text
 
 -- the number that they spell, within 64 bits
 abbrev pub number_of : List ℕ → Option ℕ
-number_of text = if is_number text && nat_lt (digits_value 10 text) (2 ^ 64) then Some (digits_value 10 text) else None
+number_of text =
+    if is_number text && nat_lt (digits_value 10 text) (2 ^ 64) then Some (digits_value 10 text) else None
 
 -- `<name> <cluster> <quota> <first>`
 abbrev pub read_add : List ℕ → Option Asked
@@ -66,7 +70,8 @@ call_of method text None = Call method text []
 call_of method text (Some target) = Call method target.field target.rest
 
 abbrev pub read_call : List ℕ → Option Asked
-read_call text = option_map (λ method. call_of method.field method.rest (parts_of method.rest)) (parts_of text)
+read_call text =
+    option_map (λ method. call_of method.field method.rest (parts_of method.rest)) (parts_of text)
 
 abbrev pub read_word : List ℕ → List ℕ → Option Asked
 read_word word rest =
@@ -76,7 +81,9 @@ read_word word rest =
 
 -- a line that is too long, or says anything else, can't be read
 unfoldable pub read_line : List ℕ → Option Asked
-read_line text = if nat_lt max_script_line (length text) then None else option_and_then (λ word. read_word word.field word.rest) (parts_of text)
+read_line text =
+    if nat_lt max_script_line (length text) then None
+    else option_and_then (λ word. read_word word.field word.rest) (parts_of text)
 
 -- what a line asks for, by what was read of it
 abbrev pub asked_by : Line → Asked

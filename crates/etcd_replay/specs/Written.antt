@@ -1,7 +1,10 @@
 -- What a replay writes: one answer line for each line of its script, and nothing else.
-use Rattle.std.specs.Prelude.{◌≡◌, ℕ, ◌+◌, List, ◌∷◌, ◌++◌, length, map, flat_map, Option, None, Some}
+use Rattle.std.specs.Prelude.{◌≡◌, ℕ, ◌+◌, List, ◌∷◌, ◌++◌, length, map, flat_map, Option, None, Some, IfSome}
+use Rattle.std.specs.Prelude.{Result, Ok, Err, ⊤}
 use Rattle.std.specs.List.{AllByRecursion}
 use Rattle.std.specs.Io.KnownBytes.{Appends}
+use Rattle.etcd_replay.specs.declared.fault.ReplayFault.{ReplayFault}
+use Rattle.etcd_replay.specs.declared.fault.ReplayFault.TheVariants.{Line, Io, Memory}
 use Rattle.etcd_replay.specs.Script.{lines_of, read_line}
 use Rattle.etcd_replay.specs.Answers.{line_of}
 use Rattle.etcd_replay.specs.Replaying.{TenantState, LineTurn, IsReplayed, IsSpoken}
@@ -16,7 +19,7 @@ pub record Wrote (old new : Option (List ℕ)) (lines : List (List ℕ)) : Type 
   pub text : Appends old new (flat_map (λ x. line_of x.answer) turns)
 
 -- the n-th line is the first that can't be read, and the lines before it are answered
-pub record StopsAt (n : ℕ) (script : List ℕ) (old new : Option (List ℕ)) : Type 0 where
+pub record EndsAtLine (n : ℕ) (script : List ℕ) (old new : Option (List ℕ)) : Type 0 where
   pub before : List (List ℕ)
   pub line : List ℕ
   pub rest : List (List ℕ)
@@ -26,8 +29,18 @@ pub record StopsAt (n : ℕ) (script : List ℕ) (old new : Option (List ℕ)) :
   pub wrote : Wrote old new before
 
 -- some lines are answered, and the others are not
-pub record StopsAmong (script : List ℕ) (old new : Option (List ℕ)) : Type 0 where
+pub record EndsEarly (script : List ℕ) (old new : Option (List ℕ)) : Type 0 where
   pub before : List (List ℕ)
   pub rest : List (List ℕ)
   pub lines : lines_of script ≡ before ++ rest
   pub wrote : Wrote old new before
+
+-- What a replay has written when it ends, if its script's bytes are known: at the script's end the answers of
+-- all lines; at a line that can't be read those of the lines before it; if a line can't be held, those of
+-- some first lines. After a fault of input or output nothing is said.
+abbrev pub Replays : {T : Type 0}
+    → Option (List ℕ) → Option (List ℕ) → Option (List ℕ) → Result T ReplayFault → Type 0
+Replays script old new (Ok end) = IfSome script (λ bytes. Wrote old new (lines_of bytes))
+Replays script old new (Err (Line n)) = IfSome script (λ bytes. EndsAtLine n bytes old new)
+Replays script old new (Err Memory) = IfSome script (λ bytes. EndsEarly bytes old new)
+Replays script old new (Err Io) = ⊤

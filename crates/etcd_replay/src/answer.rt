@@ -41,6 +41,16 @@ impl Model for Answer {
 }
 
 impl Answer {
+    pub(crate) fn made(status: u16, body: Vec<u8>) -> Answer
+        ensures status { result.status ≡ status }
+        ensures body { result.body ≡ body.items }
+    {
+        Answer {
+            status,
+            body: Body::Made(body),
+        }
+    }
+
     fn status(&self) -> u16
         ensures { result ≡ self.now.status }
     {

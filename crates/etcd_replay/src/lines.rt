@@ -1,13 +1,15 @@
 //! A script's lines, one at a time.
-ghost use Rattle.std.specs.Prelude.{◌≡◌, ◌≢◌, ◌+◌, ◌<◌, ◌≤◌, ◌-◌, ℕ, All, length, take, true, false, IfOk, IfErr, IfSome, OnErr, OnOk, OnSome, Ok};
+ghost use Rattle.std.specs.Prelude.{◌≡◌, ◌≢◌, ◌+◌, ◌<◌, ◌≤◌, ◌-◌, All, length, take, true, false};
+ghost use Rattle.std.specs.Prelude.{IfOk, IfErr, OnErr, OnOk, OnSome, Ok};
 ghost use Rattle.std.specs.Io.{StartsWith, StopsAt, IsEmptyOrEndsWith, appended_bytes};
-ghost use Rattle.std.specs.Io.KnownBytes.{Consumes, IsAtEnd};
+ghost use Rattle.std.specs.Io.KnownBytes.{Consumes, IsAtEnd, Keeps};
 ghost use Rattle.std.specs.IoError.{error_kind};
-ghost use Rattle.std.specs.Io.BufRead.{take_through, strip_last, DropsThrough};
+ghost use Rattle.std.specs.Io.BufRead.{strip_last, DropsThrough};
+ghost use Rattle.etcd_replay.specs.Lines.{BeginsTooLong, BeginsWithLine, NamesNoLine};
 
 use crate::fault::ReplayFault;
 use etcd_types::limits::MAX_SCRIPT_LINE;
-use std::io::{BufRead, Error, ErrorKind};
+use std::io::{BufRead, Error, ErrorKind, Write};
 
 /// What was taken of a script.
 #[derive(Clone, Copy, PartialEq, Eq)]
@@ -18,57 +20,89 @@ pub(crate) enum Taken {
     TooLong,
 }
 
-/// Takes the next line. No more is held than the longest line has.
-pub(crate) fn take_line<R: BufRead>(
-    reader: &mut R,
-    line: &mut Vec<u8>,
-) -> Result<Taken, ReplayFault>
-    ensures line { result ≡ Ok Taken.Line → IfSome (R.remaining reader.old) (λ xs. line.new.items ≡ take_through 10 xs) }
-    ensures rest { result ≡ Ok Taken.Line → DropsThrough (R.remaining reader.old) (R.remaining reader.new) 10 }
-    ensures long { result ≡ Ok Taken.TooLong → IfSome (R.remaining reader.old) (λ xs. MAX_SCRIPT_LINE < length (strip_last 10 (take_through 10 xs))) }
-    ensures fault { IfErr result (λ f. (n : ℕ) → f ≢ ReplayFault.Line n) }
-{
-    line.clear();
-    for _ in 0..u64::MAX {
-        if line.len() > MAX_SCRIPT_LINE {
-            return Ok(Taken::TooLong);
-        }
-        let room = MAX_SCRIPT_LINE + 1 - line.len();
-        if take_some(reader, room, line)? {
-            return Ok(Taken::Line);
-        }
-    }
-    Err(ReplayFault::Io)
+/// A script that is taken line by line.
+#[derive(Drop)]
+pub(crate) struct Lines<R> {
+    pub(crate) reader: R,
+    /// All that the reader had at hand is taken: it may wait for more.
+    is_drained: bool,
 }
 
-/// Moves what the reader has at hand to the line, up to a newline and into the room. Says whether
-/// the line is whole.
-fn take_some<R: BufRead>(
-    reader: &mut R,
-    room: usize,
-    line: &mut Vec<u8>,
-) -> Result<bool, ReplayFault>
-    requires { 0 < room }
-    ensures appends { StartsWith line.new.items line.old.items }
-    ensures room { length line.new.items ≤ length line.old.items + room }
-    ensures bytes { OnOk result (Consumes (R.remaining reader.old) (R.remaining reader.new) (appended_bytes line.old.items line.new.items)) }
-    ensures stops { StopsAt (appended_bytes line.old.items line.new.items) 10 }
-    ensures plain { result ≡ Ok false → All (λ x. x ≢ 10) (appended_bytes line.old.items line.new.items) }
-    ensures whole { result ≡ Ok true → IsEmptyOrEndsWith (appended_bytes line.old.items line.new.items) 10 }
-    ensures end { result ≡ Ok true → length (appended_bytes line.old.items line.new.items) ≡ 0 → OnSome (R.remaining reader.old) (IsAtEnd (R.remaining reader.new)) }
-    ensures fault { IfErr result (λ f. (n : ℕ) → f ≢ ReplayFault.Line n) }
-{
-    let available = match reader.fill_buf() {
-        Ok(available) => available,
-        Err(error) => return unless_interrupted(&error),
-    };
-    let end = len_through(&available[..room.min(available.len())]);
-    if line.extend_from_slice(&available[..end]).is_err() {
-        return Err(ReplayFault::Memory);
+impl<R: BufRead> Lines<R> {
+    pub(crate) fn new(reader: R) -> Lines<R>
+        ensures { result.reader ≡ reader }
+    {
+        Lines {
+            reader,
+            is_drained: true,
+        }
     }
-    let is_whole = end == 0 || available[end - 1] == b'\n';
-    reader.consume(end);
-    Ok(is_whole)
+
+    /// Takes the next line. No more is held than the longest line has. The writer is flushed before the
+    /// reader may wait, so that nobody waits for an answer that is written.
+    pub(crate) fn take_line<W: Write>(
+        &mut self,
+        writer: &mut W,
+        line: &mut Vec<u8>,
+    ) -> Result<Taken, ReplayFault>
+        ensures line { result ≡ Ok Taken.Line → BeginsWithLine (R.remaining self.old.reader) line.new.items }
+        ensures rest { result ≡ Ok Taken.Line
+            → DropsThrough (R.remaining self.old.reader) (R.remaining self.new.reader) 10 }
+        ensures long { result ≡ Ok Taken.TooLong → BeginsTooLong (R.remaining self.old.reader) }
+        ensures written { Keeps (W.contents writer.old) (W.contents writer.new) }
+        ensures fault { NamesNoLine result }
+    {
+        line.clear();
+        for _ in 0..u64::MAX {
+            if line.len() > MAX_SCRIPT_LINE {
+                return Ok(Taken::TooLong);
+            }
+            let most = MAX_SCRIPT_LINE + 1 - line.len();
+            if self.take_some(writer, most, line)? {
+                return Ok(Taken::Line);
+            }
+        }
+        Err(ReplayFault::Io)
+    }
+
+    /// Moves what the reader has at hand to the line, up to a newline and at most so many bytes. Says
+    /// whether the line is whole.
+    fn take_some<W: Write>(
+        &mut self,
+        writer: &mut W,
+        most: usize,
+        line: &mut Vec<u8>,
+    ) -> Result<bool, ReplayFault>
+        requires { 0 < most }
+        ensures appends { StartsWith line.new.items line.old.items }
+        ensures most { length line.new.items ≤ length line.old.items + most }
+        ensures bytes { OnOk result (Consumes (R.remaining self.old.reader) (R.remaining self.new.reader)
+            (appended_bytes line.old.items line.new.items)) }
+        ensures stops { StopsAt (appended_bytes line.old.items line.new.items) 10 }
+        ensures plain { result ≡ Ok false → All (λ x. x ≢ 10) (appended_bytes line.old.items line.new.items) }
+        ensures whole { result ≡ Ok true
+            → IsEmptyOrEndsWith (appended_bytes line.old.items line.new.items) 10 }
+        ensures end { result ≡ Ok true → length (appended_bytes line.old.items line.new.items) ≡ 0
+            → OnSome (R.remaining self.old.reader) (IsAtEnd (R.remaining self.new.reader)) }
+        ensures written { Keeps (W.contents writer.old) (W.contents writer.new) }
+        ensures fault { NamesNoLine result }
+    {
+        if self.is_drained && writer.flush().is_err() {
+            return Err(ReplayFault::Io);
+        }
+        let available = match self.reader.fill_buf() {
+            Ok(available) => available,
+            Err(error) => return unless_interrupted(&error),
+        };
+        let end = len_through(&available[..most.min(available.len())]);
+        if line.extend_from_slice(&available[..end]).is_err() {
+            return Err(ReplayFault::Memory);
+        }
+        let is_whole = end == 0 || available[end - 1] == b'\n';
+        self.is_drained = end == available.len();
+        self.reader.consume(end);
+        Ok(is_whole)
+    }
 }
 
 /// A read that was interrupted is tried again.
@@ -76,9 +110,10 @@ fn unless_interrupted(error: &Error) -> Result<bool, ReplayFault>
     ensures again { IfOk result (λ whole. whole ≡ false) }
     ensures interrupted { OnOk result (error_kind error.now ≡ ErrorKind.Interrupted) }
     ensures other { OnErr result (error_kind error.now ≢ ErrorKind.Interrupted) }
-    ensures memory { IfErr result (λ f. f ≡ ReplayFault.Memory → error_kind error.now ≡ ErrorKind.OutOfMemory) }
+    ensures memory { IfErr result (λ f. f ≡ ReplayFault.Memory
+        → error_kind error.now ≡ ErrorKind.OutOfMemory) }
     ensures io { IfErr result (λ f. f ≡ ReplayFault.Io → error_kind error.now ≢ ErrorKind.OutOfMemory) }
-    ensures fault { IfErr result (λ f. (n : ℕ) → f ≢ ReplayFault.Line n) }
+    ensures fault { NamesNoLine result }
 {
     match error.kind() {
         ErrorKind::Interrupted => Ok(false),

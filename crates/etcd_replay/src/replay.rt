@@ -1,12 +1,14 @@
 //! The tenant of a script, and what it answers.
-ghost use Rattle.std.specs.Prelude.{◌≡◌, ◌≢◌, ◌↔◌, ◌≤◌, ◌+◌, ℕ, IsTrue, IfErr, IfOk, OnOk, OnErr, Some, None, Ok, true, false, is_some, length};
+ghost use Rattle.std.specs.Prelude.{◌≡◌, ◌≢◌, ◌↔◌, ◌≤◌, ◌+◌, ℕ, IsTrue, IfErr, IfOk, OnOk, OnErr};
+ghost use Rattle.std.specs.Prelude.{Some, None, Ok, true, false, is_some, length};
 ghost use Rattle.std.specs.List.{list_all};
 ghost use Rattle.etcd_model.specs.Alone.{Called, is_of, is_unanswered};
 ghost use Rattle.etcd_model.specs.Calls.{call_of, read_posted, target_of};
 ghost use Rattle.etcd_model.specs.ReplyText.{memory_answer, text};
 ghost use Rattle.cell_arena.specs.Loan.{IsLent};
 ghost use Rattle.etcd_replay.specs.Script.{asked_by};
-ghost use Rattle.etcd_replay.specs.Replaying.{add_fault, is_name, is_name_byte, within_limits, refused_call, nobody, IsAdded, IsCalled, IsServed, Opens, Serves, Tells};
+ghost use Rattle.etcd_replay.specs.Replaying.{add_fault, is_name, is_name_byte, within_limits, refused_call};
+ghost use Rattle.etcd_replay.specs.Replaying.{nobody, IsAdded, IsCalled, IsServed, Opens, Serves, Tells};
 
 use crate::answer::{AddFault, Answer, Body, LineAnswer};
 use crate::reserve::Reserve;
@@ -86,7 +88,8 @@ impl<S: Reserve> Replay<S> {
     ) -> Result<(), AddFault>
         ensures free { OnOk result (add_fault (is_some self.old.tenant) name.now cluster quota first ≡ None) }
         ensures opens { OnOk result (Opens name.now cluster quota first self.new.tenant) }
-        ensures fault { IfErr result (λ f. f ≢ AddFault.Memory → add_fault (is_some self.old.tenant) name.now cluster quota first ≡ Some f) }
+        ensures fault { IfErr result (λ f. f ≢ AddFault.Memory
+            → add_fault (is_some self.old.tenant) name.now cluster quota first ≡ Some f) }
         ensures err { OnErr result (self.new ≡ self.old) }
     {
         if !is_name(name) {
@@ -131,7 +134,8 @@ impl<S: Reserve> Replay<S> {
 
 impl<S: Reserve> Tenant<S> {
     fn call(&mut self, alloc: Global, method: &[u8], path: &[u8], body: &[u8]) -> Answer
-        ensures serves { Serves self.old.machine (read_posted method.now path.now body.now) result self.new.machine }
+        ensures serves { Serves self.old.machine (read_posted method.now path.now body.now) result
+            self.new.machine }
         ensures named { self.new.name ≡ self.old.name }
     {
         match read_posted(alloc, method, path, body) {
@@ -152,10 +156,7 @@ impl<S: Reserve> Tenant<S> {
             return no_memory();
         };
         let _ = self.machine.commit(&mut self.segments, planned);
-        Answer {
-            status,
-            body: Body::Made(body),
-        }
+        Answer::made(status, body)
     }
 }
 
@@ -175,10 +176,7 @@ fn refuse(alloc: Global, refusal: Refusal) -> Answer
     ensures memory { is_unanswered result ≡ true → result ≡ memory_answer }
 {
     match write_reply(alloc, &Reply::Refused(refusal)) {
-        Ok((status, body)) => Answer {
-            status,
-            body: Body::Made(body),
-        },
+        Ok((status, body)) => Answer::made(status, body),
         Err(_) => no_memory(),
     }
 }

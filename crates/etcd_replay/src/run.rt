@@ -1,11 +1,10 @@
 //! Answers a script's lines in turn.
-ghost use Rattle.std.specs.Prelude.{◌≡◌, ℕ, None, IfErr, IfSome, OnOk};
-ghost use Rattle.etcd_replay.specs.Script.{lines_of};
-ghost use Rattle.etcd_replay.specs.Written.{Wrote, StopsAt, StopsAmong};
+ghost use Rattle.std.specs.Prelude.{◌≡◌, None};
+ghost use Rattle.etcd_replay.specs.Written.{Replays};
 
 use crate::answer::write_answer;
 use crate::fault::ReplayFault;
-use crate::lines::{Taken, take_line, without_newline};
+use crate::lines::{Lines, Taken, without_newline};
 use crate::replay::Replay;
 use crate::reserve::Reserve;
 use crate::script::read_line;
@@ -16,6 +15,8 @@ use std::io::{BufRead, Write};
 /// Answers the lines of a script in turn, and writes one answer line for each. One line is held at a
 /// time.
 ///
+/// Before the reader may wait for more, the writer is flushed; at the end it is not.
+///
 /// It ends early at the first line that can't be read, at a fault of the reader or the writer, after
 /// 4,294,967,295 lines, and where a line can't be held.
 pub fn run<R: BufRead, W: Write>(
@@ -23,9 +24,7 @@ pub fn run<R: BufRead, W: Write>(
     reader: &mut R,
     writer: &mut W,
 ) -> Result<(), ReplayFault>
-    ensures ok { OnOk result (IfSome (R.remaining reader.old) (λ script. Wrote (W.contents writer.old) (W.contents writer.new) (lines_of script))) }
-    ensures line { IfErr result (λ f. (n : ℕ) → f ≡ ReplayFault.Line n → IfSome (R.remaining reader.old) (λ script. StopsAt n script (W.contents writer.old) (W.contents writer.new))) }
-    ensures memory { IfErr result (λ f. f ≡ ReplayFault.Memory → IfSome (R.remaining reader.old) (λ script. StopsAmong script (W.contents writer.old) (W.contents writer.new))) }
+    ensures { Replays (R.remaining reader.old) (W.contents writer.old) (W.contents writer.new) result }
 {
     run_over::<Stock, R, W>(alloc, reader, writer)
 }
@@ -36,30 +35,27 @@ pub(crate) fn run_over<S: Reserve, R: BufRead, W: Write>(
     reader: &mut R,
     writer: &mut W,
 ) -> Result<(), ReplayFault>
-    ensures ok { OnOk result (IfSome (R.remaining reader.old) (λ script. Wrote (W.contents writer.old) (W.contents writer.new) (lines_of script))) }
-    ensures line { IfErr result (λ f. (n : ℕ) → f ≡ ReplayFault.Line n → IfSome (R.remaining reader.old) (λ script. StopsAt n script (W.contents writer.old) (W.contents writer.new))) }
-    ensures memory { IfErr result (λ f. f ≡ ReplayFault.Memory → IfSome (R.remaining reader.old) (λ script. StopsAmong script (W.contents writer.old) (W.contents writer.new))) }
+    ensures { Replays (R.remaining reader.old) (W.contents writer.old) (W.contents writer.new) result }
 {
     let mut replay = Replay::<S>::new();
+    let mut lines = Lines::new(reader);
     let mut text = Vec::new(alloc);
-    run_lines(alloc, reader, writer, &mut replay, &mut text)
+    run_lines(alloc, &mut lines, writer, &mut replay, &mut text)
 }
 
 /// The same with a replay that has no tenant yet, and with the memory for a line.
 fn run_lines<S: Reserve, R: BufRead, W: Write>(
     alloc: Global,
-    reader: &mut R,
+    lines: &mut Lines<R>,
     writer: &mut W,
     replay: &mut Replay<S>,
     text: &mut Vec<u8>,
 ) -> Result<(), ReplayFault>
     requires { replay.old.tenant ≡ None }
-    ensures ok { OnOk result (IfSome (R.remaining reader.old) (λ script. Wrote (W.contents writer.old) (W.contents writer.new) (lines_of script))) }
-    ensures line { IfErr result (λ f. (n : ℕ) → f ≡ ReplayFault.Line n → IfSome (R.remaining reader.old) (λ script. StopsAt n script (W.contents writer.old) (W.contents writer.new))) }
-    ensures memory { IfErr result (λ f. f ≡ ReplayFault.Memory → IfSome (R.remaining reader.old) (λ script. StopsAmong script (W.contents writer.old) (W.contents writer.new))) }
+    ensures { Replays (R.remaining lines.old.reader) (W.contents writer.old) (W.contents writer.new) result }
 {
     for n in 0..u32::MAX {
-        if let Taken::TooLong = take_line(reader, text)? {
+        if let Taken::TooLong = lines.take_line(writer, text)? {
             return Err(ReplayFault::Line(n + 1));
         }
         if text.is_empty() {

@@ -3,7 +3,8 @@ ghost use Rattle.std.specs.Prelude.{◌≡◌, ◌==◌, ◌<◌, ◌≤◌, len
 ghost use Rattle.std.specs.Char.{is_ascii_digit};
 ghost use Rattle.std.specs.List.{list_all};
 ghost use Rattle.etcd_types.specs.Limits.{max_script_line};
-ghost use Rattle.etcd_replay.specs.Script.{asked_by, is_number, number_of, parts_of, read_add, read_call, read_line};
+ghost use Rattle.etcd_replay.specs.Script.{asked_by, is_number, number_of, parts_of};
+ghost use Rattle.etcd_replay.specs.Script.{read_add, read_call, read_line};
 ghost use Rattle.etcd_replay.specs.Parted.{parts_by};
 
 use etcd_types::limits::MAX_SCRIPT_LINE;

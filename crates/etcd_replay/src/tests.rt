@@ -1,7 +1,7 @@
 //! Scripts are answered alike whichever segments a tenant draws.
 //!
-//! Scripts are text in tables or made by chance, and are run by one small function: a test that holds many values
-//! itself is long to prove.
+//! Scripts are text in tables or made by chance, and are run by one small function: a test that holds many
+//! values itself is long to prove.
 mod random;
 mod rows;
 
