@@ -8,8 +8,8 @@ use std::marker::Model;
 /// How many items a chunk has at most.
 pub(crate) const MOST: usize = 512;
 
-/// How many each chunk of a list but the last has at least. It is less than half of `MOST`, so that a chunk which was
-/// cut in two or joined has to lose or gain some items before it is joined or cut again.
+/// How many each chunk of a list but the last has at least. It is less than half of `MOST`, so that a chunk that was
+/// cut in two has to lose some items before it is joined again.
 pub(crate) const LEAST: usize = 240;
 
 /// Some items, at most `MOST`, in memory that is taken once.
