@@ -7,7 +7,7 @@ use Rattle.std.proofs.lemmas.List.Concat.{flat_map-append, get_or-flat_map, leng
 use Rattle.std.proofs.lemmas.List.Sums.{sum-map}
 use Rattle.std.specs.Prelude.{sum}
 use Rattle.chunk_list.specs.Chunked.{start_of, position_of, IsPlace, HasItem}
-use Rattle.chunk_list.specs.Chunks.{items_of, chunk_at, replaced, IsDense, LacksOne, IsOpened, IsSound}
+use Rattle.chunk_list.specs.Chunks.{items_of, chunk_at, replaced, IsDense, LacksOne, IsOpenedAt, IsSound}
 use Rattle.chunk_list.specs.declared.chunk.TheConstants.{LEAST, MOST}
 use Rattle.chunk_list.specs.declared.place.Place.{Place}
 
@@ -103,10 +103,10 @@ module _ {T : Type 0} where
 
   -- ---- an opened place
 
-  pub opened_same : (chunks : List (List T)) (chunk offset : ℕ) → chunk < length chunks → offset ≤ length (chunk_at chunks chunk) → length (chunk_at chunks chunk) < MOST → IsDense chunks → IsOpened chunks chunks chunk offset chunk offset
+  pub opened_same : (chunks : List (List T)) (chunk offset : ℕ) → chunk < length chunks → offset ≤ length (chunk_at chunks chunk) → length (chunk_at chunks chunk) < MOST → IsDense chunks → IsOpenedAt chunks chunks chunk offset chunk offset
   opened_same chunks chunk offset lt le short dense = record { chunk_in = lt; offset_in = le; short = short; items = refl; position = refl; dense = dense }
 
-  pub left_two : (before after : List (List T)) (p a b : List T) (chunk offset : ℕ) → length before ≡ chunk → a ++ b ≡ p → offset ≤ length a → length a < MOST → AllLeast before → IsDense (a ∷ b ∷ after) → IsOpened (before ++ p ∷ after) (before ++ a ∷ b ∷ after) chunk offset chunk offset
+  pub left_two : (before after : List (List T)) (p a b : List T) (chunk offset : ℕ) → length before ≡ chunk → a ++ b ≡ p → offset ≤ length a → length a < MOST → AllLeast before → IsDense (a ∷ b ∷ after) → IsOpenedAt (before ++ p ∷ after) (before ++ a ∷ b ∷ after) chunk offset chunk offset
   left_two before after p a b chunk offset len is off short full dense =
       let here : chunk_at (before ++ a ∷ b ∷ after) chunk ≡ a = get_or_at before a (b ∷ after) [] chunk len in
       let n = ap length here in
@@ -119,7 +119,7 @@ module _ {T : Type 0} where
         dense = dense_join before a (b ∷ after) full dense;
       }
 
-  pub right_two : (before after : List (List T)) (p a b : List T) (chunk offset : ℕ) → length before ≡ chunk → a ++ b ≡ p → length a ≤ offset → offset ≤ length p → length b < MOST → AllLeast before → IsDense (a ∷ b ∷ after) → IsOpened (before ++ p ∷ after) (before ++ a ∷ b ∷ after) chunk offset (chunk + 1) (offset - length a)
+  pub right_two : (before after : List (List T)) (p a b : List T) (chunk offset : ℕ) → length before ≡ chunk → a ++ b ≡ p → length a ≤ offset → offset ≤ length p → length b < MOST → AllLeast before → IsDense (a ∷ b ∷ after) → IsOpenedAt (before ++ p ∷ after) (before ++ a ∷ b ∷ after) chunk offset (chunk + 1) (offset - length a)
   right_two before after p a b chunk offset len is off within short full dense =
       let here : chunk_at (before ++ a ∷ b ∷ after) (chunk + 1) ≡ b = ap (λ n. chunk_at (before ++ a ∷ b ∷ after) (n + 1)) (sym len) ∙ get_or-append-add before (a ∷ b ∷ after) 1 [] in
       let n = ap length here in
@@ -146,26 +146,26 @@ module _ {T : Type 0} where
     ),
   )
 
-  pub opened_left : (chunks : List (List T)) (chunk offset keep : ℕ) → chunk < length chunks → keep ≤ length (chunk_at chunks chunk) → offset ≤ keep → keep < MOST → LEAST ≤ keep → (chunk + 1 < length chunks → LEAST + keep ≤ length (chunk_at chunks chunk)) → IsDense chunks → IsOpened chunks (replaced chunks chunk 1 (take keep (chunk_at chunks chunk) ∷ drop keep (chunk_at chunks chunk) ∷ [])) chunk offset chunk offset
+  pub opened_left : (chunks : List (List T)) (chunk offset keep : ℕ) → chunk < length chunks → keep ≤ length (chunk_at chunks chunk) → offset ≤ keep → keep < MOST → LEAST ≤ keep → (chunk + 1 < length chunks → LEAST + keep ≤ length (chunk_at chunks chunk)) → IsDense chunks → IsOpenedAt chunks (replaced chunks chunk 1 (take keep (chunk_at chunks chunk) ∷ drop keep (chunk_at chunks chunk) ∷ [])) chunk offset chunk offset
   opened_left chunks chunk offset keep lt le off short least rest dense =
       let p : List T = chunk_at chunks chunk in
       let n = length-take-le keep p le in
-      subst (λ xs. IsOpened xs (replaced chunks chunk 1 (take keep p ∷ drop keep p ∷ [])) chunk offset chunk offset) (sym (chunks_split chunks chunk lt))
+      subst (λ xs. IsOpenedAt xs (replaced chunks chunk 1 (take keep p ∷ drop keep p ∷ [])) chunk offset chunk offset) (sym (chunks_split chunks chunk lt))
       (left_two (take chunk chunks) (drop (chunk + 1) chunks) p (take keep p) (drop keep p) chunk offset (length-take-le chunk chunks (omega arith)) (take-append-drop keep p) (omega (arith, n)) (omega (arith, n)) (dense_front chunks chunk lt dense) (two_dense chunks chunk keep lt le least rest dense))
 
-  pub opened_right : (chunks : List (List T)) (chunk offset keep : ℕ) → chunk < length chunks → keep ≤ length (chunk_at chunks chunk) → keep ≤ offset → offset ≤ length (chunk_at chunks chunk) → length (chunk_at chunks chunk) < MOST + keep → LEAST ≤ keep → (chunk + 1 < length chunks → LEAST + keep ≤ length (chunk_at chunks chunk)) → IsDense chunks → IsOpened chunks (replaced chunks chunk 1 (take keep (chunk_at chunks chunk) ∷ drop keep (chunk_at chunks chunk) ∷ [])) chunk offset (chunk + 1) (offset - keep)
+  pub opened_right : (chunks : List (List T)) (chunk offset keep : ℕ) → chunk < length chunks → keep ≤ length (chunk_at chunks chunk) → keep ≤ offset → offset ≤ length (chunk_at chunks chunk) → length (chunk_at chunks chunk) < MOST + keep → LEAST ≤ keep → (chunk + 1 < length chunks → LEAST + keep ≤ length (chunk_at chunks chunk)) → IsDense chunks → IsOpenedAt chunks (replaced chunks chunk 1 (take keep (chunk_at chunks chunk) ∷ drop keep (chunk_at chunks chunk) ∷ [])) chunk offset (chunk + 1) (offset - keep)
   opened_right chunks chunk offset keep lt le off within short least rest dense =
       let p : List T = chunk_at chunks chunk in
       let n = length-take-le keep p le in
       let opened = right_two (take chunk chunks) (drop (chunk + 1) chunks) p (take keep p) (drop keep p) chunk offset (length-take-le chunk chunks (omega arith)) (take-append-drop keep p) (omega (arith, n)) within (omega (arith, length-drop keep p)) (dense_front chunks chunk lt dense) (two_dense chunks chunk keep lt le least rest dense) in
-      subst (λ m. IsOpened chunks (replaced chunks chunk 1 (take keep p ∷ drop keep p ∷ [])) chunk offset (chunk + 1) (offset - m)) n
-      (subst (λ xs. IsOpened xs (replaced chunks chunk 1 (take keep p ∷ drop keep p ∷ [])) chunk offset (chunk + 1) (offset - length (take keep p))) (sym (chunks_split chunks chunk lt)) opened)
+      subst (λ m. IsOpenedAt chunks (replaced chunks chunk 1 (take keep p ∷ drop keep p ∷ [])) chunk offset (chunk + 1) (offset - m)) n
+      (subst (λ xs. IsOpenedAt xs (replaced chunks chunk 1 (take keep p ∷ drop keep p ∷ [])) chunk offset (chunk + 1) (offset - length (take keep p))) (sym (chunks_split chunks chunk lt)) opened)
 
   -- the place after a full last chunk is that of a new one
-  pub opened_end : (chunks : List (List T)) (chunk offset : ℕ) → chunk < length chunks → offset ≡ MOST → length (chunk_at chunks chunk) ≡ MOST → chunk + 1 ≡ length chunks → IsDense chunks → IsOpened chunks (replaced chunks chunk 1 (take MOST (chunk_at chunks chunk) ∷ drop MOST (chunk_at chunks chunk) ∷ [])) chunk offset (chunk + 1) 0
+  pub opened_end : (chunks : List (List T)) (chunk offset : ℕ) → chunk < length chunks → offset ≡ MOST → length (chunk_at chunks chunk) ≡ MOST → chunk + 1 ≡ length chunks → IsDense chunks → IsOpenedAt chunks (replaced chunks chunk 1 (take MOST (chunk_at chunks chunk) ∷ drop MOST (chunk_at chunks chunk) ∷ [])) chunk offset (chunk + 1) 0
   opened_end chunks chunk offset lt off size last dense =
       let none : offset - MOST ≡ 0 = omega arith in
-      subst (λ n. IsOpened chunks (replaced chunks chunk 1 (take MOST (chunk_at chunks chunk) ∷ drop MOST (chunk_at chunks chunk) ∷ [])) chunk offset (chunk + 1) n) none
+      subst (λ n. IsOpenedAt chunks (replaced chunks chunk 1 (take MOST (chunk_at chunks chunk) ∷ drop MOST (chunk_at chunks chunk) ∷ [])) chunk offset (chunk + 1) n) none
       (opened_right chunks chunk offset MOST lt (omega arith) (omega arith) (omega arith) (omega arith) (omega arith) (λ h. absurd (omega (arith, h))) dense)
 
   -- ---- a chunk that lacks an item
@@ -280,7 +280,7 @@ module _ {T : Type 0} where
   dense_set (q ∷ qs) zero p more dense = ((λ h. more (omega (arith, h))), dense.1)
   dense_set (q ∷ qs) (suc i) p more dense = ((λ h. dense.0 (omega (arith, h, length-set qs i p))), dense_set qs i p (λ h. more (omega (arith, h))) dense.1)
 
-  pub opened_inserted : (old new : List (List T)) (at offset at' offset' : ℕ) (x : T) → IsOpened old new at offset at' offset' → items_of (set new at' (insert (chunk_at new at') offset' x)) ≡ insert (items_of old) (length (items_of (take at old)) + offset) x
+  pub opened_inserted : (old new : List (List T)) (at offset at' offset' : ℕ) (x : T) → IsOpenedAt old new at offset at' offset' → items_of (set new at' (insert (chunk_at new at') offset' x)) ≡ insert (items_of old) (length (items_of (take at old)) + offset) x
   opened_inserted old new at offset at' offset' x opened =
       inserted new at' offset' x opened.chunk_in opened.offset_in ∙ ap (λ n. insert (items_of new) n x) opened.position ∙ ap (λ xs. insert xs (length (items_of (take at old)) + offset) x) opened.items
 
@@ -290,7 +290,7 @@ module _ {T : Type 0} where
       let few = dense_count chunks sound.dense in
       (omega (arith, few, sound.total, less), omega (arith, few, sound.total, sound.capacity, less))
 
-  pub sound_inserted : (old new : List (List T)) (most spares most_spare count room most' spares' most_spare' at offset at' offset' : ℕ) (x : T) → IsSound old most spares most_spare count room → length (items_of old) < room → IsOpened old new at offset at' offset' → length new + spares' ≡ length old + spares → most ≤ most' → most_spare ≤ most_spare' → length (items_of (take at old)) + offset ≤ length (items_of old) → IsSound (set new at' (insert (chunk_at new at') offset' x)) most' spares' most_spare' (count + 1) room
+  pub sound_inserted : (old new : List (List T)) (most spares most_spare count room most' spares' most_spare' at offset at' offset' : ℕ) (x : T) → IsSound old most spares most_spare count room → length (items_of old) < room → IsOpenedAt old new at offset at' offset' → length new + spares' ≡ length old + spares → most ≤ most' → most_spare ≤ most_spare' → length (items_of (take at old)) + offset ≤ length (items_of old) → IsSound (set new at' (insert (chunk_at new at') offset' x)) most' spares' most_spare' (count + 1) room
   sound_inserted old new most spares most_spare count room most' spares' most_spare' at offset at' offset' x sound less opened total more more_spare within =
       let n = ap length (opened_inserted old new at offset at' offset' x opened) in
       let m = length-insert (items_of old) (length (items_of (take at old)) + offset) x within in

@@ -4,7 +4,7 @@ use Rattle.std.specs.List.{insert, remove}
 use Rattle.std.proofs.lemmas.List.{length-append, length-set, map-set, set-get_or}
 use Rattle.std.proofs.lemmas.List.Edits.{length-remove}
 use Rattle.chunk_list.specs.Chunked.{Chunked, position_of, IsPlace, HasItem}
-use Rattle.chunk_list.specs.Chunks.{items_of, chunk_at, IsDense, LacksOne, IsOpened, IsSound}
+use Rattle.chunk_list.specs.Chunks.{items_of, chunk_at, IsDense, LacksOne, IsOpenedAt, IsSound}
 use Rattle.chunk_list.specs.declared.chunk.TheConstants.{LEAST}
 use Rattle.chunk_list.specs.declared.place.Place.{Place}
 use Rattle.chunk_list.proofs.Chunks.{IsIn, place_in, item_in, chunk_read, item_at, written, removed, opened_inserted, sound_inserted, dense_set, dense_here, short_after, items_split, sizes_at}
@@ -116,7 +116,7 @@ module _ {T : Type 0} where
 
   -- ---- an insert
 
-  pub insert_items : (chunks new : List (List T)) (v : Chunked T) (place opened : Place) (chunk chunk' : List T) (x : T) → IsSeen chunks v → IsPlace v.sizes place → IsOpened chunks new place.chunk place.offset opened.chunk opened.offset → chunk ≡ get_or new opened.chunk chunk → chunk' ≡ insert chunk opened.offset x → items_of (set new opened.chunk chunk') ≡ insert v.items (position_of v.sizes place) x
+  pub insert_items : (chunks new : List (List T)) (v : Chunked T) (place opened : Place) (chunk chunk' : List T) (x : T) → IsSeen chunks v → IsPlace v.sizes place → IsOpenedAt chunks new place.chunk place.offset opened.chunk opened.offset → chunk ≡ get_or new opened.chunk chunk → chunk' ≡ insert chunk opened.offset x → items_of (set new opened.chunk chunk') ≡ insert v.items (position_of v.sizes place) x
   insert_items chunks new v place opened chunk chunk' x saw at h read is =
       let q = place_in chunks v.sizes place saw.sizes at in
       let e : chunk' ≡ insert (chunk_at new opened.chunk) opened.offset x = is ∙ ap (λ p. insert p opened.offset x) (chunk_read new opened.chunk chunk read h.chunk_in) in
@@ -125,7 +125,7 @@ module _ {T : Type 0} where
       ∙ ap (λ xs. insert xs (length (items_of (take place.chunk chunks)) + place.offset) x) saw.items
       ∙ ap (λ n. insert v.items n x) (sym q.position_is)
 
-  pub insert_sound : (chunks new : List (List T)) (v : Chunked T) (place opened : Place) (chunk chunk' : List T) (x : T) (most spares most_spare count room most' spares' most_spare' : ℕ) → IsSound chunks most spares most_spare count room → IsSeen chunks v → IsPlace v.sizes place → length v.items < room → IsOpened chunks new place.chunk place.offset opened.chunk opened.offset → chunk ≡ get_or new opened.chunk chunk → chunk' ≡ insert chunk opened.offset x → length new + spares' ≡ length chunks + spares → most ≤ most' → most_spare ≤ most_spare' → IsSound (set new opened.chunk chunk') most' spares' most_spare' (count + 1) room
+  pub insert_sound : (chunks new : List (List T)) (v : Chunked T) (place opened : Place) (chunk chunk' : List T) (x : T) (most spares most_spare count room most' spares' most_spare' : ℕ) → IsSound chunks most spares most_spare count room → IsSeen chunks v → IsPlace v.sizes place → length v.items < room → IsOpenedAt chunks new place.chunk place.offset opened.chunk opened.offset → chunk ≡ get_or new opened.chunk chunk → chunk' ≡ insert chunk opened.offset x → length new + spares' ≡ length chunks + spares → most ≤ most' → most_spare ≤ most_spare' → IsSound (set new opened.chunk chunk') most' spares' most_spare' (count + 1) room
   insert_sound chunks new v place opened chunk chunk' x most spares most_spare count room most' spares' most_spare' sound saw at less h read is total more more_spare =
       let q = place_in chunks v.sizes place saw.sizes at in
       let e : chunk' ≡ insert (chunk_at new opened.chunk) opened.offset x = is ∙ ap (λ p. insert p opened.offset x) (chunk_read new opened.chunk chunk read h.chunk_in) in

@@ -3,6 +3,7 @@ use Rattle.std.specs.Prelude.{◌≡◌, ℕ, ◌+◌, ◌/◌, ◌<◌, ◌≤�
 use Rattle.std.specs.List.{AllByRecursion, flat_map}
 use Rattle.chunk_list.specs.Chunked.{TurnsAt}
 use Rattle.chunk_list.specs.declared.chunk.TheConstants.{LEAST, MOST}
+use Rattle.chunk_list.specs.declared.place.Place.{Place}
 
 -- the items of the chunks, one chunk after another
 abbrev pub items_of : {T : Type 0} → List (List T) → List T
@@ -24,6 +25,10 @@ cut_in_two chunks i keep = replaced chunks i 1 (take keep (chunk_at chunks i) �
 abbrev pub joined : {T : Type 0} → List (List T) → ℕ → List (List T)
 joined chunks i = replaced chunks i 2 ((chunk_at chunks i ++ chunk_at chunks (i + 1)) ∷ [])
 
+-- how many items a chunk and the next one have
+abbrev pub size_of_two : {T : Type 0} → List (List T) → ℕ → ℕ
+size_of_two chunks i = length (chunk_at chunks i) + length (chunk_at chunks (i + 1))
+
 -- the chunks where one has the first item of the next too
 abbrev pub shifted : {T : Type 0} → List (List T) → ℕ → List (List T)
 shifted chunks i =
@@ -41,14 +46,18 @@ pub record LacksOne {T : Type 0} (chunks : List (List T)) (at : ℕ) : Type 0 wh
   pub here : at + 1 < length chunks → LEAST ≤ length (chunk_at chunks at) + 1
   pub after : IsDense (drop (at + 1) chunks)
 
--- the same items, and at the place of the same position a chunk has room
-pub record IsOpened {T : Type 0} (old new : List (List T)) (at offset at' offset' : ℕ) : Type 0 where
+-- the same items, and at the same position a chunk has room
+pub record IsOpenedAt {T : Type 0} (old new : List (List T)) (at offset at' offset' : ℕ) : Type 0 where
   pub chunk_in : at' < length new
   pub offset_in : offset' ≤ length (chunk_at new at')
   pub short : length (chunk_at new at') < MOST
   pub items : items_of new ≡ items_of old
   pub position : length (items_of (take at' new)) + offset' ≡ length (items_of (take at old)) + offset
   pub dense : IsDense new
+
+-- the same, of two places
+abbrev pub IsOpened : {T : Type 0} → List (List T) → List (List T) → Place → Place → Type 0
+IsOpened old new place place' = IsOpenedAt old new place.chunk place.offset place'.chunk place'.offset
 
 -- chunks go from one vector to the other: none is lost, and both keep their room
 pub record KeepsChunks {T A : Type 0} (old new old_spare new_spare : Vec (List T) A) : Type 0 where

@@ -38,9 +38,8 @@ impl<T> Model for ChunkList<T> {
     } };
 
     ghost invariant = { λ a.
-      IsSound a.chunks.items (vec_capacity a.chunks) (length a.spare.items)
-        (vec_capacity a.spare) a.count a.room
-    };
+        IsSound a.chunks.items (vec_capacity a.chunks) (length a.spare.items)
+        (vec_capacity a.spare) a.count a.room };
 }
 
 impl<T: Copy> ChunkList<T> {

@@ -1,6 +1,6 @@
 //! How chunks are cut in two, joined and evened out.
 ghost use Rattle.std.specs.Prelude.{◌≡◌, ◌+◌, ◌<◌, ◌≤◌, List, length, take, vec_capacity};
-ghost use Rattle.chunk_list.specs.Chunks.{IsDense, IsOpened, KeepsChunks, LacksOne, chunk_at, cut_in_two, items_of, joined, shifted};
+ghost use Rattle.chunk_list.specs.Chunks.{IsDense, IsOpened, KeepsChunks, LacksOne, chunk_at, cut_in_two, items_of, joined, shifted, size_of_two};
 
 use crate::chunk::{Chunk, LEAST, MOST};
 use crate::place::Place;
@@ -38,9 +38,7 @@ pub(crate) fn split<T: Copy>(
 /// Joins a chunk with the next one, which is spare from then on.
 pub(crate) fn join<T: Copy>(chunks: &mut Vec<Chunk<T>>, spare: &mut Vec<Chunk<T>>, at: usize)
     requires at { at + 1 < length chunks.old.items }
-    requires few {
-      length (chunk_at chunks.old.items at) + length (chunk_at chunks.old.items (at + 1)) ≤ MOST
-    }
+    requires few { size_of_two chunks.old.items at ≤ MOST }
     requires room { length spare.old.items < vec_capacity spare.old }
     ensures chunks { chunks.new.items ≡ joined chunks.old.items at }
     ensures kept { KeepsChunks chunks.old chunks.new spare.old spare.new }
@@ -77,9 +75,7 @@ pub(crate) fn open<T: Copy>(
     requires dense { IsDense chunks.old.items }
     requires spare { 0 < length spare.old.items }
     requires room { length chunks.old.items < vec_capacity chunks.old }
-    ensures opened {
-      IsOpened chunks.old.items chunks.new.items place.chunk place.offset result.chunk result.offset
-    }
+    ensures opened { IsOpened chunks.old.items chunks.new.items place result }
     ensures kept { KeepsChunks chunks.old chunks.new spare.old spare.new }
 {
     let len = chunks[place.chunk].len();
