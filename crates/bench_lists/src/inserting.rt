@@ -1,0 +1,57 @@
+//! Putting a number into its place, and taking it away again.
+use crate::below::Below;
+use crate::numbers::{Numbers, listed, vector};
+use anyhow::{Result, bail};
+use bench_measure::Work;
+use chunk_list::ChunkList;
+use std::alloc::Global;
+
+/// A list and a vector of the same items, and what is put into each next.
+#[derive(Drop)]
+pub(crate) struct Inserting {
+    list: ChunkList<u32>,
+    put: Numbers,
+    items: Vec<u32>,
+    put_into_vector: Numbers,
+}
+
+impl Inserting {
+    pub(crate) fn new(alloc: Global, count: u32) -> Result<Inserting> {
+        Ok(Inserting {
+            list: listed(alloc, count)?,
+            put: Numbers::new(count),
+            items: vector(alloc, count)?,
+            put_into_vector: Numbers::new(count),
+        })
+    }
+}
+
+impl Work for Inserting {
+    type Output = u32;
+
+    fn ours(&mut self, _alloc: Global) -> Result<u32> {
+        let number = self.put.next();
+        let test = Below(number);
+        let place = self.list.search(&test);
+        if self.list.len() == self.list.room() {
+            bail!("the list is full");
+        }
+        self.list.insert(place, number);
+        let place = self.list.search(&test);
+        if !self.list.has_item(place) {
+            bail!("the number is gone");
+        }
+        Ok(self.list.remove(place))
+    }
+
+    fn other(&mut self, _alloc: Global) -> Result<u32> {
+        let number = self.put_into_vector.next();
+        let place = self.items.partition_point(|item| *item < number);
+        self.items.insert(place, number)?;
+        let place = self.items.partition_point(|item| *item < number);
+        if place == self.items.len() {
+            bail!("the number is gone");
+        }
+        Ok(self.items.remove(place))
+    }
+}

@@ -1,0 +1,141 @@
+-- Positions and places.
+use Rattle.std.proofs.Common.{◌≡◌, ℕ, zero, suc, ◌+◌, ◌-◌, ◌<◌, ◌≤◌, List, [], ◌∷◌, ◌++◌, length, get_or, set, take, drop, sym, ap, subst, ◌∙◌, arith, inl, inr}
+use Rattle.std.specs.Prelude.{Bool, true}
+use Rattle.std.proofs.lemmas.Bool.{cases_lt}
+use Rattle.std.proofs.lemmas.List.{length-append, length-set, length-take-le, append-nil, take_more, take_all, take-append-le, drop-append-le, get_or-take, get_or_default, set_at, drop_more, get_or-drop}
+use Rattle.std.proofs.lemmas.List.Filters.{FiltersInPlace, FiltersInPlace-more_set}
+use Rattle.std.proofs.Math.Seq.{take-append-add, drop-append-add}
+use Rattle.chunk_list.specs.Chunked.{Chunked, position_of, IsPlace, HasItem, IsPlaceAt}
+use Rattle.chunk_list.specs.Chunks.{items_of, chunk_at, IsDense, IsSound}
+use Rattle.chunk_list.specs.declared.place.Place.{Place}
+use Rattle.chunk_list.proofs.Chunks.{place_in, items_append, items_split, sizes_length, sizes_at, sizes_start, dense_here, dense_front, dense_join}
+use Rattle.chunk_list.proofs.Lists.{IsSeen}
+
+module _ {T : Type 0} where
+  -- the next part begins where one ends
+  pub start_next : (chunks : List (List T)) (i : ℕ) → i < length chunks → length (items_of (take (i + 1) chunks)) ≡ length (items_of (take i chunks)) + length (chunk_at chunks i)
+  start_next chunks i lt =
+      let p : List T = chunk_at chunks i in
+      let n = ap (λ xs. length (items_of xs)) (take_more chunks i [] lt) in
+      omega (arith, n, ap length (items_append (take i chunks) (p ∷ [])), length-append (items_of (take i chunks)) (p ++ []), length-append p [])
+
+  pub start_below : (chunks : List (List T)) (i : ℕ) → i < length chunks → length (items_of (take i chunks)) + length (chunk_at chunks i) ≤ length (items_of chunks)
+  start_below chunks i lt =
+      let n = ap length (items_split chunks i lt) in
+      let p : List T = chunk_at chunks i in
+      let after : List T = items_of (drop (i + 1) chunks) in
+      omega (arith, n, length-append (items_of (take i chunks)) (p ++ after), length-append p after)
+
+  -- the last part ends where all do
+  pub start_last : (chunks : List (List T)) (i : ℕ) → i + 1 ≡ length chunks → length (items_of (take i chunks)) + length (chunk_at chunks i) ≡ length (items_of chunks)
+  start_last chunks i last =
+      let all : take (i + 1) chunks ≡ chunks = take_all (i + 1) chunks (omega arith) in
+      omega (arith, start_next chunks i (omega arith), ap (λ xs. length (items_of xs)) all)
+
+  pub place_from : (chunks : List (List T)) (v : Chunked T) (chunk offset : ℕ) → IsSeen chunks v → chunk < length chunks → offset ≤ length (chunk_at chunks chunk) → IsPlace v.sizes (record { chunk = chunk; offset = offset })
+  place_from chunks v chunk offset saw lt le = record {
+    chunk = omega (arith, sizes_length chunks v.sizes saw.sizes);
+    offset = omega (arith, sizes_at chunks v.sizes chunk saw.sizes lt);
+  }
+
+  pub item_from : (chunks : List (List T)) (v : Chunked T) (chunk offset : ℕ) → IsSeen chunks v → chunk < length chunks → (chunk + 1 < length chunks → offset < length (chunk_at chunks chunk)) → position_of v.sizes (record { chunk = chunk; offset = offset }) < length v.items → HasItem v.sizes (record { chunk = chunk; offset = offset })
+  item_from chunks v chunk offset saw lt inner less =
+      let i = ap length saw.items in
+      let s = sizes_start chunks v.sizes chunk saw.sizes in
+      let size = sizes_at chunks v.sizes chunk saw.sizes lt in
+      let within : offset < length (chunk_at chunks chunk) = elim (cases_lt (chunk + 1) (length chunks)) [
+        | inl more ↦ inner more
+        | inr last ↦ omega (arith, i, s, less, start_last chunks chunk (omega arith))
+      ] in
+      record { chunk = omega (arith, sizes_length chunks v.sizes saw.sizes); offset = omega (arith, size, within) }
+
+  pub position_is : (chunks : List (List T)) (v : Chunked T) (chunk offset n : ℕ) → IsSeen chunks v → length (items_of (take chunk chunks)) + offset ≡ n → position_of v.sizes (record { chunk = chunk; offset = offset }) ≡ n
+  position_is chunks v chunk offset n saw is = omega (arith, sizes_start chunks v.sizes chunk saw.sizes, is)
+
+  -- a place by its chunk, which is an item's unless it stands at the end of the last chunk
+  pub place_from_chunk : (chunks : List (List T)) (v : Chunked T) (chunk offset position : ℕ) → IsSeen chunks v → chunk < length chunks → offset ≤ length (chunk_at chunks chunk) → length (items_of (take chunk chunks)) + offset ≡ position → (chunk + 1 < length chunks → offset < length (chunk_at chunks chunk)) → IsPlaceAt v (record { chunk = chunk; offset = offset }) position
+  place_from_chunk chunks v chunk offset position saw lt le is inner =
+      let at = position_is chunks v chunk offset position saw is in
+      record {
+        place_is = place_from chunks v chunk offset saw lt le;
+        position_is = at;
+        item_is = λ less. item_from chunks v chunk offset saw lt inner (omega (arith, at, less));
+      }
+
+  -- chunks begin in their order
+  pub start_up : (chunks : List (List T)) (i j : ℕ) → i ≤ j → length (items_of (take i chunks)) ≤ length (items_of (take j chunks))
+  start_up chunks zero j le = omega arith
+  start_up chunks (suc i) zero le = absurd (omega (arith, le))
+  start_up [] (suc i) (suc j) le = omega arith
+  start_up (p ∷ ps) (suc i) (suc j) le = omega (arith, start_up ps i j (omega (arith, le)), length-append p (items_of (take i ps)), length-append p (items_of (take j ps)))
+
+  -- a chunk ends before a later one begins
+  pub start_later : (chunks : List (List T)) (i j : ℕ) → i < j → i < length chunks → length (items_of (take i chunks)) + length (chunk_at chunks i) ≤ length (items_of (take j chunks))
+  start_later chunks i j lt within = omega (arith, start_next chunks i within, start_up chunks (i + 1) j (omega (arith, lt)))
+
+  -- ---- what is left where all from a place on is taken away
+
+  pub cut_chunks : (chunks : List (List T)) (i : ℕ) (p : List T) → i < length chunks → set (take (i + 1) chunks) i p ≡ take i chunks ++ p ∷ []
+  cut_chunks chunks i p lt =
+      ap (λ xs. set xs i p) (take_more chunks i [] lt) ∙ set_at (take i chunks) (chunk_at chunks i) [] p i (length-take-le i chunks (omega arith))
+
+  pub cut_items_of : (chunks : List (List T)) (i offset : ℕ) → i < length chunks → offset ≤ length (chunk_at chunks i) → items_of (take i chunks ++ take offset (chunk_at chunks i) ∷ []) ≡ take (length (items_of (take i chunks)) + offset) (items_of chunks)
+  cut_items_of chunks i offset lt le =
+      let a : List T = items_of (take i chunks) in
+      let p : List T = chunk_at chunks i in
+      let b : List T = items_of (drop (i + 1) chunks) in
+      items_append (take i chunks) (take offset p ∷ [])
+      ∙ ap (λ xs. a ++ xs) (append-nil (take offset p) ∙ sym (take-append-le offset p b le))
+      ∙ sym (take-append-add a (p ++ b) offset)
+      ∙ ap (take (length a + offset)) (sym (items_split chunks i lt))
+
+  pub cut_items : (chunks new : List (List T)) (v : Chunked T) (place : Place) (chunk chunk' : List T) → IsSeen chunks v → IsPlace v.sizes place → new ≡ take (place.chunk + 1) chunks → chunk ≡ get_or new place.chunk chunk → chunk' ≡ take place.offset chunk → items_of (set new place.chunk chunk') ≡ take (position_of v.sizes place) v.items
+  cut_items chunks new v place chunk chunk' saw at cut read is =
+      let q = place_in chunks v.sizes place saw.sizes at in
+      let same : chunk ≡ chunk_at chunks place.chunk = read ∙ ap (λ xs. get_or xs place.chunk chunk) cut ∙ get_or-take (place.chunk + 1) chunks place.chunk chunk (omega arith) ∙ get_or_default chunks place.chunk chunk [] q.chunk_in in
+      ap (λ xs. items_of (set xs place.chunk chunk')) cut
+      ∙ ap items_of (cut_chunks chunks place.chunk chunk' q.chunk_in)
+      ∙ ap (λ xs. items_of (take place.chunk chunks ++ xs ∷ [])) (is ∙ ap (take place.offset) same)
+      ∙ cut_items_of chunks place.chunk place.offset q.chunk_in q.offset_in
+      ∙ ap (λ xs. take (length (items_of (take place.chunk chunks)) + place.offset) xs) saw.items
+      ∙ ap (λ n. take n v.items) (sym q.position_is)
+
+  pub cut_sound : (chunks new : List (List T)) (v : Chunked T) (place : Place) (chunk chunk' : List T) (most spares most_spare count room most' spares' most_spare' left : ℕ) → IsSound chunks most spares most_spare count room → IsSeen chunks v → IsPlace v.sizes place → new ≡ take (place.chunk + 1) chunks → chunk ≡ get_or new place.chunk chunk → chunk' ≡ take place.offset chunk → left ≡ position_of v.sizes place → length new + spares' ≡ length chunks + spares → most ≤ most' → most_spare ≤ most_spare' → IsSound (set new place.chunk chunk') most' spares' most_spare' left room
+  cut_sound chunks new v place chunk chunk' most spares most_spare count room most' spares' most_spare' left sound saw at cut read is left_is total more more_spare =
+      let q = place_in chunks v.sizes place saw.sizes at in
+      let n = ap length (cut_items chunks new v place chunk chunk' saw at cut read is) in
+      let i = ap length saw.items in
+      let below = start_below chunks place.chunk q.chunk_in in
+      let short : position_of v.sizes place ≤ length v.items = omega (arith, i, below, q.offset_in, q.position_is) in
+      let m = length-take-le (position_of v.sizes place) v.items short in
+      let k = length-set new place.chunk chunk' in
+      let l = ap length cut ∙ length-take-le (place.chunk + 1) chunks (omega (arith, q.chunk_in)) in
+      let parts_are : set new place.chunk chunk' ≡ take place.chunk chunks ++ chunk' ∷ [] = ap (λ xs. set xs place.chunk chunk') cut ∙ cut_chunks chunks place.chunk chunk' q.chunk_in in
+      record {
+        some = omega (arith, k, l);
+        dense = subst IsDense (sym parts_are) (dense_join (take place.chunk chunks) chunk' [] (dense_front chunks place.chunk q.chunk_in sound.dense) ((λ h. absurd (omega (arith, h))), tt));
+        total = omega (arith, k, total, sound.total);
+        capacity = omega (arith, k, total, more, sound.capacity);
+        spare_capacity = omega (arith, k, total, more_spare, sound.spare_capacity);
+        len = omega (arith, n, m, left_is);
+        within = omega (arith, n, m, i, short, sound.within);
+      }
+
+  -- ---- one item after another
+
+  pub walk_step : (items : List T) (at at' left : ℕ) (x : T) → 0 < left → at + left ≤ length items → x ≡ get_or items at x → at' ≡ at + 1 → take left (drop at items) ≡ x ∷ take (left - 1) (drop at' items)
+  walk_step items at at' left x some within is next =
+      let one : left ≡ suc (left - 1) = omega arith in
+      ap (λ n. take n (drop at items)) one
+      ∙ ap (take (suc (left - 1))) (drop_more items at x (omega (arith, some)))
+      ∙ ap (λ y. y ∷ take (left - 1) (drop (at + 1) items)) (sym is)
+      ∙ ap (λ n. x ∷ take (left - 1) (drop n items)) (sym next)
+
+  pub kept_read : (test : T → Bool) (xs ys : List T) (k i : ℕ) (d : T) → FiltersInPlace test xs ys k i → get_or ys i d ≡ get_or xs i d
+  kept_read test xs ys k i d kept =
+      let none : i + 0 ≡ i = omega arith in
+      ap (λ n. get_or ys n d) (sym none) ∙ sym (get_or-drop i ys 0 d) ∙ ap (λ zs. get_or zs 0 d) kept.rest ∙ get_or-drop i xs 0 d ∙ ap (λ n. get_or xs n d) none
+
+  pub kept_more : (test : T → Bool) (xs ys zs : List T) (k k' i : ℕ) (x : T) → FiltersInPlace test xs ys k i → i < length ys → test x ≡ true → x ≡ get_or ys i x → zs ≡ set ys k x → k' ≡ k + 1 → FiltersInPlace test xs zs k' (i + 1)
+  kept_more test xs ys zs k k' i x kept lt holds read is next =
+      subst (λ n. FiltersInPlace test xs zs n (i + 1)) (sym next) (subst (λ ws. FiltersInPlace test xs ws (k + 1) (i + 1)) (sym is) (FiltersInPlace-more_set kept lt holds read))

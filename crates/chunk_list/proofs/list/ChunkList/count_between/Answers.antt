@@ -1,0 +1,56 @@
+use Rattle.std.proofs.Common.{◌≡◌, length, take, refl, ap, arith}
+use Rattle.chunk_list.specs.Chunks.{items_of}
+use Rattle.chunk_list.proofs.Chunks.{chunk_read, place_in}
+use Rattle.chunk_list.proofs.Lists.{seen}
+use Rattle.chunk_list.proofs.Walks.{start_below, start_later}
+use Rattle.chunk_list.proofs.list.ChunkList.count_between.Goals as goal
+
+pub overflow_add-passed : goal.overflow_add-passed
+overflow_add-passed g c =
+    let chunks = c.self.inside.chunks.items in
+    let v = c.args.self.now in
+    let saw = seen c.self.inside.chunks.items c.self.inside.room _ c.args.self.now c.self.view_is refl refl in
+    let q = place_in chunks v.sizes c.args.to saw.sizes c.requires.to in
+    let size = ap length (chunk_read chunks _ c.index.result.now c.index.ensures (omega (arith, q.chunk_in))) in
+    omega (arith, size, start_below chunks c.adding.chunk (omega (arith, q.chunk_in)), c.self.invariant.len)
+
+pub overflow_add-result : goal.overflow_add-result
+overflow_add-result g c =
+    let chunks = c.self.inside.chunks.items in
+    let v = c.args.self.now in
+    let saw = seen c.self.inside.chunks.items c.self.inside.room _ c.args.self.now c.self.view_is refl refl in
+    let q = place_in chunks v.sizes c.args.to saw.sizes c.requires.to in
+    let e : c.adding.chunk ≡ c.args.to.chunk = omega arith in
+    let s = ap (λ n. length (items_of (take n chunks))) e in
+    omega (arith, s, q.offset_in, start_below chunks c.args.to.chunk q.chunk_in, c.self.invariant.len)
+
+pub overflow_sub-result : goal.overflow_sub-result
+overflow_sub-result g c =
+    let chunks = c.self.inside.chunks.items in
+    let v = c.args.self.now in
+    let saw = seen c.self.inside.chunks.items c.self.inside.room _ c.args.self.now c.self.view_is refl refl in
+    let p = place_in chunks v.sizes c.args.from saw.sizes c.requires.from in
+    let q = place_in chunks v.sizes c.args.to saw.sizes c.requires.to in
+    let e : c.adding.chunk ≡ c.args.to.chunk = omega arith in
+    let s = ap (λ n. length (items_of (take n chunks))) e in
+    omega (arith, s, p.position_is, q.position_is, c.requires.ordered)
+
+pub returns-then-to-from : goal.returns-then-to-from
+returns-then-to-from g c =
+    let chunks = c.self.inside.chunks.items in
+    let v = c.args.self.now in
+    let saw = seen c.self.inside.chunks.items c.self.inside.room _ c.args.self.now c.self.view_is refl refl in
+    let p = place_in chunks v.sizes c.args.from saw.sizes c.requires.from in
+    let q = place_in chunks v.sizes c.args.to saw.sizes c.requires.to in
+    omega (arith, p.position_is, q.position_is, q.offset_in, start_later chunks c.args.to.chunk c.args.from.chunk (omega arith) q.chunk_in)
+
+pub returns : goal.returns
+returns g c =
+    let chunks = c.self.inside.chunks.items in
+    let v = c.args.self.now in
+    let saw = seen c.self.inside.chunks.items c.self.inside.room _ c.args.self.now c.self.view_is refl refl in
+    let p = place_in chunks v.sizes c.args.from saw.sizes c.requires.from in
+    let q = place_in chunks v.sizes c.args.to saw.sizes c.requires.to in
+    let e : c.adding.chunk ≡ c.args.to.chunk = omega arith in
+    let s = ap (λ n. length (items_of (take n chunks))) e in
+    omega (arith, s, p.position_is, q.position_is)

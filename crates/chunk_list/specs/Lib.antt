@@ -1,0 +1,2 @@
+pub mod Chunked
+pub mod Chunks

@@ -1,0 +1,276 @@
+//! A list in chunks.
+ghost use Rattle.std.specs.Prelude.{◌≡◌, ℕ, ◌+◌, ◌<◌, ◌≤◌, ◌++◌, ◌∷◌, [], List, length, slice_index_or, slice_set, take, filter, IfOk, IsTrue, ◌↔◌};
+ghost use Rattle.std.specs.List.{All, insert, remove};
+ghost use Rattle.chunk_list.specs.Chunked.{TurnsAt, HasItem, IsPlace, IsPlaceAt, position_of};
+
+use crate::chunk::{Chunk, LEAST};
+use crate::moves::{give_back, open, refill};
+use crate::place::Place;
+use crate::search::{Test, first_chunk, first_item};
+use std::alloc::{AllocError, Global};
+use std::marker::Model;
+
+/// Items in order, for at most as many as there is room.
+#[derive(Drop)]
+pub struct ChunkList<T> {
+    /// The chunks that have the items, in order. There is one at least, and the last may be empty.
+    chunks: Vec<Chunk<T>>,
+    /// The chunks that are in no use, whatever stands in them.
+    spare: Vec<Chunk<T>>,
+    /// How many items there are.
+    count: usize,
+    room: usize,
+}
+
+impl<T> Model for ChunkList<T> {
+    ghost use Rattle.std.specs.Prelude.{length, map, vec_capacity};
+    ghost use Rattle.chunk_list.specs.Chunked.{Chunked, chunked_code};
+    ghost use Rattle.chunk_list.specs.Chunks.{IsSound, items_of};
+
+    ghost Value = { Chunked T };
+
+    ghost coded = { chunked_code T.code };
+
+    ghost view = { λ a. record {
+      items = items_of a.chunks.items;
+      sizes = map (λ c. length c) a.chunks.items;
+      room = a.room;
+    } };
+
+    ghost invariant = { λ a.
+        IsSound a.chunks.items (vec_capacity a.chunks) (length a.spare.items)
+        (vec_capacity a.spare) a.count a.room };
+}
+
+impl<T: Copy> ChunkList<T> {
+    /// A list with no item, and room for so many. No other call takes memory.
+    pub fn new(alloc: Global, room: usize) -> Result<ChunkList<T>, AllocError>
+        ensures items { IfOk result (λ list. list.items ≡ []) }
+        ensures room { IfOk result (λ list. list.room ≡ room) }
+    {
+        let most = room / LEAST + 2;
+        let mut chunks = Vec::with_capacity(alloc, most)?;
+        let mut spare = Vec::with_capacity(alloc, most)?;
+        chunks.push_reserved(Chunk::new(alloc)?);
+        'making: for _made in 0..room / LEAST + 1 {
+            spare.push_reserved(Chunk::new(alloc)?);
+        }
+        Ok(ChunkList {
+            chunks,
+            spare,
+            count: 0,
+            room,
+        })
+    }
+
+    /// How many items there are.
+    pub fn len(&self) -> usize
+        ensures len { result ≡ length self.now.items }
+        ensures within { result ≤ self.now.room }
+    {
+        self.count
+    }
+
+    /// For how many items there is room in all.
+    pub fn room(&self) -> usize
+        ensures { result ≡ self.now.room }
+    {
+        self.room
+    }
+
+    /// The place of the first item, or where it would go.
+    pub fn start(&self) -> Place
+        ensures { IsPlaceAt self.now result 0 }
+    {
+        let _ = &self.count;
+        Place {
+            chunk: 0,
+            offset: 0,
+        }
+    }
+
+    /// The place after the last item.
+    pub fn end(&self) -> Place
+        ensures { IsPlaceAt self.now result (length self.now.items) }
+    {
+        let chunk = self.chunks.len() - 1;
+        let offset = self.chunks[chunk].len();
+        Place { chunk, offset }
+    }
+
+    /// The place after an item's.
+    pub fn next(&self, place: Place) -> Place
+        requires { HasItem self.now.sizes place }
+        ensures { IsPlaceAt self.now result (position_of self.now.sizes place + 1) }
+    {
+        let len = self.chunks[place.chunk].len();
+        if place.offset + 1 == len && place.chunk + 1 < self.chunks.len() {
+            return Place {
+                chunk: place.chunk + 1,
+                offset: 0,
+            };
+        }
+        Place {
+            chunk: place.chunk,
+            offset: place.offset + 1,
+        }
+    }
+
+    /// The place before which so many items stand. It looks at each chunk before it.
+    pub fn place_at(&self, position: usize) -> Place
+        requires { position ≤ length self.now.items }
+        ensures { IsPlaceAt self.now result position }
+    {
+        let last = self.chunks.len() - 1;
+        let mut left = position;
+        'passing: for chunk in 0..last {
+            let len = self.chunks[chunk].len();
+            if left < len {
+                return Place {
+                    chunk,
+                    offset: left,
+                };
+            }
+            left -= len;
+        }
+        Place {
+            chunk: last,
+            offset: left,
+        }
+    }
+
+    /// How many items stand before a place. It looks at each chunk before it.
+    pub fn position(&self, place: Place) -> usize
+        requires { IsPlace self.now.sizes place }
+        ensures { result ≡ position_of self.now.sizes place }
+    {
+        self.count_between(self.start(), place)
+    }
+
+    /// How many items stand from one place up to another. It looks at each chunk between them.
+    pub fn count_between(&self, from: Place, to: Place) -> usize
+        requires from { IsPlace self.now.sizes from }
+        requires to { IsPlace self.now.sizes to }
+        requires ordered { position_of self.now.sizes from ≤ position_of self.now.sizes to }
+        ensures { position_of self.now.sizes from + result ≡ position_of self.now.sizes to }
+    {
+        let _count = self.count;
+        if to.chunk < from.chunk {
+            return 0;
+        }
+        let mut passed = 0;
+        'adding: for chunk in from.chunk..to.chunk {
+            passed += self.chunks[chunk].len();
+        }
+        passed + to.offset - from.offset
+    }
+
+    /// The first place at whose item a test doesn't hold, if it holds up to some place and not from there on.
+    pub fn search<S: Test<T>>(&self, test: &S) -> Place
+        requires { All (S.can test.now) self.now.items }
+        ensures place { IsPlace self.now.sizes result }
+        ensures turn { (k : ℕ) → TurnsAt (S.test test.now) self.now.items k → IsPlaceAt self.now result k }
+    {
+        let chunk = first_chunk(&self.chunks, test);
+        let offset = first_item(self.chunks[chunk].items(), test);
+        Place { chunk, offset }
+    }
+
+    /// Whether an item stands at a place.
+    pub fn has_item(&self, place: Place) -> bool
+        ensures { IsTrue result ↔ HasItem self.now.sizes place }
+    {
+        place.chunk < self.chunks.len() && place.offset < self.chunks[place.chunk].len()
+    }
+
+    /// The item at a place.
+    pub fn get(&self, place: Place) -> T
+        requires { HasItem self.now.sizes place }
+        ensures { result ≡ slice_index_or self.now.items (position_of self.now.sizes place) result }
+    {
+        self.chunks[place.chunk].get(place.offset)
+    }
+
+    /// Writes an item over the one at a place. All places stay.
+    pub fn set(&mut self, place: Place, item: T)
+        requires { HasItem self.old.sizes place }
+        ensures items { self.new.items ≡ slice_set self.old.items (position_of self.old.sizes place) item }
+        ensures sizes { self.new.sizes ≡ self.old.sizes }
+        ensures room { self.new.room ≡ self.old.room }
+    {
+        let chunk = &mut self.chunks[place.chunk];
+        chunk.set(place.offset, item);
+    }
+
+    /// Puts an item at a place, before what stood there.
+    pub fn insert(&mut self, place: Place, item: T)
+        requires place { IsPlace self.old.sizes place }
+        requires room { length self.old.items < self.old.room }
+        ensures items { self.new.items ≡ insert self.old.items (position_of self.old.sizes place) item }
+        ensures room { self.new.room ≡ self.old.room }
+    {
+        let opened = open(&mut self.chunks, &mut self.spare, place);
+        let chunk = &mut self.chunks[opened.chunk];
+        chunk.insert(opened.offset, item);
+        self.count += 1;
+    }
+
+    /// Puts an item after all others.
+    pub fn append(&mut self, item: T)
+        requires { length self.old.items < self.old.room }
+        ensures items { self.new.items ≡ self.old.items ++ item ∷ [] }
+        ensures room { self.new.room ≡ self.old.room }
+    {
+        let end = self.end();
+        self.insert(end, item);
+    }
+
+    /// Takes the item at a place away.
+    pub fn remove(&mut self, place: Place) -> T
+        requires { HasItem self.old.sizes place }
+        ensures value { result ≡ slice_index_or self.old.items (position_of self.old.sizes place) result }
+        ensures items { self.new.items ≡ remove self.old.items (position_of self.old.sizes place) }
+        ensures room { self.new.room ≡ self.old.room }
+    {
+        let chunk = &mut self.chunks[place.chunk];
+        let item = chunk.remove(place.offset);
+        let left = chunk.len();
+        self.count -= 1;
+        if left < LEAST {
+            refill(&mut self.chunks, &mut self.spare, place.chunk);
+        }
+        item
+    }
+
+    /// Takes away all items from a place on.
+    pub fn truncate(&mut self, place: Place)
+        requires { IsPlace self.old.sizes place }
+        ensures items { self.new.items ≡ take (position_of self.old.sizes place) self.old.items }
+        ensures room { self.new.room ≡ self.old.room }
+    {
+        let left = self.position(place);
+        give_back(&mut self.chunks, &mut self.spare, place.chunk + 1);
+        let chunk = &mut self.chunks[place.chunk];
+        chunk.truncate(place.offset);
+        self.count = left;
+    }
+
+    /// Takes away all items at which a test doesn't hold, in one pass.
+    pub fn retain<S: Test<T>>(&mut self, test: &S)
+        requires { All (S.can test.now) self.old.items }
+        ensures items { self.new.items ≡ filter (S.test test.now) self.old.items }
+        ensures room { self.new.room ≡ self.old.room }
+    {
+        let mut read = self.start();
+        let mut write = self.start();
+        'keeping: for _read in 0..self.len() {
+            let item = self.get(read);
+            read = self.next(read);
+            if test.holds(item) {
+                self.set(write, item);
+                write = self.next(write);
+            }
+        }
+        self.truncate(write);
+    }
+}
