@@ -4,7 +4,7 @@ use Rattle.std.specs.declared.cmp.Ordering.TheVariants.{Less, Greater}
 use Rattle.std.specs.Str.{bytes_eq}
 use Rattle.etcd_model.specs.Order.{key_cmp, key_lt}
 use Rattle.etcd_model.specs.Interval.{is_in}
-use Rattle.key_index.specs.Entries.{Cells, Entry, IsOf, IsNewest}
+use Rattle.key_index.specs.Entries.{Cells, Entry, IsOfKey, IsNewest}
 
 -- the index's cells, and for how many it has room
 pub record Heads : Type 0 where
@@ -20,12 +20,12 @@ pub record IsSpread (cells : Cells) (heads : List ℕ) : Type 0 where
 pub record IsIndexOf (cells : Cells) (heads : List ℕ) : Type 0 where
   pub newest : (i : ℕ) → i < length heads → IsNewest cells (slice_index heads i)
   pub sorted : (i j : ℕ) (e f : Entry) → i < j → j < length heads → cells (slice_index heads i) ≡ Some e → cells (slice_index heads j) ≡ Some f → key_cmp e.change.key f.change.key ≡ Less
-  pub whole : (c : ℕ) (e : Entry) → cells c ≡ Some e → (i : ℕ) × (i < length heads) × IsOf cells e.change.key (slice_index heads i)
+  pub whole : (c : ℕ) (e : Entry) → cells c ≡ Some e → (i : ℕ) × (i < length heads) × IsOfKey cells e.change.key (slice_index heads i)
 
 -- the record at a place has the key
 pub record IsAt (cells : Cells) (heads : List ℕ) (key : List ℕ) (i : ℕ) : Type 0 where
   pub in_range : i < length heads
-  pub of_key : IsOf cells key (slice_index heads i)
+  pub of_key : IsOfKey cells key (slice_index heads i)
 
 -- the key would go at a place: smaller keys before it, and greater keys from it on
 pub record IsGapFor (cells : Cells) (heads : List ℕ) (key : List ℕ) (i : ℕ) : Type 0 where

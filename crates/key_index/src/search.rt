@@ -1,7 +1,7 @@
 //! Looking up a key among the newest records, and a revision in the chain of a key.
 ghost use Rattle.std.specs.Prelude.{◌≡◌, ℕ, ◌+◌, ◌-◌, ◌*◌, ◌<◌, ◌≤◌, List, length, slice_index, Option, Some, None, IsSome, IfSome, MatchResult, MatchOption};
 ghost use Rattle.etcd_model.specs.Order.{key_cmp as cmp_of_keys};
-ghost use Rattle.key_index.specs.Entries.{Entry, IsChained, IsLast, IsNewest, IsOf, NoneUpTo};
+ghost use Rattle.key_index.specs.Entries.{Entry, IsChained, IsLast, IsNewest, IsOfKey, NoneUpTo};
 ghost use Rattle.key_index.specs.Index.{IsAt, IsGapFor, IsSpread};
 ghost use Rattle.key_index.specs.Sought.{IsThere, sought_key};
 
@@ -55,7 +55,7 @@ pub(crate) fn search<R: Records>(
 pub fn last_up_to<R: Records>(head: CellNo, records: &R, revision: u64) -> Option<CellNo>
     requires chained { IsChained (R.cells records.now) }
     requires newest { IsNewest (R.cells records.now) head }
-    ensures { (key : List ℕ) → IsOf (R.cells records.now) key head → MatchOption result (NoneUpTo (R.cells records.now) key revision) (IsLast (R.cells records.now) key revision) }
+    ensures { (key : List ℕ) → IsOfKey (R.cells records.now) key head → MatchOption result (NoneUpTo (R.cells records.now) key revision) (IsLast (R.cells records.now) key revision) }
 {
     let mut cell = head;
     while records.revision(cell) > revision {

@@ -8,7 +8,7 @@ use Rattle.std.proofs.lemmas.Bool.Decides.{nat_tests}
 use Rattle.etcd_model.specs.declared.state.Change.{Change}
 use Rattle.etcd_model.specs.History.{key_of}
 use Rattle.etcd_model.specs.Kept.{is_last_put}
-use Rattle.etcd_model.specs.Changes.{Recorded, entry_at, entry_of, change_of, changes_of, recorded, last, keeps, kept}
+use Rattle.etcd_model.specs.Changes.{Recorded, entry_at, entry_of, change_of, recorded_changes, recorded, last, keeps, kept}
 use Rattle.etcd_model.proofs.HistoryLaws.{changes_of as own_changes}
 use Rattle.model_laws.specs.Once.{IsOnce}
 use Rattle.model_laws.specs.Apart.{is_same_place, AreApart, is_at, is_last_up_to, ChangesApart, KeptApart, RecordedApart, KeptByLast}
@@ -35,7 +35,7 @@ from_entries [] h = tt
 from_entries (x ∷ xs) h = (from_place x xs h.0, from_entries xs h.1)
 
 pub changes_apart : ChangesApart
-changes_apart H once = from_entries (changes_of H) (subst Apart (sym (changes_are_entries H)) (entries_apart H.first H.revisions once))
+changes_apart H once = from_entries (recorded_changes H) (subst Apart (sym (changes_are_entries H)) (entries_apart H.first H.revisions once))
 
 pub kept_apart : KeptApart
 kept_apart c [] apart = tt

@@ -15,8 +15,8 @@ use Rattle.etcd_model.specs.History as history
 use Rattle.etcd_model.specs.declared.state.Change.{Change}
 use Rattle.etcd_model.specs.declared.state.Entry.{Entry}
 use Rattle.etcd_model.specs.declared.state.Change.TheVariants.{Put as Set, Delete as Del}
-use Rattle.etcd_model.specs.History.{key_of, entries, entries_after, current, kv}
-use Rattle.etcd_model.specs.Changes.{Recorded, OwnRow, entry_at, next_row, change_by, entry_of, last_by, is_up_to, last, live, rows, Rises, recorded, record_change, changes_of}
+use Rattle.etcd_model.specs.History.{key_of, entries, entries_after, current, kv, history_rows}
+use Rattle.etcd_model.specs.Changes.{Recorded, OwnRow, entry_at, next_row, change_by, entry_of, last_by, is_up_to, last, live, rows, Rises, recorded, record_change, recorded_changes}
 use Rattle.etcd_model.proofs.HistoryLaws.{is_past, next_by, entries-after, all_current, kv_by_changes}
 use Rattle.etcd_model.proofs.PutLaws.{rows_ascend, rows-interval, row_among, rows-one_key}
 use Rattle.model_laws.specs.Recording.{ChangesAreEntries, ChangesAfter, ChangesRise, ChangesUpToCurrent, ChangesOwnTheirRows, LastOfChanges, LiveOfChanges, RowsOfChanges, RowsAscend, RowsOfOneKey}
@@ -96,10 +96,10 @@ rises_of [] h = tt
 rises_of (x ∷ xs) h = (all_of (λ n. x.revision ≤ n) xs h.0, rises_of xs h.1)
 
 pub changes_rise : ChangesRise
-changes_rise H = rises_of (changes_of H) (subst EntriesRise (sym (changes_are_entries H)) (entries_rise H.first H.revisions))
+changes_rise H = rises_of (recorded_changes H) (subst EntriesRise (sym (changes_are_entries H)) (entries_rise H.first H.revisions))
 
 pub changes_up_to_current : ChangesUpToCurrent
-changes_up_to_current H = all_of (λ n. n ≤ current H) (changes_of H) (subst (AllByRecursion (λ (e : Entry). e.revision ≤ current H)) (sym (changes_are_entries H)) (recursion_from_All (λ (e : Entry). e.revision ≤ current H) (entries H) (all_current H)))
+changes_up_to_current H = all_of (λ n. n ≤ current H) (recorded_changes H) (subst (AllByRecursion (λ (e : Entry). e.revision ≤ current H)) (sym (changes_are_entries H)) (recursion_from_All (λ (e : Entry). e.revision ≤ current H) (entries H) (all_current H)))
 
 pub own_recorded : (r : ℕ) (row : Option KeyValue) (c : Change) → IfSome (next_row r row c) (λ w. w.key ≡ key_of c)
 own_recorded r row (Set key value lease) = refl
@@ -160,19 +160,19 @@ key_of-change_by key (Some row) = refl
 
 pub last_of_changes : LastOfChanges
 last_of_changes H key r =
-    ap (option_map entry_of) (last_alike (is_up_to key r) (λ x. is_past key r (entry_of x)) (changes_of H)
-    (all_each (λ (x : Recorded). is_up_to key r x ≡ is_past key r (entry_of x)) (λ x. ap (λ k. bytes_eq k key && nat_le x.revision r) (sym (key_of-change_by x.key x.row))) (changes_of H)))
-    ∙ last_map entry_of (is_past key r) (changes_of H) ∙ ap (last_by (is_past key r)) (changes_are_entries H) ∙ last_filter (is_past key r) (entries H)
+    ap (option_map entry_of) (last_alike (is_up_to key r) (λ x. is_past key r (entry_of x)) (recorded_changes H)
+    (all_each (λ (x : Recorded). is_up_to key r x ≡ is_past key r (entry_of x)) (λ x. ap (λ k. bytes_eq k key && nat_le x.revision r) (sym (key_of-change_by x.key x.row))) (recorded_changes H)))
+    ∙ last_map entry_of (is_past key r) (recorded_changes H) ∙ ap (last_by (is_past key r)) (changes_are_entries H) ∙ last_filter (is_past key r) (entries H)
 
 -- ---- rows
 
 pub rows_of_changes : RowsOfChanges
 rows_of_changes H interval r =
-    let xs = changes_of H in
+    let xs = recorded_changes H in
     let own = changes_own_their_rows H in
     rows_inside xs own r interval
     ∙ ap (filter (λ (row : KeyValue). interval row.key))
-    (rows_by_their_keys (rows every_key r xs) (history.rows H every_key r) (rows_rise xs own r every_key) (rows_ascend H every_key r) (λ key. row_found xs own r key ∙ live_of_changes H key r ∙ sym (row_among H key r)))
+    (rows_by_their_keys (rows every_key r xs) (history_rows H every_key r) (rows_rise xs own r every_key) (rows_ascend H every_key r) (λ key. row_found xs own r key ∙ live_of_changes H key r ∙ sym (row_among H key r)))
     ∙ sym (rows-interval H interval r)
 
 pub rows_ascend_by_key : RowsAscend

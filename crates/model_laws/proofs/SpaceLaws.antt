@@ -23,8 +23,8 @@ use Rattle.etcd_model.specs.Interval.{is_in, every_key}
 use Rattle.etcd_model.specs.Kept.{cost, cost_delete}
 use Rattle.etcd_model.specs.Operations.{kept_value, kept_lease, and_changes, pending_after, adds_any}
 use Rattle.etcd_model.specs.Leases.{attached}
-use Rattle.etcd_model.specs.Changes.{Recorded, OwnRow, keys, Rises, entry_at, change_by, change_of, changes_of, next_row, live, rows, recorded, record_change, record_revision, kept, keeps}
-use Rattle.etcd_model.specs.Store.{Store, IsStore, after, reads_of, record_cells, reserved_cells, cells, kept_store}
+use Rattle.etcd_model.specs.Changes.{Recorded, OwnRow, keys, Rises, entry_at, change_by, change_of, recorded_changes, next_row, live, rows, recorded, record_change, record_revision, kept, keeps}
+use Rattle.etcd_model.specs.Store.{Store, IsStore, after, reads_of, record_cells, reserved_cells, counted_cells, kept_store}
 use Rattle.etcd_model.specs.Held.{keep}
 use Rattle.etcd_model.proofs.OrderLaws.{bytes_eq-key_cmp}
 use Rattle.etcd_model.proofs.OnceLaws.{deletes_of}
@@ -138,7 +138,7 @@ pub rows_pending : (s : Store) (cs : List Change) → IsStore s → (interval : 
 rows_pending s [] is interval = same_rows s.changes s.changes is.own is.own s.current (s.current + 1) (live_next s is) interval
 rows_pending s (c ∷ cs) is interval = refl
 
-cells_pending : (s : Store) (cs : List Change) → IsStore s → cells (after s cs) ≡ cells_of (s.current + 1) (pend s cs)
+cells_pending : (s : Store) (cs : List Change) → IsStore s → counted_cells (after s cs) ≡ cells_of (s.current + 1) (pend s cs)
 cells_pending s [] is = ap (λ (rs : List KeyValue). record_cells s.changes + sum_by (λ (row : KeyValue). cost_delete row.key) rs) (rows_pending s [] is every_key)
 cells_pending s (c ∷ cs) is = refl
 
@@ -154,7 +154,7 @@ same_cost r row (Del key) = refl
 
 -- what a change takes, and what it gives back
 change_cells : (s : Store) (cs : List Change) (c : Change) → IsStore s
-    → cells (after s (cs ++ c ∷ [])) + room ((reads_of (after s cs)).row (key_of c)) ≡ cells (after s cs) + (cost c + room (next_row (s.current + 1) (live (key_of c) (s.current + 1) (pend s cs)) c))
+    → counted_cells (after s (cs ++ c ∷ [])) + room ((reads_of (after s cs)).row (key_of c)) ≡ counted_cells (after s cs) + (cost c + room (next_row (s.current + 1) (live (key_of c) (s.current + 1) (pend s cs)) c))
 change_cells s cs c is =
     let n = s.current + 1 in
     let y = recorded (pend s cs) (entry_at n c) in
@@ -187,15 +187,15 @@ still_live s cs r (z ∷ zs) above all =
     earlier : (a b : List ℕ) → key_cmp a b ≡ Less → bytes_eq a b ≡ false
     earlier a b e = bytes_eq-key_cmp a b ∙ ap is_eq e
 
-deletes_take_none : (s : Store) (cs : List Change) (rs : List KeyValue) → IsStore s → IsStrictlySortedBy by_key rs → AllLive s cs rs → cells (after s (cs ++ deletes_of rs)) ≡ cells (after s cs)
+deletes_take_none : (s : Store) (cs : List Change) (rs : List KeyValue) → IsStore s → IsStrictlySortedBy by_key rs → AllLive s cs rs → counted_cells (after s (cs ++ deletes_of rs)) ≡ counted_cells (after s cs)
 unfolding IsStrictlySortedBy
-deletes_take_none s cs [] is h all = ap (λ ds. cells (after s ds)) (append-nil cs)
+deletes_take_none s cs [] is h all = ap (λ ds. counted_cells (after s ds)) (append-nil cs)
 deletes_take_none s cs (r ∷ rs) is h all =
-    ap (λ ds. cells (after s ds)) (sym (append_assoc cs (Del r.key ∷ []) (deletes_of rs)))
+    ap (λ ds. counted_cells (after s ds)) (sym (append_assoc cs (Del r.key ∷ []) (deletes_of rs)))
     ∙ deletes_take_none s (cs ++ Del r.key ∷ []) rs is h.1 (still_live s cs r rs h.0 all.1)
     ∙ one
   where
-    one : cells (after s (cs ++ Del r.key ∷ [])) ≡ cells (after s cs)
+    one : counted_cells (after s (cs ++ Del r.key ∷ [])) ≡ counted_cells (after s cs)
     one = omega (arith, delete_takes_its_room s cs r.key is, ap room (row_pending s cs is r.key ∙ all.0))
 
 -- the rows of an interval are live
@@ -213,7 +213,7 @@ delete_takes_none s cs d is =
     let inside : List ℕ → Bool = is_in d.key d.range_end in
     let n = s.current + 1 in
     let rs = rows inside n (pend s cs) in
-    ap (λ (qs : List KeyValue). cells (after s (cs ++ deletes_of qs))) (rows_pending s cs is inside)
+    ap (λ (qs : List KeyValue). counted_cells (after s (cs ++ deletes_of qs))) (rows_pending s cs is inside)
     ∙ deletes_take_none s cs rs is (rows_rise (pend s cs) (own_pend s cs is) n inside) (all_live s cs is (filter inside (keys (pend s cs))))
 
 all_passed : (s : Store) (cs : List Change) (p : KeyValue → Bool) (rs : List KeyValue) → AllLive s cs rs → AllLive s cs (filter p rs)
@@ -226,24 +226,24 @@ finish_takes_none s id is =
     let held : KeyValue → Bool = λ row. int_eq row.lease id in
     let n = s.current + 1 in
     let rs = rows every n s.changes in
-    ap (λ (qs : List KeyValue). cells (after s (map Del (map (λ (row : KeyValue). row.key) (filter held qs))))) (rows_pending s [] is every)
-    ∙ ap (λ cs. cells (after s cs)) (map-map Del (λ (row : KeyValue). row.key) (filter held rs))
+    ap (λ (qs : List KeyValue). counted_cells (after s (map Del (map (λ (row : KeyValue). row.key) (filter held qs))))) (rows_pending s [] is every)
+    ∙ ap (λ cs. counted_cells (after s cs)) (map-map Del (λ (row : KeyValue). row.key) (filter held rs))
     ∙ deletes_take_none s [] (filter held rs) is (IsStrictlySortedBy-filter by_key held rs (rows_rise s.changes is.own n every)) (all_passed s [] held rs (all_live s [] is (filter every (keys s.changes))))
 
 pub op_takes_cells : OpTakesCells
-op_takes_cells s cs (RangeOp q) is = omega (arith, ap (λ ds. cells (after s ds)) (append-nil cs))
+op_takes_cells s cs (RangeOp q) is = omega (arith, ap (λ ds. counted_cells (after s ds)) (append-nil cs))
 op_takes_cells s cs (PutOp p) is =
     let now = (reads_of (after s cs)).row p.key in
     put_takes_cells s cs p.key (if p.ignore_value then kept_value now else p.value) (if p.ignore_lease then kept_lease now else p.lease) is
 op_takes_cells s cs (DeleteOp d) is = omega (arith, delete_takes_none s cs d is)
-op_takes_cells s cs Nested is = omega (arith, ap (λ ds. cells (after s ds)) (append-nil cs))
+op_takes_cells s cs Nested is = omega (arith, ap (λ ds. counted_cells (after s ds)) (append-nil cs))
 
-no_put : (s : Store) (cs : List Change) (ops : List Op) → IsStore s → adds_any ops ≡ false → cells (after s (pending_after (kept_store.look s) cs ops)) ≡ cells (after s cs)
+no_put : (s : Store) (cs : List Change) (ops : List Op) → IsStore s → adds_any ops ≡ false → counted_cells (after s (pending_after (kept_store.look s) cs ops)) ≡ counted_cells (after s cs)
 no_put s cs [] is h = refl
-no_put s cs (RangeOp q ∷ ops) is h = no_put s (cs ++ []) ops is h ∙ ap (λ ds. cells (after s ds)) (append-nil cs)
+no_put s cs (RangeOp q ∷ ops) is h = no_put s (cs ++ []) ops is h ∙ ap (λ ds. counted_cells (after s ds)) (append-nil cs)
 no_put s cs (PutOp p ∷ ops) is h = absurd (true≢false h)
 no_put s cs (DeleteOp d ∷ ops) is h = no_put s (and_changes (kept_store.look s) cs (DeleteOp d)) ops is h ∙ delete_takes_none s cs d is
-no_put s cs (Nested ∷ ops) is h = no_put s (cs ++ []) ops is h ∙ ap (λ ds. cells (after s ds)) (append-nil cs)
+no_put s cs (Nested ∷ ops) is h = no_put s (cs ++ []) ops is h ∙ ap (λ ds. counted_cells (after s ds)) (append-nil cs)
 
 pub no_put_takes_none : NoPutTakesNone
 no_put_takes_none s ops is h = no_put s [] ops is h
@@ -353,8 +353,8 @@ compact_is_store s r le is = record {
 
 pub keep_is_store : KeepIsStore
 keep_is_store H is = record {
-  rises = kept_rises H.compacted (changes_of H) (changes_rise H);
-  own = all_kept OwnRow H.compacted (changes_of H) (changes_own_their_rows H);
-  up = all_kept (λ x. x.revision ≤ current H) H.compacted (changes_of H) (changes_up_to_current H);
+  rises = kept_rises H.compacted (recorded_changes H) (changes_rise H);
+  own = all_kept OwnRow H.compacted (recorded_changes H) (changes_own_their_rows H);
+  up = all_kept (λ x. x.revision ≤ current H) H.compacted (recorded_changes H) (changes_up_to_current H);
   compacted = is.compacted;
 }

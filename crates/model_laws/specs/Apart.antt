@@ -4,7 +4,7 @@ use Rattle.std.specs.List.{AllByRecursion}
 use Rattle.std.specs.Str.{bytes_eq}
 use Rattle.etcd_model.specs.declared.state.History.{History}
 use Rattle.etcd_model.specs.declared.state.Change.{Change}
-use Rattle.etcd_model.specs.Changes.{Recorded, ChangesOnce, changes_of, record_revision, last, kept}
+use Rattle.etcd_model.specs.Changes.{Recorded, ChangesOnce, recorded_changes, record_revision, last, kept}
 use Rattle.model_laws.specs.Once.{IsOnce}
 
 -- two changes of one key at one revision
@@ -17,7 +17,7 @@ AreApart (x ∷ xs) = AllByRecursion (λ y. is_same_place x y ≡ false) xs × A
 
 -- so it is where no revision changes a key twice, of what a compaction keeps, and with one more revision of changes of different keys
 abbrev pub ChangesApart : Type 0
-ChangesApart = (H : History) → ChangesOnce H → AreApart (changes_of H)
+ChangesApart = (H : History) → ChangesOnce H → AreApart (recorded_changes H)
 
 abbrev pub KeptApart : Type 0
 KeptApart = (c : ℕ) (xs : List Recorded) → AreApart xs → AreApart (kept c xs)

@@ -4,12 +4,12 @@ use Rattle.etcd_types.specs.declared.step.Step.{Step}
 use Rattle.etcd_model.specs.History as history
 use Rattle.etcd_model.specs.declared.state.History.{History}
 use Rattle.etcd_model.specs.declared.state.Change.{Change}
-use Rattle.etcd_model.specs.History.{current}
+use Rattle.etcd_model.specs.History.{current, history_after}
 use Rattle.etcd_model.specs.declared.state.State.{State}
 use Rattle.etcd_model.specs.Machine as machine
-use Rattle.etcd_model.specs.Machine.{opening}
+use Rattle.etcd_model.specs.Machine.{opening, history_reads}
 use Rattle.etcd_model.specs.Stepping as stepping
-use Rattle.etcd_model.specs.Kept as over_history
+use Rattle.etcd_model.specs.Kept.{history_cells}
 use Rattle.etcd_model.specs.Store as store
 use Rattle.etcd_model.specs.Store.{Store, kept_store}
 use Rattle.etcd_model.specs.Held.{keep, empty_store, over, outcome_over, IsHistory, Holds}
@@ -17,13 +17,13 @@ use Rattle.etcd_model.specs.Held.{keep, empty_store, over, outcome_over, IsHisto
 -- ---- what is kept answers as the history does
 
 abbrev pub KeepAfter : Type 0
-KeepAfter = (H : History) (cs : List Change) → H.compacted ≤ current H → store.after (keep H) cs ≡ keep (history.after H cs)
+KeepAfter = (H : History) (cs : List Change) → H.compacted ≤ current H → store.after (keep H) cs ≡ keep (history_after H cs)
 
 abbrev pub KeepCompact : Type 0
 KeepCompact = (H : History) (r : ℕ) → H.compacted ≤ r → store.compact (keep H) r ≡ keep (machine.history.compact H r)
 
 abbrev pub KeepReads : Type 0
-KeepReads = (H : History) → H.compacted ≤ current H → store.reads_of (keep H) ≡ machine.reads_of H
+KeepReads = (H : History) → H.compacted ≤ current H → store.reads_of (keep H) ≡ history_reads H
 
 -- with changes pending too
 abbrev pub KeepLook : Type 0
@@ -37,7 +37,7 @@ abbrev pub KeepRowAt : Type 0
 KeepRowAt = (H : History) → H.compacted ≤ current H → kept_store.row_at (keep H) ≡ machine.history.row_at H
 
 abbrev pub KeepCells : Type 0
-KeepCells = (H : History) → IsHistory H → store.cells (keep H) ≡ over_history.cells H
+KeepCells = (H : History) → IsHistory H → store.counted_cells (keep H) ≡ history_cells H
 
 -- ---- the steps
 

@@ -3,8 +3,8 @@ use Rattle.std.specs.Prelude.{◌≡◌, ℕ, ◌<◌, ◌≤◌, Bool, List, �
 use Rattle.std.specs.List.{AllByRecursion}
 use Rattle.etcd_model.specs.declared.state.History.{History}
 use Rattle.etcd_model.specs.declared.state.Entry.{Entry}
-use Rattle.etcd_model.specs.Kept as over_history
-use Rattle.etcd_model.specs.Changes.{Recorded, OwnRow, ChangesOnce, entry_of, changes_of, recorded, live, rows, since, kept, Rises}
+use Rattle.etcd_model.specs.Kept.{kept_entries}
+use Rattle.etcd_model.specs.Changes.{Recorded, OwnRow, ChangesOnce, entry_of, recorded_changes, recorded, live, rows, since, kept, Rises}
 
 -- changes after the compaction are kept as they come
 abbrev pub KeptOfAppended : Type 0
@@ -35,4 +35,4 @@ RecordedOverKept = (c : ℕ) (xs : List Recorded) (e : Entry) → c ≤ e.revisi
 
 -- what is kept of the recorded changes is what is kept of the history, where no revision changes a key twice
 abbrev pub KeptOfChanges : Type 0
-KeptOfChanges = (H : History) → ChangesOnce H → map entry_of (kept H.compacted (changes_of H)) ≡ over_history.kept H
+KeptOfChanges = (H : History) → ChangesOnce H → map entry_of (kept H.compacted (recorded_changes H)) ≡ kept_entries H

@@ -6,7 +6,7 @@ use Rattle.etcd_types.specs.Limits.{last_moment}
 use Rattle.etcd_model.specs.declared.state.Lease.{Lease}
 use Rattle.etcd_model.specs.Operations.{has_lease}
 use Rattle.etcd_model.specs.declared.state.State.{State}
-use Rattle.etcd_model.specs.Leases.{free_id, run_out, end_cmp, with_lease, finish, tick}
+use Rattle.etcd_model.specs.Leases.{free_id, run_out, end_cmp, put_lease, finish, tick}
 use Rattle.etcd_model.specs.Store.{Store, kept_store}
 use Rattle.etcd_model.specs.Held.{by_id}
 use Rattle.model_laws.specs.Recording.{IsIn}
@@ -24,17 +24,17 @@ FreeIdWithin = (counter : ℕ) (leases : List Lease) → free_id counter leases 
 
 -- a grant adds one lease, a renewal none, and one goes at a time
 abbrev pub GrantAddsOne : Type 0
-GrantAddsOne = (moment : ℕ) (leases : List Lease) (id : ℤ) (ttl : ℕ) → has_lease leases id ≡ false → length (with_lease moment leases id ttl) ≡ length leases + 1
+GrantAddsOne = (moment : ℕ) (leases : List Lease) (id : ℤ) (ttl : ℕ) → has_lease leases id ≡ false → length (put_lease moment leases id ttl) ≡ length leases + 1
 
 abbrev pub RenewAddsNone : Type 0
-RenewAddsNone = (moment : ℕ) (leases : List Lease) (id : ℤ) (ttl : ℕ) → IsStrictlySortedBy by_id leases → has_lease leases id ≡ true → length (with_lease moment leases id ttl) ≡ length leases
+RenewAddsNone = (moment : ℕ) (leases : List Lease) (id : ℤ) (ttl : ℕ) → IsStrictlySortedBy by_id leases → has_lease leases id ≡ true → length (put_lease moment leases id ttl) ≡ length leases
 
 abbrev pub FinishTakesOne : Type 0
 FinishTakesOne = (leases : List Lease) (id : ℤ) → IsStrictlySortedBy by_id leases → has_lease leases id ≡ true → length (filter (λ l. not (int_eq l.id id)) leases) + 1 ≡ length leases
 
 -- leases stay in order of their IDs when one is granted or renewed, and when one goes
 abbrev pub WithLeaseAscends : Type 0
-WithLeaseAscends = (moment : ℕ) (leases : List Lease) (id : ℤ) (ttl : ℕ) → IsStrictlySortedBy by_id leases → IsStrictlySortedBy by_id (with_lease moment leases id ttl)
+WithLeaseAscends = (moment : ℕ) (leases : List Lease) (id : ℤ) (ttl : ℕ) → IsStrictlySortedBy by_id leases → IsStrictlySortedBy by_id (put_lease moment leases id ttl)
 
 abbrev pub WithoutLeaseAscends : Type 0
 WithoutLeaseAscends = (leases : List Lease) (id : ℤ) → IsStrictlySortedBy by_id leases → IsStrictlySortedBy by_id (filter (λ l. not (int_eq l.id id)) leases)

@@ -4,7 +4,7 @@ use Rattle.std.specs.List.{AllByRecursion}
 use Rattle.etcd_types.specs.declared.key_value.KeyValue.{KeyValue}
 use Rattle.etcd_model.specs.declared.state.History.{History}
 use Rattle.etcd_model.specs.declared.state.Change.{Change}
-use Rattle.etcd_model.specs.Changes.{Recorded, ChangesOnce, changes_of, record_revision, live, kept}
+use Rattle.etcd_model.specs.Changes.{Recorded, ChangesOnce, recorded_changes, record_revision, live, kept}
 use Rattle.model_laws.specs.Once.{IsOnce}
 
 -- a row that was last changed at a revision, created by then, and has no more versions than that
@@ -18,7 +18,7 @@ HasNumbers x = IfSome x.row (λ row. IsWithin x.revision row)
 
 -- so it is of each recorded change, where no revision changes a key twice
 abbrev pub ChangesHaveNumbers : Type 0
-ChangesHaveNumbers = (H : History) → ChangesOnce H → AllByRecursion HasNumbers (changes_of H)
+ChangesHaveNumbers = (H : History) → ChangesOnce H → AllByRecursion HasNumbers (recorded_changes H)
 
 -- of what a compaction keeps, and with one more revision
 abbrev pub KeptHaveNumbers : Type 0

@@ -11,37 +11,37 @@ use Rattle.etcd_model.specs.Interval.{is_in}
 use Rattle.etcd_model.specs.History as history
 use Rattle.etcd_model.specs.declared.state.History.{History}
 use Rattle.etcd_model.specs.declared.state.Change.{Change}
-use Rattle.etcd_model.specs.History.{entries, current, last_change, kv}
-use Rattle.etcd_model.specs.Changes.{Recorded, OwnRow, entry_of, changes_of, record_revision, is_up_to, last, live, rows, Rises}
+use Rattle.etcd_model.specs.History.{entries, current, last_change, kv, history_after, history_rows}
+use Rattle.etcd_model.specs.Changes.{Recorded, OwnRow, entry_of, recorded_changes, record_revision, is_up_to, last, live, rows, Rises}
 
 -- with their revisions alone they are the changes of the history, in order
 abbrev pub ChangesAreEntries : Type 0
-ChangesAreEntries = (H : History) → map entry_of (changes_of H) ≡ entries H
+ChangesAreEntries = (H : History) → map entry_of (recorded_changes H) ≡ entries H
 
 -- a revision more is recorded after those before it
 abbrev pub ChangesAfter : Type 0
-ChangesAfter = (H : History) (c : Change) (cs : List Change) → changes_of (history.after H (c ∷ cs)) ≡ record_revision (current H + 1) (changes_of H) (c ∷ cs)
+ChangesAfter = (H : History) (c : Change) (cs : List Change) → recorded_changes (history_after H (c ∷ cs)) ≡ record_revision (current H + 1) (recorded_changes H) (c ∷ cs)
 
 -- in order of their revisions, none above the current one, each row with its own key
 abbrev pub ChangesRise : Type 0
-ChangesRise = (H : History) → Rises (changes_of H)
+ChangesRise = (H : History) → Rises (recorded_changes H)
 
 abbrev pub ChangesUpToCurrent : Type 0
-ChangesUpToCurrent = (H : History) → AllByRecursion (λ x. x.revision ≤ current H) (changes_of H)
+ChangesUpToCurrent = (H : History) → AllByRecursion (λ x. x.revision ≤ current H) (recorded_changes H)
 
 abbrev pub ChangesOwnTheirRows : Type 0
-ChangesOwnTheirRows = (H : History) → AllByRecursion OwnRow (changes_of H)
+ChangesOwnTheirRows = (H : History) → AllByRecursion OwnRow (recorded_changes H)
 
 -- the last change of a key among them is its last change
 abbrev pub LastOfChanges : Type 0
-LastOfChanges = (H : History) (key : List ℕ) (r : ℕ) → option_map entry_of (last key r (changes_of H)) ≡ last_change H key r
+LastOfChanges = (H : History) (key : List ℕ) (r : ℕ) → option_map entry_of (last key r (recorded_changes H)) ≡ last_change H key r
 
 -- what a key shows among them is its key-value
 abbrev pub LiveOfChanges : Type 0
-LiveOfChanges = (H : History) (key : List ℕ) (r : ℕ) → live key r (changes_of H) ≡ kv H key r
+LiveOfChanges = (H : History) (key : List ℕ) (r : ℕ) → live key r (recorded_changes H) ≡ kv H key r
 
 abbrev pub RowsOfChanges : Type 0
-RowsOfChanges = (H : History) (interval : List ℕ → Bool) (r : ℕ) → rows interval r (changes_of H) ≡ history.rows H interval r
+RowsOfChanges = (H : History) (interval : List ℕ → Bool) (r : ℕ) → rows interval r (recorded_changes H) ≡ history_rows H interval r
 
 -- ---- the last change of a key, among those that a store finds
 
@@ -69,11 +69,11 @@ by_key a b = key_cmp a.key b.key
 
 -- the rows of a history strictly ascend by their keys
 abbrev pub RowsAscend : Type 0
-RowsAscend = (H : History) (interval : List ℕ → Bool) (r : ℕ) → IsStrictlySortedBy by_key (history.rows H interval r)
+RowsAscend = (H : History) (interval : List ℕ → Bool) (r : ℕ) → IsStrictlySortedBy by_key (history_rows H interval r)
 
 -- the rows of one key are its key-value, if it is live
 abbrev pub RowsOfOneKey : Type 0
-RowsOfOneKey = (H : History) (key : List ℕ) (r : ℕ) → history.rows H (is_in key []) r ≡ option_to_list (kv H key r)
+RowsOfOneKey = (H : History) (key : List ℕ) (r : ℕ) → history_rows H (is_in key []) r ≡ option_to_list (kv H key r)
 
 -- rows that strictly ascend are one list where each key has one row in both, or none
 abbrev pub RowsByTheirKeys : Type 0

@@ -3,7 +3,7 @@ use Rattle.std.specs.Prelude.{◌≡◌, ℕ, ◌+◌, ◌≤◌, List, length, 
 use Rattle.etcd_types.specs.declared.step.Step.{Step}
 use Rattle.etcd_types.specs.Limits.{last_revision, last_lease_id, watch_slots}
 use Rattle.etcd_model.specs.declared.state.History.{History}
-use Rattle.etcd_model.specs.History.{current, rows}
+use Rattle.etcd_model.specs.History.{current, history_rows}
 use Rattle.etcd_model.specs.Interval.{every_key}
 use Rattle.etcd_model.specs.declared.state.State.{State}
 use Rattle.etcd_model.specs.Tenant.{used}
@@ -63,7 +63,7 @@ RunWithinQuota = (S : State History) (steps : List Step) → IsHistory S.store �
 -- The revisions and the live keys together stay within the last revision at which a write begins and such a bound on the cells:
 -- a write ends at that revision at most, and each further one, when leases end, takes a live key.
 abbrev pub FitsRevisions : ℕ → State History → Type 0
-FitsRevisions bound S = current S.store + length (rows S.store every_key (current S.store)) ≤ last_revision + bound
+FitsRevisions bound S = current S.store + length (history_rows S.store every_key (current S.store)) ≤ last_revision + bound
 
 abbrev pub StepFitsRevisions : Type 0
 StepFitsRevisions = (S : State History) (step : Step) (bound : ℕ) → IsHistory S.store → HasLeases S → S.quota ≤ bound → used history S ≤ bound → FitsRevisions bound S → FitsRevisions bound (machine S step).state

@@ -16,7 +16,7 @@ use Rattle.etcd_model.specs.Tenant.{used}
 use Rattle.etcd_model.specs.Leases.{attached, finish}
 use Rattle.etcd_model.specs.Interval.{every_key}
 use Rattle.etcd_model.specs.Changes.{rows}
-use Rattle.etcd_model.specs.Store.{Store, IsStore, after, compact, reads_of, record_cells, reserved_cells, cells, kept_store}
+use Rattle.etcd_model.specs.Store.{Store, IsStore, after, compact, reads_of, record_cells, reserved_cells, counted_cells, kept_store}
 use Rattle.etcd_model.specs.Held.{keep, IsHistory, by_id}
 
 -- ---- stores as appends and compactions make them
@@ -44,16 +44,16 @@ room o = if_row (λ row. cost_delete row.key) o
 -- A put takes its record, and room for a delete of its key where none was held, with some changes before it in its revision.
 abbrev pub PutTakesCells : Type 0
 PutTakesCells = (s : Store) (cs : List Change) (key value : List ℕ) (lease : ℤ) → IsStore s
-    → cells (after s (cs ++ Set key value lease ∷ [])) + room ((reads_of (after s cs)).row key) ≡ cells (after s cs) + (cost_put key value + cost_delete key)
+    → counted_cells (after s (cs ++ Set key value lease ∷ [])) + room ((reads_of (after s cs)).row key) ≡ counted_cells (after s cs) + (cost_put key value + cost_delete key)
 
 -- a delete takes the room that was held for it, where its key is live
 abbrev pub DeleteTakesItsRoom : Type 0
 DeleteTakesItsRoom = (s : Store) (cs : List Change) (key : List ℕ) → IsStore s
-    → cells (after s (cs ++ Del key ∷ [])) + room ((reads_of (after s cs)).row key) ≡ cells (after s cs) + cost_delete key
+    → counted_cells (after s (cs ++ Del key ∷ [])) + room ((reads_of (after s cs)).row key) ≡ counted_cells (after s cs) + cost_delete key
 
 -- so a deleterange takes no cell
 abbrev pub DeleteTakesNone : Type 0
-DeleteTakesNone = (s : Store) (cs : List Change) (d : DeleteReq) → IsStore s → cells (after s (and_changes (kept_store.look s) cs (DeleteOp d))) ≡ cells (after s cs)
+DeleteTakesNone = (s : Store) (cs : List Change) (d : DeleteReq) → IsStore s → counted_cells (after s (and_changes (kept_store.look s) cs (DeleteOp d))) ≡ counted_cells (after s cs)
 
 -- An operation of a transaction reads what is pending: what it takes of the cells, and what it gives back.
 abbrev pub taken_by : Reads → Op → ℕ
@@ -66,15 +66,15 @@ given_by R op = 0
 
 abbrev pub OpTakesCells : Type 0
 OpTakesCells = (s : Store) (cs : List Change) (op : Op) → IsStore s
-    → cells (after s (and_changes (kept_store.look s) cs op)) + given_by (kept_store.look s cs) op ≡ cells (after s cs) + taken_by (kept_store.look s cs) op
+    → counted_cells (after s (and_changes (kept_store.look s) cs op)) + given_by (kept_store.look s cs) op ≡ counted_cells (after s cs) + taken_by (kept_store.look s cs) op
 
 -- nor do operations of which none is a put
 abbrev pub NoPutTakesNone : Type 0
-NoPutTakesNone = (s : Store) (ops : List Op) → IsStore s → adds_any ops ≡ false → cells (after s (pending_after (kept_store.look s) [] ops)) ≡ cells s
+NoPutTakesNone = (s : Store) (ops : List Op) → IsStore s → adds_any ops ≡ false → counted_cells (after s (pending_after (kept_store.look s) [] ops)) ≡ counted_cells s
 
 -- nor does the end of a lease, which deletes the keys that it holds
 abbrev pub FinishTakesNone : Type 0
-FinishTakesNone = (s : Store) (id : ℤ) → IsStore s → cells (after s (map Del (attached (reads_of s) id))) ≡ cells s
+FinishTakesNone = (s : Store) (id : ℤ) → IsStore s → counted_cells (after s (map Del (attached (reads_of s) id))) ≡ counted_cells s
 
 -- and each of those keys is live no more
 abbrev pub FinishTakesKeys : Type 0
@@ -88,7 +88,7 @@ FinishFreesACell = (t : State Store) (id : ℤ) → IsStore t.store → IsStrict
 
 -- and a compaction takes none
 abbrev pub CompactionTakesNone : Type 0
-CompactionTakesNone = (s : Store) (r : ℕ) → IsStore s → s.compacted ≤ r → r ≤ s.current → cells (compact s r) ≤ cells s
+CompactionTakesNone = (s : Store) (r : ℕ) → IsStore s → s.compacted ≤ r → r ≤ s.current → counted_cells (compact s r) ≤ counted_cells s
 
 -- the cells of the records are those in use without the reserved ones
 abbrev pub RecordsAreUsedCells : Type 0

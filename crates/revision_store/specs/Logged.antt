@@ -6,7 +6,7 @@ use Rattle.std.specs.FinMap as map
 use Rattle.std.specs.Coded.{Coded, code_by, coded×, coded_ℕ}
 use Rattle.cell_arena.specs.Chain.{Record}
 use Rattle.cell_arena.specs.Held.{Held, record_code}
-use Rattle.etcd_model.specs.Changes.{Recorded as Change, Rises}
+use Rattle.etcd_model.specs.Changes.{Recorded, Rises}
 use Rattle.etcd_model.specs.Store.{record_cells}
 use Rattle.key_index.specs.Entries.{Cells, IsChained, change_at}
 use Rattle.key_index.specs.Index.{Heads, IsIndexOf}
@@ -17,7 +17,7 @@ use Rattle.revision_store.specs.Recorded.{cells_of, leases_of, AreCounted, ArePl
 -- The changes in order, the records by their first cells, how many cells the leases take, how many cells
 -- are free, and how many segments are reserved and drawn.
 pub record LogState : Type 0 where
-  pub changes : List Change
+  pub changes : List Recorded
   pub records : FinMap nat_cmp Record
   pub lease_cells : ℕ
   pub free : ℕ
@@ -26,7 +26,7 @@ pub record LogState : Type 0 where
 
 abbrev pub log_code : Coded LogState
 log_code =
-    code_by (List Change × (FinMap nat_cmp Record × ((ℕ × ℕ) × (ℕ × ℕ)))) (coded× changes_code (coded× (map.code coded_ℕ record_code) (coded× (coded× coded_ℕ coded_ℕ) (coded× coded_ℕ coded_ℕ))))
+    code_by (List Recorded × (FinMap nat_cmp Record × ((ℕ × ℕ) × (ℕ × ℕ)))) (coded× changes_code (coded× (map.code coded_ℕ record_code) (coded× (coded× coded_ℕ coded_ℕ) (coded× coded_ℕ coded_ℕ))))
     (λ l. (l.changes, (l.records, ((l.lease_cells, l.free), (l.reserved, l.drawn)))))
     (λ p. record { changes = p.0; records = p.1.0; lease_cells = p.1.1.0.0; free = p.1.1.0.1; reserved = p.1.1.1.0; drawn = p.1.1.1.1 })
     (λ _. refl)
@@ -50,4 +50,4 @@ used_in log = 64 * log.reserved - log.free
 
 -- each change stays under its cell
 abbrev pub AllStay : Cells → Cells → Type 0
-AllStay old new = (c : ℕ) (x : Change) → change_at old c ≡ Some x → change_at new c ≡ Some x
+AllStay old new = (c : ℕ) (x : Recorded) → change_at old c ≡ Some x → change_at new c ≡ Some x

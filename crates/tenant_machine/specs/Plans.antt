@@ -40,7 +40,7 @@ pub record FitsWrite (store : StoreState) (writes : List Write) (used : ℕ) : T
   pub plan : IsPlanFor store writes
   pub space : HasSpace store writes
   pub revisions : store.kept.current + 1 < 2 ^ 63
-  pub counted : used ≡ kept.cells (written store writes)
+  pub counted : used ≡ kept.counted_cells (written store writes)
   pub within : used ≤ 64 * store.reserved
 
 -- a compaction that is one
