@@ -9,7 +9,7 @@ use crate::log::Log;
 use crate::plan::{Plan, Write};
 use crate::store::Store;
 use etcd_types::limits::CELL_BYTES;
-use quota_alarm::{cost_delete, cost_put};
+use store_words::{cost_delete, cost_put};
 
 impl Store {
     /// How many cells are free.
