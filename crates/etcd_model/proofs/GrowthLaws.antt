@@ -17,12 +17,12 @@ use Rattle.etcd_types.specs.declared.reply.Reply.TheVariants.{Canceled}
 use Rattle.etcd_types.specs.Limits.{last_moment}
 use Rattle.etcd_model.specs.declared.state.Lease.{Lease}
 use Rattle.etcd_model.specs.declared.state.Watch.{Watch as Watching}
-use Rattle.etcd_model.specs.History.{History, Change, Del, Entry, current, after}
+use Rattle.etcd_model.specs.History.{History, Change, Del, Entry, current, history_after}
 use Rattle.etcd_model.specs.Fields.{fields}
 use Rattle.etcd_model.specs.Operations.{branch, first_refusal}
 use Rattle.etcd_model.specs.Tenant.{Outcome, reads, header, used}
 use Rattle.etcd_model.specs.Leases.{attached, finish, run_out, lease_at}
-use Rattle.etcd_model.specs.Watches.{with_slot, created, given, taken, free_slot, first_of, event_of}
+use Rattle.etcd_model.specs.Watches.{with_slot, created, events_given, taken, free_slot, first_of, event_of}
 use Rattle.etcd_model.specs.Stepping.{adds, may_add, look_up, early, decided, outcome, pending, within_quota, unless_alarmed, kept_alive, alarm_of}
 use Rattle.etcd_model.specs.Machine.{State, history, machine, before_space}
 use Rattle.etcd_model.proofs.HistoryLaws.{current-after}
@@ -70,12 +70,12 @@ after_step P S step same alarmed done = checked (early history S step)
 pub record Writes (H K : History) : Type 0 where
   pub changes : List Change
   pub first : K.first ≡ H.first
-  pub revisions : K.revisions ≡ (after H changes).revisions
+  pub revisions : K.revisions ≡ (history_after H changes).revisions
 
 writes_none : (H K : History) → K.first ≡ H.first → K.revisions ≡ H.revisions → Writes H K
 writes_none H K f h = record { changes = []; first = f; revisions = h }
 
-writes : (H : History) (cs : List Change) → Writes H (after H cs)
+writes : (H : History) (cs : List Change) → Writes H (history_after H cs)
 writes H [] = writes_none H H refl refl
 writes H (c ∷ cs) = record { changes = c ∷ cs; first = refl; revisions = refl }
 
@@ -86,7 +86,7 @@ created_store : (S : State History) (q : WatchReq) (o : Option ℕ) → (created
 created_store S q None = refl
 created_store S q (Some i) = refl
 
-given_store : (S : State History) (i : ℕ) (w : Watching) (es : List Entry) (told : List Event) → (given history S i w es told).state.store ≡ S.store
+given_store : (S : State History) (i : ℕ) (w : Watching) (es : List Entry) (told : List Event) → (events_given history S i w es told).state.store ≡ S.store
 given_store S i w es [] = refl
 given_store S i w es (e ∷ more) = refl
 
@@ -98,7 +98,7 @@ taken_store S i (Some (Some w)) =
     let told = map (λ (e : Entry). event_of history S w e e.change) (first_of es) in
     chosen (λ T. T.store ≡ S.store) (nat_lt w.next S.store.compacted)
     (record { state = with_slot history S i None; reply = Canceled (header history S) w.id (pos S.store.compacted) })
-    (given history S i w es told) (λ e. refl) (given_store S i w es told)
+    (events_given history S i w es told) (λ e. refl) (given_store S i w es told)
 
 kept_alive_store : (S : State History) (id : ℤ) (o : Option Lease) → (kept_alive history S id o).state.store ≡ S.store
 kept_alive_store S id None = refl
@@ -152,7 +152,7 @@ outcome_writes S step h = kept S (outcome history S step).state (store_stays S s
 pub machine_writes : (S : State History) (step : Step) → is_tick step ≡ false → Writes S.store (machine S step).state.store
 machine_writes S step h = after_step (λ T. Writes S.store T.store) S step (writes S.store []) (λ e. writes S.store []) (λ e. outcome_writes S step h)
 
-current_of : (H K : History) (cs : List Change) → K.first ≡ H.first → K.revisions ≡ (after H cs).revisions → current K ≤ current H + 1
+current_of : (H K : History) (cs : List Change) → K.first ≡ H.first → K.revisions ≡ (history_after H cs).revisions → current K ≤ current H + 1
 current_of H K [] f h = omega (arith, f, ap length h)
 current_of H K (c ∷ cs) f h = omega (arith, f, ap length h, current-after H c cs)
 
@@ -167,7 +167,7 @@ pub record Extends (H K : History) : Type 0 where
   pub first : K.first ≡ H.first
   pub revisions : K.revisions ≡ H.revisions ++ more
 
-extends_with : (H K : History) (cs : List Change) → K.first ≡ H.first → K.revisions ≡ (after H cs).revisions → Extends H K
+extends_with : (H K : History) (cs : List Change) → K.first ≡ H.first → K.revisions ≡ (history_after H cs).revisions → Extends H K
 extends_with H K [] f h = record { more = []; first = f; revisions = h ∙ sym (append-nil H.revisions) }
 extends_with H K (c ∷ cs) f h = record { more = (c ∷ cs) ∷ []; first = f; revisions = h }
 

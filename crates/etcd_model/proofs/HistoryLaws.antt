@@ -11,7 +11,7 @@ use Rattle.std.proofs.lemmas.List.Sums.{fold-append}
 use Rattle.std.specs.Cmp.Lexicographic.{bytes_decides}
 use Rattle.etcd_types.specs.declared.key_value.KeyValue.{KeyValue}
 pub use Rattle.etcd_model.specs.Changes.{entry_at, version_of, created_at, next_row}
-use Rattle.etcd_model.specs.History.{History, Change, Set, Del, Entry, key_of, value_of, lease_of, current, entries, entries_after, after, past, go_on, latest, shown_by, kv}
+use Rattle.etcd_model.specs.History.{History, Change, Set, Del, Entry, key_of, value_of, lease_of, current, entries, entries_after, history_after, past, go_on, latest, shown_by, kv}
 
 -- a change of this key, up to a revision
 abbrev pub is_past : List ℕ → ℕ → Entry → Bool
@@ -23,7 +23,7 @@ changes_of key cs = filter (λ c. bytes_eq (key_of c) key) cs
 
 -- ---- revisions
 
-pub current-after : (H : History) (c : Change) (cs : List Change) → current (after H (c ∷ cs)) ≡ current H + 1
+pub current-after : (H : History) (c : Change) (cs : List Change) → current (history_after H (c ∷ cs)) ≡ current H + 1
 current-after H c cs = omega (arith, length-append H.revisions ((c ∷ cs) ∷ []))
 
 pub entries_after-append : (r : ℕ) (xs ys : List (List Change)) → entries_after r (xs ++ ys) ≡ entries_after r xs ++ entries_after (r + length xs) ys
@@ -34,7 +34,7 @@ entries_after-append r (x ∷ xs) ys =
     ∙ sym (append_assoc (map (entry_at (r + 1)) x) (entries_after (r + 1) xs) (entries_after (r + length (x ∷ xs)) ys))
 
 -- the changes of one more revision come last
-pub entries-after : (H : History) (cs : List Change) → entries (after H cs) ≡ entries H ++ map (entry_at (current H + 1)) cs
+pub entries-after : (H : History) (cs : List Change) → entries (history_after H cs) ≡ entries H ++ map (entry_at (current H + 1)) cs
 entries-after H [] = sym (append-nil (entries H))
 entries-after H (c ∷ cs) = entries_after-append H.first H.revisions ((c ∷ cs) ∷ []) ∙ ap (λ es. entries H ++ es) (append-nil (map (entry_at (current H + 1)) (c ∷ cs)))
 
@@ -73,7 +73,7 @@ newest key r (c ∷ cs) = step (bytes_eq (key_of c) key) (nat_le r r) (le-leb r 
     step true t is more = ap (λ b. cond b (entry_at r c ∷ filter (is_past key r) (map (entry_at r) cs)) (filter (is_past key r) (map (entry_at r) cs))) is ∙ ap (λ es. entry_at r c ∷ es) more
     step false t is more = more
 
-pub past-after : (H : History) (cs : List Change) (key : List ℕ) → past (after H cs) key (current H + 1) ≡ past H key (current H) ++ map (entry_at (current H + 1)) (changes_of key cs)
+pub past-after : (H : History) (cs : List Change) (key : List ℕ) → past (history_after H cs) key (current H + 1) ≡ past H key (current H) ++ map (entry_at (current H + 1)) (changes_of key cs)
 past-after H cs key =
     let p = is_past key (current H + 1) in
     ap (filter p) (entries-after H cs) ∙ filter-append p (entries H) (map (entry_at (current H + 1)) cs)
@@ -109,17 +109,17 @@ pub kv_by_changes : (H : History) (key : List ℕ) (r : ℕ) → kv H key r ≡ 
 kv_by_changes H key r = shown_fold (past H key r) []
 
 -- after one more revision a key is what that revision's changes of it make of it
-pub kv-after : (H : History) (cs : List Change) (key : List ℕ) → kv (after H cs) key (current H + 1) ≡ fold (next_row (current H + 1)) (kv H key (current H)) (changes_of key cs)
+pub kv-after : (H : History) (cs : List Change) (key : List ℕ) → kv (history_after H cs) key (current H + 1) ≡ fold (next_row (current H + 1)) (kv H key (current H)) (changes_of key cs)
 kv-after H cs key =
-    kv_by_changes (after H cs) key (current H + 1) ∙ ap (fold next_by None) (past-after H cs key)
+    kv_by_changes (history_after H cs) key (current H + 1) ∙ ap (fold next_by None) (past-after H cs key)
     ∙ fold-append next_by None (past H key (current H)) (map (entry_at (current H + 1)) (changes_of key cs))
     ∙ ap (λ row. fold next_by row (map (entry_at (current H + 1)) (changes_of key cs))) (sym (kv_by_changes H key (current H)))
     ∙ fold-map next_by (entry_at (current H + 1)) (kv H key (current H)) (changes_of key cs)
 
 -- at the current revision, also where there is no change and so no revision
-pub kv-current_after : (H : History) (cs : List Change) (key : List ℕ) → kv (after H cs) key (current (after H cs)) ≡ fold (next_row (current H + 1)) (kv H key (current H)) (changes_of key cs)
+pub kv-current_after : (H : History) (cs : List Change) (key : List ℕ) → kv (history_after H cs) key (current (history_after H cs)) ≡ fold (next_row (current H + 1)) (kv H key (current H)) (changes_of key cs)
 kv-current_after H [] key = refl
-kv-current_after H (c ∷ cs) key = ap (kv (after H (c ∷ cs)) key) (current-after H c cs) ∙ kv-after H (c ∷ cs) key
+kv-current_after H (c ∷ cs) key = ap (kv (history_after H (c ∷ cs)) key) (current-after H c cs) ∙ kv-after H (c ∷ cs) key
 
 -- ---- what a row shows
 

@@ -9,7 +9,7 @@ use Rattle.std.proofs.lemmas.List.Sums.{fold-append}
 use Rattle.etcd_types.specs.declared.step.Step.{Step}
 use Rattle.etcd_types.specs.declared.key_value.KeyValue.{KeyValue}
 use Rattle.etcd_model.specs.Order.{put_in, in_order, key_cmp}
-use Rattle.etcd_model.specs.History.{History, Change, Entry, key_of, current, entries, entries_after, past, generation, shown_by, kv, keys, rows}
+use Rattle.etcd_model.specs.History.{History, Change, Entry, key_of, current, entries, entries_after, past, generation, shown_by, kv, history_keys, history_rows}
 use Rattle.etcd_model.specs.Interval.{every_key}
 use Rattle.etcd_model.specs.Machine.{State, machine}
 use Rattle.etcd_model.proofs.RowLaws.{rows-more_keys}
@@ -46,27 +46,27 @@ module _ (H K : History) (e : Extends H K) where
   pub kv_stays : (key : List ℕ) (r : ℕ) → r ≤ current H → kv K key r ≡ kv H key r
   kv_stays key r h = ap (λ es. shown_by (generation es)) (past_stays key r h)
 
-  keys-extends : keys K ≡ fold (put_in key_cmp) (keys H) (map (λ (x : Entry). key_of x.change) (entries_after (current H) e.more))
+  keys-extends : history_keys K ≡ fold (put_in key_cmp) (history_keys H) (map (λ (x : Entry). key_of x.change) (entries_after (current H) e.more))
   keys-extends =
       let key_at : Entry → List ℕ = λ x. key_of x.change in
       let later = entries_after (current H) e.more in
       ap (λ es. in_order key_cmp (map key_at es)) entries-extends ∙ ap (in_order key_cmp) (map-append key_at (entries H) later)
       ∙ fold-append (put_in key_cmp) [] (map key_at (entries H)) (map key_at later)
 
-  every_row_stays : (r : ℕ) → r ≤ current H → rows K every_key r ≡ rows H every_key r
+  every_row_stays : (r : ℕ) → r ≤ current H → history_rows K every_key r ≡ history_rows H every_key r
   every_row_stays r h =
       let look : List ℕ → Option KeyValue = λ k. kv H k r in
-      ap (filter_map (λ k. kv K k r)) (every_one (keys K)) ∙ (λ i. filter_map (λ k. kv_stays k r h i) (keys K)) ∙ ap (filter_map look) keys-extends
-      ∙ rows-more_keys look (map (λ (x : Entry). key_of x.change) (entries_after (current H) e.more)) (keys H) (keys_ascend H) (λ key none. never_changed H key r none)
-      ∙ ap (filter_map look) (sym (every_one (keys H)))
+      ap (filter_map (λ k. kv K k r)) (every_one (history_keys K)) ∙ (λ i. filter_map (λ k. kv_stays k r h i) (history_keys K)) ∙ ap (filter_map look) keys-extends
+      ∙ rows-more_keys look (map (λ (x : Entry). key_of x.change) (entries_after (current H) e.more)) (history_keys H) (keys_ascend H) (λ key none. never_changed H key r none)
+      ∙ ap (filter_map look) (sym (every_one (history_keys H)))
 
   -- the rows of an interval at a revision stay
-  pub rows_stay : (interval : List ℕ → Bool) (r : ℕ) → r ≤ current H → rows K interval r ≡ rows H interval r
+  pub rows_stay : (interval : List ℕ → Bool) (r : ℕ) → r ≤ current H → history_rows K interval r ≡ history_rows H interval r
   rows_stay interval r h = rows-interval K interval r ∙ ap (filter (λ (row : KeyValue). interval row.key)) (every_row_stays r h) ∙ sym (rows-interval H interval r)
 
 -- whatever the step
 pub kv-machine : (S : State History) (step : Step) (key : List ℕ) (r : ℕ) → r ≤ current S.store → kv (machine S step).state.store key r ≡ kv S.store key r
 kv-machine S step = kv_stays S.store (machine S step).state.store (machine_extends S step)
 
-pub rows-machine : (S : State History) (step : Step) (interval : List ℕ → Bool) (r : ℕ) → r ≤ current S.store → rows (machine S step).state.store interval r ≡ rows S.store interval r
+pub rows-machine : (S : State History) (step : Step) (interval : List ℕ → Bool) (r : ℕ) → r ≤ current S.store → history_rows (machine S step).state.store interval r ≡ history_rows S.store interval r
 rows-machine S step = rows_stay S.store (machine S step).state.store (machine_extends S step)

@@ -26,7 +26,7 @@ use Rattle.etcd_types.specs.declared.txn.Compare.{Compare}
 use Rattle.etcd_types.specs.Limits.{max_ops, last_moment}
 use Rattle.etcd_model.specs.declared.state.Lease.{Lease}
 use Rattle.etcd_model.specs.Order.{key_cmp}
-use Rattle.etcd_model.specs.History.{History, Change, Del, key_of, current, after, kv, keys, rows}
+use Rattle.etcd_model.specs.History.{History, Change, Del, key_of, current, history_after, kv, history_keys, history_rows}
 use Rattle.etcd_model.specs.Interval.{is_in, every_key}
 use Rattle.etcd_model.specs.Reads.{Reads, Look}
 use Rattle.etcd_model.specs.Compares.{all_hold}
@@ -35,7 +35,7 @@ use Rattle.etcd_model.specs.Operations.{put_change, pending_after, branch, first
 use Rattle.etcd_model.specs.Tenant.{reads}
 use Rattle.etcd_model.specs.Leases.{attached, finish, run_out}
 use Rattle.etcd_model.specs.Stepping.{outcome, pending}
-use Rattle.etcd_model.specs.Machine.{State, history, machine, opening, state_after, reads_of}
+use Rattle.etcd_model.specs.Machine.{State, history, machine, opening, state_after, history_reads}
 use Rattle.etcd_model.specs.Order.{by_key}
 use Rattle.etcd_model.proofs.RowLaws.{filter-none, later_key, all_rows}
 use Rattle.etcd_model.proofs.HistoryLaws.{changes_of, next_row, kv-current_after, kv-key}
@@ -164,8 +164,8 @@ module _ (H : History) (key : List ℕ) where
   apart_rows rs all = no_delete key rs (list_any_none (λ (row : KeyValue). bytes_eq row.key key) rs all)
 
   -- a key that is not live is not deleted
-  not_live : (T : History) (interval : List ℕ → Bool) (r : ℕ) → kv T key r ≡ None → changes_of key (deletes_of (rows T interval r)) ≡ []
-  not_live T interval r h = apart_rows (rows T interval r) (all_rows (λ k. kv T k r) (λ k row. kv-key T k r row) (λ row. bytes_eq row.key key ≡ false) apart (filter interval (keys T)))
+  not_live : (T : History) (interval : List ℕ → Bool) (r : ℕ) → kv T key r ≡ None → changes_of key (deletes_of (history_rows T interval r)) ≡ []
+  not_live T interval r h = apart_rows (history_rows T interval r) (all_rows (λ k. kv T k r) (λ k row. kv-key T k r row) (λ row. bytes_eq row.key key ≡ false) apart (filter interval (history_keys T)))
     where
       apart : (k : List ℕ) (row : KeyValue) → kv T k r ≡ Some row → bytes_eq row.key key ≡ false
       apart k row e = false_from_ne_true (bytes_eq row.key key) (λ t.
@@ -174,26 +174,26 @@ module _ (H : History) (key : List ℕ) where
           cc)
 
   -- a delete of an interval without the key
-  not_inside : (T : History) (interval : List ℕ → Bool) (r : ℕ) → interval key ≡ false → changes_of key (deletes_of (rows T interval r)) ≡ []
+  not_inside : (T : History) (interval : List ℕ → Bool) (r : ℕ) → interval key ≡ false → changes_of key (deletes_of (history_rows T interval r)) ≡ []
   not_inside T interval r h =
       let passes : KeyValue → Bool = λ row. interval row.key in
-      let all = rows T every_key r in
+      let all = history_rows T every_key r in
       ap (λ (rs : List KeyValue). changes_of key (deletes_of rs)) (rows-interval T interval r)
       ∙ apart_rows (filter passes all) (All-weaker (λ (row : KeyValue). interval row.key ≡ true) (λ row. bytes_eq row.key key ≡ false)
       (λ row t. false_from_ne_true (bytes_eq row.key key) (λ s. true≢false (sym t ∙ ap interval ((bytes_decides row.key key).0 s) ∙ h)))
       (filter passes all) (filter_passes passes all))
 
-  pub shows : Shows (λ pending. reads_of (after H pending)) key
+  pub shows : Shows (λ pending. history_reads (history_after H pending)) key
   shows = record {
     gone = λ pending k e. kv-current_after H pending key ∙ ap (fold (next_row (current H + 1)) (kv H key (current H))) e;
-    ascend = λ pending first end. rows_ascend (after H pending) (is_in first end) (current (after H pending));
-    not_live = λ pending first end. not_live (after H pending) (is_in first end) (current (after H pending));
-    not_inside = λ pending first end. not_inside (after H pending) (is_in first end) (current (after H pending));
+    ascend = λ pending first end. rows_ascend (history_after H pending) (is_in first end) (current (history_after H pending));
+    not_live = λ pending first end. not_live (history_after H pending) (is_in first end) (current (history_after H pending));
+    not_inside = λ pending first end. not_inside (history_after H pending) (is_in first end) (current (history_after H pending));
   }
 
 -- ---- every step
 
-once_after : (H : History) (cs : List Change) → ChangesOnce H → ((key : List ℕ) → length (changes_of key cs) ≤ 1) → ChangesOnce (after H cs)
+once_after : (H : History) (cs : List Change) → ChangesOnce H → ((key : List ℕ) → length (changes_of key cs) ≤ 1) → ChangesOnce (history_after H cs)
 once_after H [] once h = once
 once_after H (c ∷ cs) once h = λ key. All-push (λ xs. length (changes_of key xs) ≤ 1) H.revisions (c ∷ cs) (once key) (h key)
 
@@ -203,11 +203,11 @@ finish_once S id once =
     let H = S.store in
     let inside : List ℕ → Bool = is_in (0 ∷ []) (0 ∷ []) in
     let held : KeyValue → Bool = λ row. int_eq row.lease id in
-    let rs = filter held (rows H inside (current H)) in
+    let rs = filter held (history_rows H inside (current H)) in
     once_after H (map Del (attached (reads history S) id)) once (λ key.
     at_most_one (changes_of key (map Del (attached (reads history S) id)))
     (subst (λ cs. IsDeleteAtMost (changes_of key cs)) (sym (map-map Del (λ (row : KeyValue). row.key) rs))
-    (one_delete key rs (IsStrictlySortedBy-filter by_key held (rows H inside (current H)) (rows_ascend H inside (current H))))))
+    (one_delete key rs (IsStrictlySortedBy-filter by_key held (history_rows H inside (current H)) (rows_ascend H inside (current H))))))
 
 finish_all : (S : State History) (ls : List Lease) → ChangesOnce S.store → ChangesOnce (fold (λ T l. finish history T l.id) S ls).store
 finish_all S [] once = once
@@ -242,7 +242,7 @@ outcome_once S (Put p) once h = once_after S.store (pending history S (PutOp p �
 outcome_once S (Delete d) once h =
     let H = S.store in
     let inside : List ℕ → Bool = is_in d.key d.range_end in
-    once_after H (pending history S (DeleteOp d ∷ [])) once (λ key. at_most_one (changes_of key (deletes_of (rows H inside (current H)))) (one_delete key (rows H inside (current H)) (rows_ascend H inside (current H))))
+    once_after H (pending history S (DeleteOp d ∷ [])) once (λ key. at_most_one (changes_of key (deletes_of (history_rows H inside (current H)))) (one_delete key (history_rows H inside (current H)) (rows_ascend H inside (current H))))
 outcome_once S (Txn t) once h =
     let ops = branch (reads history S) t in
     once_after S.store (pending history S ops) once (λ key. branch_once (history.look S.store) key (shows S.store key) ops (taken_branch (reads history S) t h))

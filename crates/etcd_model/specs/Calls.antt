@@ -1,6 +1,7 @@
 -- What a call's method, target and body ask for.
 -- etcd: the JSON gateway, under a tenant's path.
-use Rattle.std.specs.Prelude.{ℕ, ◌==◌, ◌&&◌, not, List, [], ◌∷◌, length, drop, nat_lt, nat_eq, if◌then◌else◌, Option, Some, None, option_and_then, Result, Ok, Err, codes}
+use Rattle.std.specs.Prelude.{ℕ, ◌==◌, ◌&&◌, not, List, [], ◌∷◌, length, drop, nat_lt, nat_eq, if◌then◌else◌}
+use Rattle.std.specs.Prelude.{Option, Some, None, option_and_then, Result, Ok, Err, codes}
 use Rattle.std.specs.List.{starts_with, before_first}
 use Rattle.std.specs.Str.{is_utf8, bytes_eq}
 use Rattle.serde_json.specs.Data.{Data, null, boolean, number, string, array, object}
@@ -16,7 +17,8 @@ use Rattle.etcd_types.specs.declared.step.Step.{Step}
 use Rattle.etcd_types.specs.declared.step.Step.TheVariants as step
 use Rattle.etcd_model.specs.Fields.{fields, is_empty}
 use Rattle.etcd_model.specs.Members.{IsAnswer, and_then, or_bad, named}
-use Rattle.etcd_model.specs.Requests.{read_alarm_request, read_compaction, read_delete, read_grant, read_id, read_put, read_range, read_time_to_live, read_txn, read_watch}
+use Rattle.etcd_model.specs.Requests.{read_alarm_request, read_compaction, read_delete, read_grant, read_id}
+use Rattle.etcd_model.specs.Requests.{read_put, read_range, read_time_to_live, read_txn, read_watch}
 use Rattle.etcd_model.specs.Offered.{is_built}
 
 -- ---- paths
@@ -24,12 +26,14 @@ use Rattle.etcd_model.specs.Offered.{is_built}
 -- the calls by what follows `/v3/`
 abbrev pub calls : List (List ℕ × Call)
 calls =
-    (codes "kv/range", call.Range) ∷ (codes "kv/put", call.Put) ∷ (codes "kv/deleterange", call.DeleteRange) ∷ (codes "kv/txn", call.Txn)
-    ∷ (codes "kv/compaction", call.Compaction) ∷ (codes "watch", call.Watch) ∷ (codes "lease/grant", call.Grant)
-    ∷ (codes "lease/revoke", call.Revoke) ∷ (codes "kv/lease/revoke", call.Revoke) ∷ (codes "lease/keepalive", call.KeepAlive)
+    (codes "kv/range", call.Range) ∷ (codes "kv/put", call.Put) ∷ (codes "kv/deleterange", call.DeleteRange)
+    ∷ (codes "kv/txn", call.Txn) ∷ (codes "kv/compaction", call.Compaction) ∷ (codes "watch", call.Watch)
+    ∷ (codes "lease/grant", call.Grant) ∷ (codes "lease/revoke", call.Revoke)
+    ∷ (codes "kv/lease/revoke", call.Revoke) ∷ (codes "lease/keepalive", call.KeepAlive)
     ∷ (codes "lease/timetolive", call.TimeToLive) ∷ (codes "kv/lease/timetolive", call.TimeToLive)
     ∷ (codes "lease/leases", call.Leases) ∷ (codes "kv/lease/leases", call.Leases)
-    ∷ (codes "maintenance/alarm", call.Alarm) ∷ (codes "maintenance/status", call.Status) ∷ (codes "maintenance/defragment", call.Defragment) ∷ []
+    ∷ (codes "maintenance/alarm", call.Alarm) ∷ (codes "maintenance/status", call.Status)
+    ∷ (codes "maintenance/defragment", call.Defragment) ∷ []
 
 unfoldable pub call_of : List ℕ → Option Call
 call_of path = named path calls
@@ -45,20 +49,25 @@ path_of target = before_first (λ c. c == 63) target
 
 -- the name is not empty, and `/v3/` follows it
 abbrev pub split_at : List ℕ → List ℕ → Option Target
-split_at name rest = if not (is_empty name) && starts_with nat_eq rest (codes "/v3/") then Some (record { tenant = name; path = drop 4 rest }) else None
+split_at name rest =
+    if not (is_empty name) && starts_with nat_eq rest (codes "/v3/")
+    then Some (record { tenant = name; path = drop 4 rest })
+    else None
 
 abbrev pub after_root : List ℕ → Option Target
 after_root rest = let name = before_first (λ c. c == 47) rest in split_at name (drop (length name) rest)
 
 -- `/t/<tenant>/v3/<path>`
 unfoldable pub target_of : List ℕ → Option Target
-target_of target = if starts_with nat_eq (path_of target) (codes "/t/") then after_root (drop 3 (path_of target)) else None
+target_of target =
+    if starts_with nat_eq (path_of target) (codes "/t/") then after_root (drop 3 (path_of target)) else None
 
 -- ---- bodies
 
 -- the JSON value of a body
 abbrev pub body_value : List ℕ → Option Data
-body_value body = if length body == 0 then Some null else (if is_utf8 body then serde_json.read body else None)
+body_value body =
+    if length body == 0 then Some null else (if is_utf8 body then serde_json.read body else None)
 
 -- a null stands for an object with no members
 abbrev pub as_members : Data → Option Data
@@ -131,4 +140,5 @@ read_call path body = for_call (call_of path) (λ c. read_built c body)
 
 -- the same, with the method, which goes after the path and before the body
 abbrev pub read_posted : List ℕ → List ℕ → List ℕ → Result Step Refusal
-read_posted method path body = for_call (call_of path) (λ c. if bytes_eq method (codes "POST") then read_built c body else Err NotPost)
+read_posted method path body =
+    for_call (call_of path) (λ c. if bytes_eq method (codes "POST") then read_built c body else Err NotPost)

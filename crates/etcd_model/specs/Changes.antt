@@ -1,6 +1,9 @@
 -- The changes of a history as a store records them, one after another, and what compaction keeps of them.
--- etcd: data model, "physical view": each change is stored under its revision; maintenance, "history compaction".
-use Rattle.std.specs.Prelude.{◌≡◌, IfSome, ℕ, ◌+◌, ◌≤◌, Bool, not, ◌&&◌, ◌||◌, nat_le, List, [], ◌∷◌, ◌++◌, length, map, filter, filter_map, fold, Option, Some, None, is_some, option_and_then, if◌then◌else◌}
+-- etcd: data model, "physical view": each change is stored under its revision; maintenance, "history
+-- compaction".
+use Rattle.std.specs.Prelude.{◌≡◌, IfSome, ℕ, ◌+◌, ◌≤◌, Bool, not, ◌&&◌, ◌||◌, nat_le, List, [], ◌∷◌, ◌++◌}
+use Rattle.std.specs.Prelude.{length, map, filter, filter_map, fold, Option, Some, None, is_some}
+use Rattle.std.specs.Prelude.{option_and_then, if◌then◌else◌}
 use Rattle.std.specs.List.{All, AllByRecursion, list_any}
 use Rattle.std.specs.Str.{bytes_eq}
 use Rattle.etcd_types.specs.declared.key_value.KeyValue.{KeyValue}
@@ -19,7 +22,15 @@ created_at r (Some row) = row.create_revision
 
 -- at revision r a put goes on with the versions of a row or begins them, and a delete ends them
 abbrev pub next_row : ℕ → Option KeyValue → Change → Option KeyValue
-next_row r row (Set key value lease) = Some (record { key = key; create_revision = created_at r row; mod_revision = r; version = version_of row + 1; value = value; lease = lease })
+next_row r row (Set key value lease) =
+    Some (record {
+      key = key;
+      create_revision = created_at r row;
+      mod_revision = r;
+      version = version_of row + 1;
+      value = value;
+      lease = lease;
+    })
 next_row r row (Del key) = None
 
 -- ---- recorded changes
@@ -92,7 +103,11 @@ entry_at r c = record { revision = r; change = c }
 
 -- a change, which goes on from what its key was by then
 abbrev pub recorded : List Recorded → Entry → Recorded
-recorded xs e = record { key = key_of e.change; revision = e.revision; row = next_row e.revision (live (key_of e.change) e.revision xs) e.change }
+recorded xs e = record {
+  key = key_of e.change;
+  revision = e.revision;
+  row = next_row e.revision (live (key_of e.change) e.revision xs) e.change;
+}
 
 abbrev pub record_change : List Recorded → Entry → List Recorded
 record_change xs e = xs ++ recorded xs e ∷ []
@@ -102,8 +117,8 @@ abbrev pub record_revision : ℕ → List Recorded → List Change → List Reco
 record_revision r xs cs = fold record_change xs (map (entry_at r) cs)
 
 -- all changes of a history
-abbrev pub changes_of : History → List Recorded
-changes_of H = fold record_change [] (entries H)
+abbrev pub recorded_changes : History → List Recorded
+recorded_changes H = fold record_change [] (entries H)
 
 -- no revision changes a key twice
 abbrev pub ChangesOnce : History → Type 0

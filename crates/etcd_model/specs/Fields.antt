@@ -1,6 +1,7 @@
 -- What a step is refused for by its own fields.
 -- etcd: API reference, KV and Lease: the checks that come before anything is looked up.
-use Rattle.std.specs.Prelude.{ℕ, Bool, true, false, not, ◌&&◌, ◌||◌, List, [], ◌∷◌, ◌++◌, length, filter_map, pos, nat_lt, int_lt, Option, Some, None}
+use Rattle.std.specs.Prelude.{ℕ, Bool, true, false, not, ◌&&◌, ◌||◌, List, [], ◌∷◌, ◌++◌, length, filter_map}
+use Rattle.std.specs.Prelude.{pos, nat_lt, int_lt, Option, Some, None}
 use Rattle.std.specs.List.{list_any}
 use Rattle.std.specs.Ordering.{int_eq}
 use Rattle.std.specs.Str.{bytes_eq}
@@ -12,11 +13,13 @@ use Rattle.etcd_types.specs.declared.alarm.AlarmAction.TheVariants.{Activate}
 use Rattle.etcd_types.specs.declared.alarm.AlarmKind.{AlarmKind}
 use Rattle.etcd_types.specs.declared.alarm.AlarmKind.TheVariants.{Corrupt}
 use Rattle.etcd_types.specs.declared.txn.Op.{Op}
-use Rattle.etcd_types.specs.declared.txn.Op.TheVariants.{Range as RangeOp, Put as PutOp, Delete as DeleteOp, Nested}
+use Rattle.etcd_types.specs.declared.txn.Op.TheVariants.{Range as RangeOp, Put as PutOp, Delete as DeleteOp}
+use Rattle.etcd_types.specs.declared.txn.Op.TheVariants.{Nested}
 use Rattle.etcd_types.specs.declared.step.Step.{Step}
 use Rattle.etcd_types.specs.declared.step.Step.TheVariants.{Range, Put, Delete, Txn, Grant, Alarm}
 use Rattle.etcd_types.specs.declared.refusal.Refusal.{Refusal}
-use Rattle.etcd_types.specs.declared.refusal.Refusal.TheVariants.{NoKey, ValueGiven, LeaseGiven, TooManyOps, DuplicateKey, TtlTooLarge, NotOffered}
+use Rattle.etcd_types.specs.declared.refusal.Refusal.TheVariants.{NoKey, ValueGiven, LeaseGiven, TooManyOps}
+use Rattle.etcd_types.specs.declared.refusal.Refusal.TheVariants.{DuplicateKey, TtlTooLarge, NotOffered}
 use Rattle.etcd_types.specs.Limits.{max_ops, max_ttl}
 use Rattle.etcd_model.specs.Interval.{is_in}
 use Rattle.etcd_model.specs.Operations.{first_refusal}
@@ -73,7 +76,9 @@ has_twice (p ∷ ps) = list_any (λ q. bytes_eq q.key p.key) ps || has_twice ps
 
 -- in one branch a key is put twice, or put and deleted
 abbrev pub has_duplicate : List Op → Bool
-has_duplicate ops = has_twice (puts ops) || list_any (λ p. list_any (λ d. is_in d.key d.range_end p.key) (deletes ops)) (puts ops)
+has_duplicate ops =
+    has_twice (puts ops)
+    || list_any (λ p. list_any (λ d. is_in d.key d.range_end p.key) (deletes ops)) (puts ops)
 
 abbrev pub has_over : {X : Type 0} → ℕ → List X → Bool
 has_over n xs = nat_lt n (length xs)
@@ -86,13 +91,18 @@ txn_fields t =
     refused_if (list_any (λ c. is_empty c.key) t.compare || list_any op_lacks_key ops) NoKey
     ∷ refused_if (list_any gives_value (puts ops)) ValueGiven
     ∷ refused_if (list_any gives_lease (puts ops)) LeaseGiven
-    ∷ refused_if (has_over max_ops t.compare || (has_over max_ops t.success || has_over max_ops t.failure)) TooManyOps
+    ∷ refused_if
+    (has_over max_ops t.compare || (has_over max_ops t.success || has_over max_ops t.failure)) TooManyOps
     ∷ refused_if (has_duplicate t.success || has_duplicate t.failure) DuplicateKey
     ∷ refused_if (list_any is_nested ops) NotOffered
     ∷ [])
 
 abbrev pub put_fields : PutReq → Option Refusal
-put_fields p = first_refusal (refused_if (is_empty p.key) NoKey ∷ refused_if (gives_value p) ValueGiven ∷ refused_if (gives_lease p) LeaseGiven ∷ [])
+put_fields p = first_refusal (
+    refused_if (is_empty p.key) NoKey
+    ∷ refused_if (gives_value p) ValueGiven
+    ∷ refused_if (gives_lease p) LeaseGiven
+    ∷ [])
 
 abbrev pub asks_corrupt : AlarmAction → AlarmKind → Bool
 asks_corrupt Activate Corrupt = true

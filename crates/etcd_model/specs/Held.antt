@@ -1,5 +1,6 @@
 -- What a running tenant holds of the written machine's state: all of it, but of the history what is kept.
-use Rattle.std.specs.Prelude.{◌≡◌, ℕ, ◌+◌, ◌<◌, ◌≤◌, ℤ, pos, Bool, true, false, ◌||◌, List, [], length, int_le, IfSome}
+use Rattle.std.specs.Prelude.{◌≡◌, ℕ, ◌+◌, ◌<◌, ◌≤◌, ℤ, pos, Bool, true, false, ◌||◌, List, [], length}
+use Rattle.std.specs.Prelude.{int_le, IfSome}
 use Rattle.std.specs.List.{AllByRecursion}
 use Rattle.std.specs.List.Sorted.{IsStrictlySortedBy}
 use Rattle.std.specs.Ordering.{int_cmp, int_eq, on}
@@ -7,7 +8,7 @@ use Rattle.std.specs.declared.cmp.Ordering.{Ordering}
 use Rattle.etcd_types.specs.Limits.{last_moment, max_ttl, watch_slots}
 use Rattle.etcd_model.specs.declared.state.Lease.{Lease}
 use Rattle.etcd_model.specs.History.{History, current, key_of, kv}
-use Rattle.etcd_model.specs.Changes.{changes_of, kept, ChangesOnce}
+use Rattle.etcd_model.specs.Changes.{recorded_changes, kept, ChangesOnce}
 use Rattle.etcd_model.specs.Store.{Store}
 use Rattle.etcd_model.specs.Fields.{is_empty}
 use Rattle.etcd_model.specs.Operations.{has_lease}
@@ -15,11 +16,24 @@ use Rattle.etcd_model.specs.Tenant.{State, Outcome}
 
 -- what is kept of a history
 abbrev pub keep : History → Store
-keep H = record { current = current H; compacted = H.compacted; changes = kept H.compacted (changes_of H) }
+keep H = record {
+  current = current H;
+  compacted = H.compacted;
+  changes = kept H.compacted (recorded_changes H);
+}
 
 -- a tenant over another store
 abbrev pub over : {X Y : Type 0} → (X → Y) → State X → State Y
-over h t = record { cluster = t.cluster; quota = t.quota; store = h t.store; leases = t.leases; counter = t.counter; moment = t.moment; alarm = t.alarm; slots = t.slots }
+over h t = record {
+  cluster = t.cluster;
+  quota = t.quota;
+  store = h t.store;
+  leases = t.leases;
+  counter = t.counter;
+  moment = t.moment;
+  alarm = t.alarm;
+  slots = t.slots;
+}
 
 abbrev pub outcome_over : {X Y : Type 0} → (X → Y) → Outcome X → Outcome Y
 outcome_over h o = record { state = over h o.state; reply = o.reply }
@@ -43,7 +57,8 @@ IsFull H = AllByRecursion (λ cs. 1 ≤ length cs) H.revisions
 abbrev pub by_id : Lease → Lease → Ordering
 by_id = on (λ l. l.id) int_cmp
 
--- a lease that has not run out: it ends after the moment, at most its time to live later, which is one that can be granted
+-- a lease that has not run out: it ends after the moment, at most its time to live later, which is one that
+-- can be granted
 pub record IsRunning (moment : ℕ) (l : Lease) : Type 0 where
   pub least : 1 ≤ l.ttl
   pub most : int_le (pos l.ttl) max_ttl ≡ true
@@ -66,7 +81,8 @@ is_leased leases id = int_eq id (pos 0) || has_lease leases id
 
 -- the lease of each live key is there
 abbrev pub HoldsLeased : State History → Type 0
-HoldsLeased S = (key : List ℕ) → IfSome (kv S.store key (current S.store)) (λ row. is_leased S.leases row.lease ≡ true)
+HoldsLeased S =
+    (key : List ℕ) → IfSome (kv S.store key (current S.store)) (λ row. is_leased S.leases row.lease ≡ true)
 
 pub record IsState (S : State History) : Type 0 where
   pub history : IsHistory S.store

@@ -1,6 +1,8 @@
 -- The history: a store that never forgets. What a key is at a revision.
--- etcd: data model, "physical view" and "logical view": each key's life is a row of generations, each with versions from 1.
-use Rattle.std.specs.Prelude.{ℕ, ◌+◌, Bool, true, false, ◌&&◌, List, [], ◌∷◌, ◌++◌, length, map, filter, fold, ℤ, pos, nat_le, Option, Some, None, option_and_then, is_some, filter_map}
+-- etcd: data model, "physical view" and "logical view": each key's life is a row of generations, each with
+-- versions from 1.
+use Rattle.std.specs.Prelude.{ℕ, ◌+◌, Bool, true, false, ◌&&◌, List, [], ◌∷◌, ◌++◌, length, map, filter, fold}
+use Rattle.std.specs.Prelude.{ℤ, pos, nat_le, Option, Some, None, option_and_then, is_some, filter_map}
 use Rattle.std.specs.Str.{bytes_eq}
 use Rattle.std.specs.List.{last_or}
 use Rattle.etcd_types.specs.declared.key_value.KeyValue.{KeyValue}
@@ -27,16 +29,17 @@ current H = H.first + length H.revisions
 -- the changes of the revisions that follow r, each with its revision
 abbrev pub entries_after : ℕ → List (List Change) → List Entry
 entries_after r [] = []
-entries_after r (changes ∷ more) = map (λ c. record { revision = r + 1; change = c }) changes ++ entries_after (r + 1) more
+entries_after r (changes ∷ more) =
+    map (λ c. record { revision = r + 1; change = c }) changes ++ entries_after (r + 1) more
 
 -- all changes, in order
 abbrev pub entries : History → List Entry
 entries H = entries_after H.first H.revisions
 
 -- the history after some changes that make up one revision; no change makes none
-abbrev pub after : History → List Change → History
-after H [] = H
-after H (c ∷ cs) = record H { revisions = H.revisions ++ (c ∷ cs) ∷ [] }
+abbrev pub history_after : History → List Change → History
+history_after H [] = H
+history_after H (c ∷ cs) = record H { revisions = H.revisions ++ (c ∷ cs) ∷ [] }
 
 -- ---- the last change of a key
 
@@ -101,9 +104,9 @@ kv H key r = shown_by (generation (past H key r))
 -- ---- rows
 
 -- each key that was ever changed, in byte order
-abbrev pub keys : History → List (List ℕ)
-keys H = in_order key_cmp (map (λ e. key_of e.change) (entries H))
+abbrev pub history_keys : History → List (List ℕ)
+history_keys H = in_order key_cmp (map (λ e. key_of e.change) (entries H))
 
 -- the keys of an interval that are live at a revision, in byte order
-abbrev pub rows : History → (List ℕ → Bool) → ℕ → List KeyValue
-rows H interval r = filter_map (λ key. kv H key r) (filter interval (keys H))
+abbrev pub history_rows : History → (List ℕ → Bool) → ℕ → List KeyValue
+history_rows H interval r = filter_map (λ key. kv H key r) (filter interval (history_keys H))

@@ -1,6 +1,7 @@
 -- Leases: which keys they hold, and how they end.
 -- etcd: API reference, Lease: a lease that expires or is revoked deletes all keys attached to it.
-use Rattle.std.specs.Prelude.{ℕ, ◌+◌, not, List, [], ◌∷◌, map, filter, fold, find, min, max, ℤ, pos, negsuc, nat_le, Option, if◌then◌else◌}
+use Rattle.std.specs.Prelude.{ℕ, ◌+◌, not, List, [], ◌∷◌, map, filter, fold, find, min, max, ℤ, pos, negsuc}
+use Rattle.std.specs.Prelude.{nat_le, Option, if◌then◌else◌}
 use Rattle.std.specs.Ordering.{int_cmp, int_eq, nat_cmp, ordering_then, on}
 use Rattle.std.specs.declared.cmp.Ordering.{Ordering}
 use Rattle.etcd_types.specs.Limits.{last_moment}
@@ -26,8 +27,9 @@ abbrev pub run_out : ℕ → List Lease → List Lease
 run_out moment leases = in_order end_cmp (filter (λ l. nat_le l.end moment) leases)
 
 -- a lease that is new, or has a new end
-abbrev pub with_lease : ℕ → List Lease → ℤ → ℕ → List Lease
-with_lease moment leases id ttl = put_in (on (λ l. l.id) int_cmp) leases (record { id = id; ttl = ttl; end = moment + ttl })
+abbrev pub put_lease : ℕ → List Lease → ℤ → ℕ → List Lease
+put_lease moment leases id ttl =
+    put_in (on (λ l. l.id) int_cmp) leases (record { id = id; ttl = ttl; end = moment + ttl })
 
 -- n, or one more where that is the lease's ID
 abbrev pub step_past : ℕ → Lease → ℕ

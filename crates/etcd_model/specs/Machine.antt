@@ -3,9 +3,10 @@ use Rattle.std.specs.Prelude.{ℕ, false, List, [], ◌∷◌, filter, nat_lt, r
 use Rattle.etcd_types.specs.declared.step.Step.{Step}
 use Rattle.etcd_types.specs.declared.reply.Reply.{Reply}
 use Rattle.etcd_types.specs.Limits.{watch_slots}
-use Rattle.etcd_model.specs.History.{History, current as current_revision, entries, kv, rows, after}
+use Rattle.etcd_model.specs.History.{History, current as current_revision, entries, kv, history_rows}
+use Rattle.etcd_model.specs.History.{history_after}
 use Rattle.etcd_model.specs.Interval.{is_in}
-use Rattle.etcd_model.specs.Kept.{cells}
+use Rattle.etcd_model.specs.Kept.{history_cells}
 use Rattle.etcd_model.specs.Reads.{Reads}
 use Rattle.etcd_model.specs.Watches.{is_ahead}
 pub use Rattle.etcd_model.specs.Tenant.{State, Outcome}
@@ -13,22 +14,22 @@ use Rattle.etcd_model.specs.Tenant.{Asks}
 use Rattle.etcd_model.specs.Stepping as stepping
 
 -- what can be read of a history
-abbrev pub reads_of : History → Reads
-reads_of H = record {
+abbrev pub history_reads : History → Reads
+history_reads H = record {
   current = current_revision H;
   compacted = H.compacted;
   row = λ key. kv H key (current_revision H);
-  rows = λ key end. rows H (is_in key end) (current_revision H);
-  rows_at = λ key end r. if nat_lt r H.compacted then [] else rows H (is_in key end) r;
+  rows = λ key end. history_rows H (is_in key end) (current_revision H);
+  rows_at = λ key end r. if nat_lt r H.compacted then [] else history_rows H (is_in key end) r;
 }
 
 -- what a history answers
 abbrev pub history : Asks History
 history = record {
-  look = λ H pending. reads_of (after H pending);
-  after = after;
+  look = λ H pending. history_reads (history_after H pending);
+  after = history_after;
   compact = λ H r. record H { compacted = r };
-  cells = cells;
+  cells = history_cells;
   ahead = λ H w. if nat_lt w.next H.compacted then [] else filter (is_ahead w) (entries H);
   row_at = λ H key r. if nat_lt r H.compacted then None else kv H key r;
 }

@@ -1,10 +1,13 @@
 -- The members of a JSON object, and what each kind of member reads as.
-use Rattle.std.specs.Prelude.{◌≡◌, ◌≢◌, ℕ, ◌^◌, ◌-◌, ◌==◌, ◌&&◌, ℤ, pos, negsuc, neg_ℤ, int_le, int_lt, zero, suc, option_and_then, List, [], ◌∷◌, length, drop, Bool, false, nat_lt, if◌then◌else◌, Option, Some, None, Result, Ok, Err, MatchResult, codes}
+use Rattle.std.specs.Prelude.{◌≡◌, ◌≢◌, ℕ, ◌^◌, ◌-◌, ◌==◌, ◌&&◌, ℤ, pos, negsuc, neg_ℤ, int_le, int_lt, zero}
+use Rattle.std.specs.Prelude.{suc, option_and_then, List, [], ◌∷◌, length, drop, Bool, false, nat_lt}
+use Rattle.std.specs.Prelude.{if◌then◌else◌, Option, Some, None, Result, Ok, Err, MatchResult, codes}
 use Rattle.std.specs.Char.{digit_value}
 use Rattle.std.specs.Str.Parse.{starts_with_minus, digits_value}
 use Rattle.serde_json.specs.Data.{Data, null, boolean, number, string, array, object, Items, no_items, item}
 use Rattle.serde_json.specs.Find.{get, as_i64, as_u64}
 use Rattle.std.specs.List.{list_all}
+use Rattle.std.specs.Option.{option_or}
 use Rattle.std.specs.Str.{bytes_eq}
 use Rattle.etcd_types.specs.declared.kv.SortOrder.{SortOrder}
 use Rattle.etcd_types.specs.declared.kv.SortOrder.TheVariants as order
@@ -107,22 +110,18 @@ abbrev pub lower_camel : MemberName → List ℕ
 lower_camel n = camel_of (underscored n)
 
 -- a member that is null is absent
-abbrev pub present : Option Data → Option Data
-present None = None
-present (Some null) = None
-present (Some (boolean b)) = Some (boolean b)
-present (Some (number n)) = Some (number n)
-present (Some (string s)) = Some (string s)
-present (Some (array ds)) = Some (array ds)
-present (Some (object ms)) = Some (object ms)
-
-abbrev pub first_of : Option Data → Option Data → Option Data
-first_of None later = later
-first_of (Some d) later = Some d
+abbrev pub unless_null : Option Data → Option Data
+unless_null None = None
+unless_null (Some null) = None
+unless_null (Some (boolean b)) = Some (boolean b)
+unless_null (Some (number n)) = Some (number n)
+unless_null (Some (string s)) = Some (string s)
+unless_null (Some (array ds)) = Some (array ds)
+unless_null (Some (object ms)) = Some (object ms)
 
 -- the member of an object under its underscored name, else under its lowerCamel one
 unfoldable pub member_of : MemberName → Data → Option Data
-member_of n d = first_of (present (get (underscored n) d)) (present (get (lower_camel n) d))
+member_of n d = option_or (unless_null (get (underscored n) d)) (unless_null (get (lower_camel n) d))
 
 -- ---- the kinds of members
 
@@ -147,7 +146,10 @@ abbrev pub is_number_text : List ℕ → Bool
 is_number_text s = nat_lt 0 (length (magnitude s)) && list_all (λ c. nat_lt (digit_value c) 10) (magnitude s)
 
 abbrev pub text_value : List ℕ → ℤ
-text_value s = if starts_with_minus s then neg_ℤ (pos (digits_value 10 (magnitude s))) else pos (digits_value 10 (magnitude s))
+text_value s =
+    if starts_with_minus s
+    then neg_ℤ (pos (digits_value 10 (magnitude s)))
+    else pos (digits_value 10 (magnitude s))
 
 abbrev pub fits_signed : ℤ → Bool
 fits_signed z = int_le (negsuc (2 ^ 63 - 1)) z && int_lt z (pos (2 ^ 63))
@@ -161,7 +163,8 @@ abbrev pub fits_unsigned : ℤ → Bool
 fits_unsigned z = int_le (pos 0) z && int_lt z (pos (2 ^ 64))
 
 unfoldable pub unsigned_text : List ℕ → Option ℕ
-unsigned_text s = if is_number_text s && fits_unsigned (text_value s) then Some (digits_value 10 (magnitude s)) else None
+unsigned_text s =
+    if is_number_text s && fits_unsigned (text_value s) then Some (digits_value 10 (magnitude s)) else None
 
 -- a number: a whole JSON number or such a text
 abbrev pub signed_in : Data → Option ℤ
@@ -226,32 +229,40 @@ read_choice table absent None = Ok absent
 read_choice table absent (Some d) = or_bad (choice_in table d)
 
 abbrev pub orders : List (List ℕ × SortOrder)
-orders = (codes "NONE", order.Unsorted) ∷ (codes "ASCEND", order.Ascend) ∷ (codes "DESCEND", order.Descend) ∷ []
+orders =
+    (codes "NONE", order.Unsorted) ∷ (codes "ASCEND", order.Ascend) ∷ (codes "DESCEND", order.Descend) ∷ []
 
 abbrev pub read_order : Option Data → Result SortOrder Refusal
 read_order = read_choice orders order.Unsorted
 
 abbrev pub targets : List (List ℕ × SortTarget)
-targets = (codes "KEY", target.Key) ∷ (codes "VERSION", target.Version) ∷ (codes "CREATE", target.Create) ∷ (codes "MOD", target.Mod) ∷ (codes "VALUE", target.Value) ∷ []
+targets =
+    (codes "KEY", target.Key) ∷ (codes "VERSION", target.Version) ∷ (codes "CREATE", target.Create)
+    ∷ (codes "MOD", target.Mod) ∷ (codes "VALUE", target.Value) ∷ []
 
-abbrev pub read_target : Option Data → Result SortTarget Refusal
-read_target = read_choice targets target.Key
+abbrev pub read_sort_target : Option Data → Result SortTarget Refusal
+read_sort_target = read_choice targets target.Key
 
 abbrev pub results : List (List ℕ × CompareResult)
-results = (codes "EQUAL", result.Equal) ∷ (codes "GREATER", result.Greater) ∷ (codes "LESS", result.Less) ∷ (codes "NOT_EQUAL", result.NotEqual) ∷ []
+results =
+    (codes "EQUAL", result.Equal) ∷ (codes "GREATER", result.Greater) ∷ (codes "LESS", result.Less)
+    ∷ (codes "NOT_EQUAL", result.NotEqual) ∷ []
 
 abbrev pub read_result : Option Data → Result CompareResult Refusal
 read_result = read_choice results result.Equal
 
 abbrev pub compare_targets : List (List ℕ × CompareTarget)
 compare_targets =
-    (codes "VERSION", compared.Version) ∷ (codes "CREATE", compared.Create) ∷ (codes "MOD", compared.Mod) ∷ (codes "VALUE", compared.Value) ∷ (codes "LEASE", compared.Lease) ∷ []
+    (codes "VERSION", compared.Version) ∷ (codes "CREATE", compared.Create) ∷ (codes "MOD", compared.Mod)
+    ∷ (codes "VALUE", compared.Value) ∷ (codes "LEASE", compared.Lease) ∷ []
 
 abbrev pub read_compare_target : Option Data → Result CompareTarget Refusal
 read_compare_target = read_choice compare_targets compared.Version
 
 abbrev pub actions : List (List ℕ × AlarmAction)
-actions = (codes "GET", action.Get) ∷ (codes "ACTIVATE", action.Activate) ∷ (codes "DEACTIVATE", action.Deactivate) ∷ []
+actions =
+    (codes "GET", action.Get) ∷ (codes "ACTIVATE", action.Activate) ∷ (codes "DEACTIVATE", action.Deactivate)
+    ∷ []
 
 abbrev pub read_action : Option Data → Result AlarmAction Refusal
 read_action = read_choice actions action.Get
@@ -280,7 +291,8 @@ as_object (object ms) = Ok (object ms)
 -- the elements of a list, one after another
 abbrev pub read_elements : {T : Type 0} → (Data → Result T Refusal) → Items → Result (List T) Refusal
 read_elements element no_items = Ok []
-read_elements element (item d ds) = and_then (element d) (λ x. and_then (read_elements element ds) (λ xs. Ok (x ∷ xs)))
+read_elements element (item d ds) =
+    and_then (element d) (λ x. and_then (read_elements element ds) (λ xs. Ok (x ∷ xs)))
 
 abbrev pub list_in : {T : Type 0} → (Data → Result T Refusal) → Data → Result (List T) Refusal
 list_in element null = Err BadBody

@@ -1,7 +1,8 @@
 -- What is built so far. This file goes with the last stage.
 use Rattle.std.specs.Prelude.{Bool, true, false, if◌then◌else◌}
 use Rattle.etcd_types.specs.declared.step.Step.{Step}
-use Rattle.etcd_types.specs.declared.step.Step.TheVariants.{Range, Put, Delete, Txn, Compact, Alarm, Status, Defragment}
+use Rattle.etcd_types.specs.declared.step.Step.TheVariants.{Range, Put, Delete, Txn, Compact, Alarm, Status}
+use Rattle.etcd_types.specs.declared.step.Step.TheVariants.{Defragment}
 use Rattle.etcd_types.specs.declared.call.Call.{Call}
 use Rattle.etcd_types.specs.declared.call.Call.TheVariants as call
 use Rattle.etcd_types.specs.declared.refusal.Refusal.TheVariants.{NotOffered}

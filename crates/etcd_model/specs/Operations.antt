@@ -1,6 +1,7 @@
 -- Operations one after another: each reads the store with what is pending as one more revision.
 -- etcd: API reference, Transaction: operations run in order, and all changes share one revision.
-use Rattle.std.specs.Prelude.{ℕ, Bool, true, false, not, ◌&&◌, ◌||◌, List, [], ◌∷◌, ◌++◌, length, map, ℤ, pos, Option, Some, None, is_none, if◌then◌else◌}
+use Rattle.std.specs.Prelude.{ℕ, ◌+◌, Bool, true, false, not, ◌&&◌, ◌||◌, List, [], ◌∷◌, ◌++◌, length, map, ℤ}
+use Rattle.std.specs.Prelude.{pos, Option, Some, None, is_none, if◌then◌else◌}
 use Rattle.std.specs.List.{list_any}
 use Rattle.std.specs.Ordering.{int_eq}
 use Rattle.etcd_types.specs.declared.key_value.KeyValue.{KeyValue}
@@ -9,13 +10,14 @@ use Rattle.etcd_types.specs.declared.txn.TxnReq.{TxnReq}
 use Rattle.etcd_types.specs.declared.txn.Op.{Op}
 use Rattle.etcd_types.specs.declared.txn.Op.TheVariants.{Range, Put, Delete, Nested}
 use Rattle.etcd_types.specs.declared.reply.OpReply.{OpReply}
-use Rattle.etcd_types.specs.declared.reply.OpReply.TheVariants.{Range as RangeReply, Put as PutReply, Delete as DeleteReply}
+use Rattle.etcd_types.specs.declared.reply.OpReply.TheVariants.{Put as PutReply, Delete as DeleteReply}
 use Rattle.etcd_types.specs.declared.refusal.Refusal.{Refusal}
 use Rattle.etcd_types.specs.declared.refusal.Refusal.TheVariants.{LeaseNotFound, KeyNotFound}
 use Rattle.etcd_model.specs.declared.state.Lease.{Lease}
 use Rattle.etcd_model.specs.History.{Change, Set, Del}
+use Rattle.etcd_model.specs.Changes.{created_at, version_of}
 use Rattle.etcd_model.specs.Reads.{Reads, Look, rows_read, revision_read, unreadable}
-use Rattle.etcd_model.specs.Ranges.{found}
+use Rattle.etcd_model.specs.Ranges.{range_reply}
 use Rattle.etcd_model.specs.Compares.{all_hold}
 
 -- ---- one operation
@@ -28,9 +30,27 @@ abbrev pub kept_lease : Option KeyValue → ℤ
 kept_lease None = pos 0
 kept_lease (Some row) = row.lease
 
--- the put, with the present value or lease where that is to stay
+-- the value and the lease of a put: its own, or the present one where that is to stay
+abbrev pub value_put : PutReq → Option KeyValue → List ℕ
+value_put p now = if p.ignore_value then kept_value now else p.value
+
+abbrev pub lease_put : PutReq → Option KeyValue → ℤ
+lease_put p now = if p.ignore_lease then kept_lease now else p.lease
+
+-- what a put changes, over the present row of its key
 abbrev pub put_change : PutReq → Option KeyValue → Change
-put_change p now = Set p.key (if p.ignore_value then kept_value now else p.value) (if p.ignore_lease then kept_lease now else p.lease)
+put_change p now = Set p.key (value_put p now) (lease_put p now)
+
+-- the row that it leaves at a revision
+abbrev pub row_put : ℕ → PutReq → Option KeyValue → KeyValue
+row_put r p now = record {
+  key = p.key;
+  create_revision = created_at r now;
+  mod_revision = r;
+  version = version_of now + 1;
+  value = value_put p now;
+  lease = lease_put p now;
+}
 
 -- what an operation changes
 abbrev pub changes : Reads → Op → List Change
@@ -41,9 +61,11 @@ changes R Nested = []
 
 -- what it is answered, with the revision afterwards
 abbrev pub op_reply : Reads → ℕ → Op → OpReply
-op_reply R revision (Range q) = let f = found q (rows_read R q.key q.range_end q.revision) in RangeReply (pos revision) f.count f.kvs f.more
+op_reply R revision (Range q) = range_reply revision q (rows_read R q.key q.range_end q.revision)
 op_reply R revision (Put p) = PutReply (pos revision) (if p.prev_kv then R.row p.key else None)
-op_reply R revision (Delete d) = DeleteReply (pos revision) (length (R.rows d.key d.range_end)) (if d.prev_kv then R.rows d.key d.range_end else [])
+op_reply R revision (Delete d) =
+    let rows = R.rows d.key d.range_end in
+    DeleteReply (pos revision) (length rows) (if d.prev_kv then rows else [])
 op_reply R revision Nested = PutReply (pos revision) None
 
 -- ---- why it is refused
@@ -59,6 +81,10 @@ op_refusal leases R (Put p) =
     else None
 op_refusal leases R (Delete d) = None
 op_refusal leases R Nested = None
+
+-- why a put is refused, whatever leases there are
+abbrev pub put_refusal : Reads → PutReq → Option Refusal
+put_refusal R p = op_refusal [] R (Put (record p { lease = pos 0 }))
 
 -- the first of some refusals
 abbrev pub first_refusal : List (Option Refusal) → Option Refusal
@@ -81,7 +107,9 @@ pending_after look pending (op ∷ ops) = pending_after look (and_changes look p
 
 abbrev pub replies : Look → List Change → List Op → List OpReply
 replies look pending [] = []
-replies look pending (op ∷ ops) = op_reply (look pending) (look (and_changes look pending op)).current op ∷ replies look (and_changes look pending op) ops
+replies look pending (op ∷ ops) =
+    op_reply (look pending) (look (and_changes look pending op)).current op
+    ∷ replies look (and_changes look pending op) ops
 
 -- the branch that is taken
 abbrev pub branch : Reads → TxnReq → List Op

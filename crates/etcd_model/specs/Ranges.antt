@@ -1,6 +1,7 @@
 -- What a range answers.
 -- etcd: API reference, RangeRequest and RangeResponse.
-use Rattle.std.specs.Prelude.{ℕ, zero, suc, Bool, ◌&&◌, ◌||◌, false, List, [], length, map, filter, take, ℤ, pos, negsuc, nat_lt, int_le, if◌then◌else◌}
+use Rattle.std.specs.Prelude.{ℕ, zero, suc, Bool, ◌&&◌, ◌||◌, false, List, [], length, map, filter, take, ℤ}
+use Rattle.std.specs.Prelude.{pos, negsuc, nat_lt, int_le, if◌then◌else◌}
 use Rattle.std.specs.Ordering.{nat_cmp, int_eq, ordering_then, ordering_reverse}
 use Rattle.std.specs.declared.cmp.Ordering.{Ordering}
 use Rattle.etcd_types.specs.declared.key_value.KeyValue.{KeyValue}
@@ -9,6 +10,8 @@ use Rattle.etcd_types.specs.declared.kv.SortOrder.{SortOrder}
 use Rattle.etcd_types.specs.declared.kv.SortOrder.TheVariants.{Unsorted, Ascend, Descend}
 use Rattle.etcd_types.specs.declared.kv.SortTarget.{SortTarget}
 use Rattle.etcd_types.specs.declared.kv.SortTarget.TheVariants.{Key, Version, Create, Mod, Value}
+use Rattle.etcd_types.specs.declared.reply.OpReply.{OpReply}
+use Rattle.etcd_types.specs.declared.reply.OpReply.TheVariants.{Range}
 use Rattle.etcd_model.specs.Order.{key_cmp, in_order}
 
 -- a number is within two bounds, of which 0 is none
@@ -17,7 +20,9 @@ is_within low high n = (int_eq low (pos 0) || int_le low n) && (int_eq high (pos
 
 -- the row passes the filters by revision
 abbrev pub is_wanted : RangeReq → KeyValue → Bool
-is_wanted q row = is_within q.min_mod_revision q.max_mod_revision (pos row.mod_revision) && is_within q.min_create_revision q.max_create_revision (pos row.create_revision)
+is_wanted q row =
+    is_within q.min_mod_revision q.max_mod_revision (pos row.mod_revision)
+    && is_within q.min_create_revision q.max_create_revision (pos row.create_revision)
 
 abbrev pub target_cmp : SortTarget → KeyValue → KeyValue → Ordering
 target_cmp Key a b = key_cmp a.key b.key
@@ -52,4 +57,12 @@ found q all =
     let picked = in_order (row_cmp q.sort_order q.sort_target) (filter (is_wanted q) all) in
     let given = limited q.limit picked in
     if q.count_only then record { count = length all; kvs = []; more = false }
-    else record { count = length all; kvs = if q.keys_only then map without_value given else given; more = nat_lt (length given) (length picked) }
+    else record {
+      count = length all;
+      kvs = if q.keys_only then map without_value given else given;
+      more = nat_lt (length given) (length picked);
+    }
+
+-- what a range is answered at a revision, where its interval has these rows
+abbrev pub range_reply : ℕ → RangeReq → List KeyValue → OpReply
+range_reply revision q all = let f = found q all in Range (pos revision) f.count f.kvs f.more

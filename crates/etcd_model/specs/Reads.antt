@@ -6,7 +6,8 @@ use Rattle.etcd_types.specs.declared.refusal.Refusal.{Refusal}
 use Rattle.etcd_types.specs.declared.refusal.Refusal.TheVariants.{Compacted, Future}
 use Rattle.etcd_model.specs.History.{Change}
 
--- the newest row of a key, the newest rows of an interval, and its rows at a revision, none below the compaction
+-- the newest row of a key, the newest rows of an interval, and its rows at a revision, none below the
+-- compaction
 pub record Reads : Type 0 where
   pub current : ℕ
   pub compacted : ℕ
@@ -32,4 +33,7 @@ revision_read R (pos (suc n)) = suc n
 
 -- why there is no read at a revision
 abbrev pub unreadable : Reads → ℕ → Option Refusal
-unreadable R r = if nat_lt r R.compacted then Some Compacted else if nat_lt R.current r then Some Future else None
+unreadable R r =
+    if nat_lt r R.compacted then Some Compacted
+    else if nat_lt R.current r then Some Future
+    else None

@@ -1,11 +1,14 @@
--- The status of an answer, and its text: the compact text of a JSON object, with the members in byte order of their names.
+-- The status of an answer, and its text: the compact text of a JSON object, with the members in byte order of
+-- their names.
 -- etcd: the JSON gateway's answers.
-use Rattle.std.specs.Prelude.{ℕ, ◌==◌, ℤ, pos, List, [], ◌∷◌, ◌++◌, length, Bool, true, false, not, decimal, codes, Option, Some, None}
+use Rattle.std.specs.Prelude.{ℕ, ◌==◌, ℤ, pos, List, [], ◌∷◌, ◌++◌, length, Bool, true, false, not, decimal}
+use Rattle.std.specs.Prelude.{codes, Option, Some, None}
 use Rattle.std.specs.Fmt.{signed_decimal}
 use Rattle.std.specs.Ordering.{int_eq}
 use Rattle.base64.specs.Engines.{standard}
 use Rattle.base64.specs.GeneralPurpose.{encode_of}
-use Rattle.serde_json.specs.Data.{Data, unsigned, boolean, number, string, array, object, Items, no_items, item, Members, no_members, member}
+use Rattle.serde_json.specs.Data.{Data, unsigned, boolean, number, string, array, object, Items, no_items}
+use Rattle.serde_json.specs.Data.{item, Members, no_members, member}
 use Rattle.serde_json.specs.Written.{compact_text}
 use Rattle.etcd_types.specs.Refusals.{refusal_code, refusal_status, refusal_text}
 use Rattle.etcd_types.specs.declared.refusal.Refusal.{Refusal}
@@ -113,9 +116,15 @@ delete_members header deleted prev_kvs =
     (list_member key_value_data (codes "prev_kvs") prev_kvs no_members))
 
 unfoldable pub response_data : OpReply → Data
-response_data (response.Range revision count kvs more) = object (member (codes "response_range") (object (range_members (inner_header_data revision) count kvs more)) no_members)
-response_data (response.Put revision prev_kv) = object (member (codes "response_put") (object (put_members (inner_header_data revision) prev_kv)) no_members)
-response_data (response.Delete revision deleted prev_kvs) = object (member (codes "response_delete_range") (object (delete_members (inner_header_data revision) deleted prev_kvs)) no_members)
+response_data (response.Range revision count kvs more) =
+    let members = range_members (inner_header_data revision) count kvs more in
+    object (member (codes "response_range") (object members) no_members)
+response_data (response.Put revision prev_kv) =
+    let members = put_members (inner_header_data revision) prev_kv in
+    object (member (codes "response_put") (object members) no_members)
+response_data (response.Delete revision deleted prev_kvs) =
+    let members = delete_members (inner_header_data revision) deleted prev_kvs in
+    object (member (codes "response_delete_range") (object members) no_members)
 
 -- ---- refusals
 
@@ -129,7 +138,9 @@ refusal_data r = object
 
 -- the one alarm that there is
 unfoldable pub alarm_data : Data
-alarm_data = object (member (codes "alarm") (string (codes "NOSPACE")) (member (codes "memberID") (string (codes "1")) no_members))
+alarm_data = object
+    (member (codes "alarm") (string (codes "NOSPACE"))
+    (member (codes "memberID") (string (codes "1")) no_members))
 
 abbrev pub alarm_list : Bool → List Data
 alarm_list true = alarm_data ∷ []
@@ -178,7 +189,8 @@ canceled_data h watch_id compact_revision = result_data
     (signed_member (codes "watch_id") watch_id no_members))))
 
 abbrev pub lease_members : Header → ℤ → ℤ → Members
-lease_members h id ttl = signed_member (codes "ID") id (signed_member (codes "TTL") ttl (header_member h no_members))
+lease_members h id ttl =
+    signed_member (codes "ID") id (signed_member (codes "TTL") ttl (header_member h no_members))
 
 unfoldable pub granted_data : Header → ℤ → ℤ → Data
 granted_data h id ttl = object (lease_members h id ttl)
@@ -198,7 +210,8 @@ unfoldable pub leases_data : Header → List ℤ → Data
 leases_data h ids = object (header_member h (list_member lease_data (codes "leases") ids no_members))
 
 unfoldable pub alarms_data : Header → Bool → Data
-alarms_data h no_space = object (list_member (λ d. d) (codes "alarms") (alarm_list no_space) (header_member h no_members))
+alarms_data h no_space =
+    object (list_member (λ d. d) (codes "alarms") (alarm_list no_space) (header_member h no_members))
 
 unfoldable pub status_data : Header → ℕ → ℕ → Data
 status_data h size in_use = object
@@ -216,29 +229,47 @@ reply_status reply.Quiet = 204
 reply_status (reply.Refused r) = refusal_status r
 reply_status r = 200
 
+-- what each reply says; a quiet one says nothing
+abbrev pub reply_data : Reply → Option Data
+reply_data (reply.Range h count kvs more) = Some (range_data h count kvs more)
+reply_data (reply.Put h prev_kv) = Some (put_data h prev_kv)
+reply_data (reply.Delete h deleted prev_kvs) = Some (delete_data h deleted prev_kvs)
+reply_data (reply.Txn h succeeded responses) = Some (txn_data h succeeded responses)
+reply_data (reply.Compacted h) = Some (bare_data h)
+reply_data (reply.Created h watch_id slot) = Some (created_data h watch_id)
+reply_data (reply.Events h watch_id events) = Some (events_data h watch_id events)
+reply_data (reply.Canceled h watch_id compact_revision) = Some (canceled_data h watch_id compact_revision)
+reply_data (reply.Granted h id ttl) = Some (granted_data h id ttl)
+reply_data (reply.Revoked h) = Some (bare_data h)
+reply_data (reply.KeptAlive h id ttl) = Some (kept_alive_data h id ttl)
+reply_data (reply.TimeToLive h id ttl granted_ttl keys) = Some (time_to_live_data h id ttl granted_ttl keys)
+reply_data (reply.Leases h ids) = Some (leases_data h ids)
+reply_data (reply.Alarms h no_space) = Some (alarms_data h no_space)
+reply_data (reply.Status h size in_use) = Some (status_data h size in_use)
+reply_data (reply.Defragmented h) = Some (bare_data h)
+reply_data reply.Quiet = None
+reply_data (reply.Refused r) = Some (refusal_data r)
+
+-- the answers of a watch and of a keepalive, which lie in a `result`
+abbrev pub is_stream_reply : Reply → Bool
+is_stream_reply (reply.Created header watch_id slot) = true
+is_stream_reply (reply.Events header watch_id events) = true
+is_stream_reply (reply.Canceled header watch_id compact_revision) = true
+is_stream_reply (reply.KeptAlive header id ttl) = true
+is_stream_reply r = false
+
 -- one newline ends what may be followed by more
 abbrev pub stream_text : Data → List ℕ
 stream_text d = compact_text d ++ 10 ∷ []
 
+-- the text of what is said
+abbrev pub body_text : Bool → Option Data → List ℕ
+body_text stream None = []
+body_text false (Some d) = compact_text d
+body_text true (Some d) = stream_text d
+
 abbrev pub reply_body : Reply → List ℕ
-reply_body (reply.Range h count kvs more) = compact_text (range_data h count kvs more)
-reply_body (reply.Put h prev_kv) = compact_text (put_data h prev_kv)
-reply_body (reply.Delete h deleted prev_kvs) = compact_text (delete_data h deleted prev_kvs)
-reply_body (reply.Txn h succeeded responses) = compact_text (txn_data h succeeded responses)
-reply_body (reply.Compacted h) = compact_text (bare_data h)
-reply_body (reply.Created h watch_id slot) = stream_text (created_data h watch_id)
-reply_body (reply.Events h watch_id events) = stream_text (events_data h watch_id events)
-reply_body (reply.Canceled h watch_id compact_revision) = stream_text (canceled_data h watch_id compact_revision)
-reply_body (reply.Granted h id ttl) = compact_text (granted_data h id ttl)
-reply_body (reply.Revoked h) = compact_text (bare_data h)
-reply_body (reply.KeptAlive h id ttl) = stream_text (kept_alive_data h id ttl)
-reply_body (reply.TimeToLive h id ttl granted_ttl keys) = compact_text (time_to_live_data h id ttl granted_ttl keys)
-reply_body (reply.Leases h ids) = compact_text (leases_data h ids)
-reply_body (reply.Alarms h no_space) = compact_text (alarms_data h no_space)
-reply_body (reply.Status h size in_use) = compact_text (status_data h size in_use)
-reply_body (reply.Defragmented h) = compact_text (bare_data h)
-reply_body reply.Quiet = []
-reply_body (reply.Refused r) = compact_text (refusal_data r)
+reply_body r = body_text (is_stream_reply r) (reply_data r)
 
 abbrev pub text : Reply → Answer
 text r = record { status = reply_status r; body = reply_body r }

@@ -1,6 +1,7 @@
 -- What the members of each request ask for.
 -- etcd: API reference, the messages of KV, Watch, Lease and Maintenance.
-use Rattle.std.specs.Prelude.{ℕ, ℤ, List, Bool, true, false, ◌||◌, if◌then◌else◌, Option, Some, None, is_some, Result, Ok, Err}
+use Rattle.std.specs.Prelude.{ℕ, ℤ, List, Bool, true, false, ◌||◌, if◌then◌else◌, Option, Some, None, is_some}
+use Rattle.std.specs.Prelude.{Result, Ok, Err}
 use Rattle.std.specs.List.{list_any}
 use Rattle.serde_json.specs.Data.{Data}
 use Rattle.etcd_types.specs.declared.call.MemberName.TheVariants as name
@@ -24,7 +25,9 @@ use Rattle.etcd_types.specs.declared.lease.GrantReq.{GrantReq}
 use Rattle.etcd_types.specs.declared.alarm.AlarmReq.{AlarmReq}
 use Rattle.etcd_types.specs.declared.step.Step.{Step}
 use Rattle.etcd_types.specs.declared.step.Step.TheVariants as step
-use Rattle.etcd_model.specs.Members.{and_then, as_object, member_of, choice_in, filters, or_bad, read_action, read_alarm, read_bytes, read_compare_target, read_flag, read_list, read_order, read_result, read_signed, read_target, read_unsigned}
+use Rattle.etcd_model.specs.Members.{and_then, as_object, member_of, choice_in, filters, or_bad, read_action}
+use Rattle.etcd_model.specs.Members.{read_alarm, read_bytes, read_compare_target, read_flag, read_list}
+use Rattle.etcd_model.specs.Members.{read_order, read_result, read_signed, read_sort_target, read_unsigned}
 
 -- ---- keys
 
@@ -36,7 +39,14 @@ read_put d =
     and_then (read_flag (member_of name.PrevKv d)) (λ prev_kv.
     and_then (read_flag (member_of name.IgnoreValue d)) (λ ignore_value.
     and_then (read_flag (member_of name.IgnoreLease d)) (λ ignore_lease.
-    Ok (record { key = key; value = value; lease = lease; prev_kv = prev_kv; ignore_value = ignore_value; ignore_lease = ignore_lease })))))))
+    Ok (record {
+      key = key;
+      value = value;
+      lease = lease;
+      prev_kv = prev_kv;
+      ignore_value = ignore_value;
+      ignore_lease = ignore_lease;
+    })))))))
 
 unfoldable pub read_range : Data → Result RangeReq Refusal
 read_range d =
@@ -45,7 +55,7 @@ read_range d =
     and_then (read_signed (member_of name.Limit d)) (λ limit.
     and_then (read_signed (member_of name.Revision d)) (λ revision.
     and_then (read_order (member_of name.SortOrder d)) (λ sort_order.
-    and_then (read_target (member_of name.SortTarget d)) (λ sort_target.
+    and_then (read_sort_target (member_of name.SortTarget d)) (λ sort_target.
     and_then (read_flag (member_of name.Serializable d)) (λ serializable.
     and_then (read_flag (member_of name.KeysOnly d)) (λ keys_only.
     and_then (read_flag (member_of name.CountOnly d)) (λ count_only.
@@ -77,7 +87,8 @@ read_delete d =
     Ok (record { key = key; range_end = range_end; prev_kv = prev_kv }))))
 
 unfoldable pub read_compaction : Data → Result Step Refusal
-read_compaction d = and_then (read_signed (member_of name.Revision d)) (λ revision. Ok (step.Compact revision))
+read_compaction d =
+    and_then (read_signed (member_of name.Revision d)) (λ revision. Ok (step.Compact revision))
 
 -- ---- transactions
 
@@ -101,7 +112,12 @@ read_compare d =
     and_then (read_signed (member_of name.ModRevision d)) (λ mod_revision.
     and_then (read_bytes (member_of name.Value d)) (λ value.
     and_then (read_signed (member_of name.Lease d)) (λ lease.
-    Ok (record { key = key; range_end = range_end; wanted = wanted; operand = operand_of target version create_revision mod_revision value lease }))))))))))
+    Ok (record {
+      key = key;
+      range_end = range_end;
+      wanted = wanted;
+      operand = operand_of target version create_revision mod_revision value lease;
+    }))))))))))
 
 -- exactly one of its four members; what a nested transaction holds is not looked at
 abbrev pub op_of : Option Data → Option Data → Option Data → Option Data → Result Op Refusal
@@ -112,7 +128,9 @@ op_of None None None (Some d) = Ok op.Nested
 op_of range put delete nested = Err BadBody
 
 unfoldable pub read_op : Data → Result Op Refusal
-read_op d = op_of (member_of name.RequestRange d) (member_of name.RequestPut d) (member_of name.RequestDeleteRange d) (member_of name.RequestTxn d)
+read_op d = op_of
+    (member_of name.RequestRange d) (member_of name.RequestPut d)
+    (member_of name.RequestDeleteRange d) (member_of name.RequestTxn d)
 
 -- an element of a list of compares or operations is an object
 abbrev pub compare_in : Data → Result Compare Refusal
@@ -162,12 +180,13 @@ read_create d =
     }))))))))
 
 -- a create, else what a client does by closing its connection
-abbrev pub watch_of : Option Data → Option Data → Option Data → Result WatchReq Refusal
-watch_of (Some d) cancel progress = and_then (as_object d) read_create
-watch_of None cancel progress = if is_some cancel || is_some progress then Err NotOffered else Err BadBody
+abbrev pub watch_asked : Option Data → Option Data → Option Data → Result WatchReq Refusal
+watch_asked (Some d) cancel progress = and_then (as_object d) read_create
+watch_asked None cancel progress = if is_some cancel || is_some progress then Err NotOffered else Err BadBody
 
 unfoldable pub read_watch : Data → Result WatchReq Refusal
-read_watch d = watch_of (member_of name.CreateRequest d) (member_of name.CancelRequest d) (member_of name.ProgressRequest d)
+read_watch d = watch_asked
+    (member_of name.CreateRequest d) (member_of name.CancelRequest d) (member_of name.ProgressRequest d)
 
 -- ---- leases
 

@@ -1,5 +1,7 @@
--- How a JSON string spells bytes: base64 (RFC 4648) of the standard alphabet or the URL-safe one, with padding or without.
-use Rattle.std.specs.Prelude.{◌≡◌, ℕ, ◌-◌, ◌%◌, ◌==◌, List, length, take, map, slice_index, if◌then◌else◌, Option}
+-- How a JSON string spells bytes: base64 (RFC 4648) of the standard alphabet or the URL-safe one, with
+-- padding or without.
+use Rattle.std.specs.Prelude.{◌≡◌, ℕ, ◌-◌, ◌%◌, ◌==◌, List, length, take, map, slice_index, if◌then◌else◌}
+use Rattle.std.specs.Prelude.{Option}
 use Rattle.std.specs.Result.{result_ok}
 use Rattle.base64.specs.Engines.{standard_no_pad}
 use Rattle.base64.specs.GeneralPurpose.{encode_of, decode_of}

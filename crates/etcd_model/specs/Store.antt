@@ -8,7 +8,8 @@ use Rattle.etcd_model.specs.Kept.{cost, cost_delete}
 use Rattle.etcd_model.specs.Reads.{Reads}
 use Rattle.etcd_model.specs.Watches.{is_ahead}
 use Rattle.etcd_model.specs.Tenant.{Asks}
-use Rattle.etcd_model.specs.Changes.{Recorded, OwnRow, Rises, change_of, entry_of, record_revision, live, rows, kept}
+use Rattle.etcd_model.specs.Changes.{Recorded, OwnRow, Rises, change_of, entry_of, record_revision, live}
+use Rattle.etcd_model.specs.Changes.{rows, kept}
 
 -- the current revision, that of the last compaction, and the changes that are kept, in order
 pub record Store : Type 0 where
@@ -19,7 +20,10 @@ pub record Store : Type 0 where
 -- after some changes that make up one revision; no change makes none
 abbrev pub after : Store → List Change → Store
 after s [] = s
-after s (c ∷ cs) = record s { current = s.current + 1; changes = record_revision (s.current + 1) s.changes (c ∷ cs) }
+after s (c ∷ cs) = record s {
+  current = s.current + 1;
+  changes = record_revision (s.current + 1) s.changes (c ∷ cs);
+}
 
 abbrev pub compact : Store → ℕ → Store
 compact s r = record s { compacted = r; changes = kept r s.changes }
@@ -42,8 +46,8 @@ record_cells xs = sum_by (λ x. cost (change_of x)) xs
 abbrev pub reserved_cells : ℕ → List Recorded → ℕ
 reserved_cells r xs = sum_by (λ row. cost_delete row.key) (rows every_key r xs)
 
-abbrev pub cells : Store → ℕ
-cells s = record_cells s.changes + reserved_cells s.current s.changes
+abbrev pub counted_cells : Store → ℕ
+counted_cells s = record_cells s.changes + reserved_cells s.current s.changes
 
 -- a store as appends and compactions make it
 pub record IsStore (s : Store) : Type 0 where
@@ -58,7 +62,7 @@ kept_store = record {
   look = λ s pending. reads_of (after s pending);
   after = after;
   compact = compact;
-  cells = cells;
+  cells = counted_cells;
   ahead = λ s w. if nat_lt w.next s.compacted then [] else filter (is_ahead w) (map entry_of s.changes);
   row_at = λ s key r. if nat_lt r s.compacted then None else live key r s.changes;
 }

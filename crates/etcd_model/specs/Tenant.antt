@@ -17,7 +17,8 @@ pub record Asks (X : Type 0) : Type 0 where
   pub compact : X → ℕ → X
   -- the cells of what is kept, with room for a delete of each live key
   pub cells : X → ℕ
-  -- the changes that a watch is still to be told of, and a key at a revision; nothing of either below the compaction
+  -- the changes that a watch is still to be told of, and a key at a revision; nothing of either below the
+  -- compaction
   pub ahead : X → Watch → List Entry
   pub row_at : X → List ℕ → ℕ → Option KeyValue
 

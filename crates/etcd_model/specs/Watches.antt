@@ -1,6 +1,8 @@
 -- Watches: which changes are events, and what a take answers.
 -- etcd: API guarantees, "watch": ordered, unique, reliable, atomic; API reference, Watch API.
-use Rattle.std.specs.Prelude.{ℕ, zero, suc, ◌+◌, ◌-◌, Bool, not, ◌&&◌, List, [], ◌∷◌, map, filter, take, drop, max, ℤ, pos, negsuc, nat_le, nat_lt, nat_eq, Option, Some, None, is_none, position, slice_set, if◌then◌else◌}
+use Rattle.std.specs.Prelude.{ℕ, zero, suc, ◌+◌, ◌-◌, Bool, not, ◌&&◌, List, [], ◌∷◌, map, filter, take, drop}
+use Rattle.std.specs.Prelude.{max, ℤ, pos, negsuc, nat_le, nat_lt, nat_eq, Option, Some, None, is_none}
+use Rattle.std.specs.Prelude.{position, slice_set, if◌then◌else◌}
 use Rattle.std.specs.List.{list_any, dedup, last_or}
 use Rattle.std.specs.Option.{unwrap_or}
 use Rattle.etcd_types.specs.declared.key_value.KeyValue.{KeyValue}
@@ -27,15 +29,24 @@ watched_key [] = 0 ∷ []
 watched_key (b ∷ bs) = b ∷ bs
 
 abbrev pub watch_of : ℕ → WatchReq → Watch
-watch_of now q = record { key = watched_key q.key; range_end = q.range_end; no_put = q.no_put; no_delete = q.no_delete; prev_kv = q.prev_kv; id = q.watch_id; next = start now q.start_revision }
+watch_of now q = record {
+  key = watched_key q.key;
+  range_end = q.range_end;
+  no_put = q.no_put;
+  no_delete = q.no_delete;
+  prev_kv = q.prev_kv;
+  id = q.watch_id;
+  next = start now q.start_revision;
+}
 
-abbrev pub passes : Watch → Change → Bool
-passes w (Set key value lease) = not w.no_put
-passes w (Del key) = not w.no_delete
+abbrev pub passes_filters : Watch → Change → Bool
+passes_filters w (Set key value lease) = not w.no_put
+passes_filters w (Del key) = not w.no_delete
 
 -- the change is at the watch's next revision or later, lies in its interval and passes its filters
 abbrev pub is_ahead : Watch → Entry → Bool
-is_ahead w e = nat_le w.next e.revision && (is_in w.key w.range_end (key_of e.change) && passes w e.change)
+is_ahead w e =
+    nat_le w.next e.revision && (is_in w.key w.range_end (key_of e.change) && passes_filters w e.change)
 
 -- the revisions of some changes, each once
 abbrev pub revisions : List Entry → List ℕ
@@ -51,12 +62,21 @@ next_after now next given [] = max next (now + 1)
 next_after now next given (r ∷ rest) = unwrap_or (last_or None given) 0 + 1
 
 -- the watch after it was told of the first of some changes
-abbrev pub told : ℕ → Watch → List Entry → Watch
-told now w es = record w { next = next_after now w.next (take response_revisions (revisions es)) (drop response_revisions (revisions es)) }
+abbrev pub watch_told : ℕ → Watch → List Entry → Watch
+watch_told now w es =
+    let rs = revisions es in
+    record w { next = next_after now w.next (take response_revisions rs) (drop response_revisions rs) }
 
 -- of a deleted key only the key and the revision are shown
 abbrev pub bare : List ℕ → ℕ → KeyValue
-bare key r = record { key = key; create_revision = 0; mod_revision = r; version = 0; value = []; lease = pos 0 }
+bare key r = record {
+  key = key;
+  create_revision = 0;
+  mod_revision = r;
+  version = 0;
+  value = [];
+  lease = pos 0;
+}
 
 module _ {X : Type 0} (asks : Asks X) where
   abbrev pub with_slot : State X → ℕ → Option Watch → State X
@@ -68,25 +88,48 @@ module _ {X : Type 0} (asks : Asks X) where
 
   abbrev pub created : State X → WatchReq → Option ℕ → Outcome X
   created t q None = stays asks t (Refused TooManyWatches)
-  created t q (Some i) = record { state = with_slot t i (Some (watch_of (current asks t) q)); reply = Created (header asks t) q.watch_id i }
+  created t q (Some i) = record {
+    state = with_slot t i (Some (watch_of (current asks t) q));
+    reply = Created (header asks t) q.watch_id i;
+  }
 
   -- the row before the change, where the watch asked for it
   abbrev pub row_before : State X → Bool → Entry → Option KeyValue
   row_before t asked e = if asked then asks.row_at t.store (key_of e.change) (e.revision - 1) else None
 
   abbrev pub event_of : State X → Watch → Entry → Change → Event
-  event_of t w e (Set key value lease) = record { kind = Put; kv = unwrap_or (asks.row_at t.store key e.revision) (bare key e.revision); prev_kv = row_before t w.prev_kv e }
-  event_of t w e (Del key) = record { kind = Delete; kv = bare key e.revision; prev_kv = row_before t w.prev_kv e }
+  event_of t w e (Set key value lease) = record {
+    kind = Put;
+    kv = unwrap_or (asks.row_at t.store key e.revision) (bare key e.revision);
+    prev_kv = row_before t w.prev_kv e;
+  }
+  event_of t w e (Del key) = record {
+    kind = Delete;
+    kv = bare key e.revision;
+    prev_kv = row_before t w.prev_kv e;
+  }
 
   -- the events of the first revisions that have any; quiet where there are none
-  abbrev pub given : State X → ℕ → Watch → List Entry → List Event → Outcome X
-  given t i w es [] = record { state = with_slot t i (Some (told (current asks t) w es)); reply = Quiet }
-  given t i w es (e ∷ more) = record { state = with_slot t i (Some (told (current asks t) w es)); reply = Events (header asks t) w.id (e ∷ more) }
+  abbrev pub events_given : State X → ℕ → Watch → List Entry → List Event → Outcome X
+  events_given t i w es [] = record {
+    state = with_slot t i (Some (watch_told (current asks t) w es));
+    reply = Quiet;
+  }
+  events_given t i w es (e ∷ more) = record {
+    state = with_slot t i (Some (watch_told (current asks t) w es));
+    reply = Events (header asks t) w.id (e ∷ more);
+  }
 
   -- a watch that missed what a compaction took is cancelled
   abbrev pub taken : State X → ℕ → Option (Option Watch) → Outcome X
   taken t i None = stays asks t Quiet
   taken t i (Some None) = stays asks t Quiet
   taken t i (Some (Some w)) =
-      if nat_lt w.next (reads asks t).compacted then record { state = with_slot t i None; reply = Canceled (header asks t) w.id (pos (reads asks t).compacted) }
-      else given t i w (asks.ahead t.store w) (map (λ e. event_of t w e e.change) (first_of (asks.ahead t.store w)))
+      if nat_lt w.next (reads asks t).compacted
+      then record {
+        state = with_slot t i None;
+        reply = Canceled (header asks t) w.id (pos (reads asks t).compacted);
+      }
+      else
+      let told = asks.ahead t.store w in
+      events_given t i w told (map (λ e. event_of t w e e.change) (first_of told))

@@ -3,6 +3,6 @@ use Rattle.std.specs.Prelude.{ℕ, List}
 use Rattle.etcd_replay.specs.declared.answer.Body.{Body}
 use Rattle.etcd_replay.specs.declared.answer.Body.TheVariants.{Made, Fixed}
 
-abbrev pub bytes_of : Body → List ℕ
-bytes_of (Made bytes) = bytes.items
-bytes_of (Fixed bytes) = bytes.now
+abbrev pub body_bytes : Body → List ℕ
+body_bytes (Made bytes) = bytes.items
+body_bytes (Fixed bytes) = bytes.now

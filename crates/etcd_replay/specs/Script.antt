@@ -65,18 +65,18 @@ read_add text =
     (parts_of text)
 
 -- `<method> <target> <body>`: the body is all that follows, and without its space it is empty
-abbrev pub call_of : List ℕ → List ℕ → Option Parts → Asked
-call_of method text None = Call method text []
-call_of method text (Some target) = Call method target.field target.rest
+abbrev pub call_asked : List ℕ → List ℕ → Option Parts → Asked
+call_asked method text None = Call method text []
+call_asked method text (Some target) = Call method target.field target.rest
 
-abbrev pub read_call : List ℕ → Option Asked
-read_call text =
-    option_map (λ method. call_of method.field method.rest (parts_of method.rest)) (parts_of text)
+abbrev pub read_call_line : List ℕ → Option Asked
+read_call_line text =
+    option_map (λ method. call_asked method.field method.rest (parts_of method.rest)) (parts_of text)
 
 abbrev pub read_word : List ℕ → List ℕ → Option Asked
 read_word word rest =
     if bytes_eq word (codes "add") then read_add rest
-    else if bytes_eq word (codes "call") then read_call rest
+    else if bytes_eq word (codes "call") then read_call_line rest
     else None
 
 -- a line that is too long, or says anything else, can't be read

@@ -33,11 +33,11 @@ pub struct Answer {
 
 impl Model for Answer {
     ghost use Rattle.etcd_model.specs.ReplyText as texts;
-    ghost use Rattle.etcd_replay.specs.Bodies.{bytes_of};
+    ghost use Rattle.etcd_replay.specs.Bodies.{body_bytes};
 
     ghost Value = { texts.Answer };
 
-    ghost view = { λ a. record { status = a.status; body = bytes_of a.body } };
+    ghost view = { λ a. record { status = a.status; body = body_bytes a.body } };
 }
 
 impl Answer {

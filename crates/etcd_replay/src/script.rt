@@ -4,7 +4,7 @@ ghost use Rattle.std.specs.Char.{is_ascii_digit};
 ghost use Rattle.std.specs.List.{list_all};
 ghost use Rattle.etcd_types.specs.Limits.{max_script_line};
 ghost use Rattle.etcd_replay.specs.Script.{asked_by, is_number, number_of, parts_of};
-ghost use Rattle.etcd_replay.specs.Script.{read_add, read_call, read_line};
+ghost use Rattle.etcd_replay.specs.Script.{read_add, read_call_line, read_line};
 ghost use Rattle.etcd_replay.specs.Parted.{parts_by};
 
 use etcd_types::limits::MAX_SCRIPT_LINE;
@@ -65,7 +65,7 @@ fn read_add(text: &[u8]) -> Option<Line<'_>>
 }
 
 fn read_call(text: &[u8]) -> Option<Line<'_>>
-    ensures { option_map asked_by result ≡ read_call text.now }
+    ensures { option_map asked_by result ≡ read_call_line text.now }
 {
     let method = parts_of(text)?;
     let target = parts_of(method.rest).unwrap_or(Parts {

@@ -1,6 +1,9 @@
 -- The limits that definitions cite.
 use Rattle.std.specs.Prelude.{ℕ, ℤ}
-use Rattle.etcd_types.specs.declared.limits.TheConstants.{LAST_MOMENT, RESPONSE_REVISIONS, MAX_OPS, MAX_TTL, LAST_REVISION, LAST_LEASE_ID, CELL_BYTES, WATCH_SLOTS, MAX_BODY, MAX_SCRIPT_LINE, MAX_NAME, MIN_QUOTA, MAX_QUOTA}
+use Rattle.etcd_types.specs.declared.limits.TheConstants.{LAST_MOMENT, RESPONSE_REVISIONS, MAX_OPS, MAX_TTL}
+use Rattle.etcd_types.specs.declared.limits.TheConstants.{LAST_REVISION, LAST_LEASE_ID, CELL_BYTES}
+use Rattle.etcd_types.specs.declared.limits.TheConstants.{WATCH_SLOTS, MAX_BODY, MAX_SCRIPT_LINE, MAX_NAME}
+use Rattle.etcd_types.specs.declared.limits.TheConstants.{MIN_QUOTA, MAX_QUOTA}
 
 abbrev pub max_ops : ℕ
 max_ops = MAX_OPS

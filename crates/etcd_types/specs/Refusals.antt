@@ -1,7 +1,12 @@
 -- What a client is told of a refusal: its number, the code of gRPC, the status of HTTP, and a text.
 use Rattle.std.specs.Prelude.{ℕ, List, codes}
 use Rattle.etcd_types.specs.declared.refusal.Refusal.{Refusal}
-use Rattle.etcd_types.specs.declared.refusal.Refusal.TheVariants.{NoKey, ValueGiven, LeaseGiven, KeyNotFound, TooManyOps, DuplicateKey, Compacted, Future, NoSpace, LeaseNotFound, LeaseExists, TtlTooLarge, TooLarge, BadBody, NotOffered, NoTenant, NoPath, NotPost, TooManyWatches, UsedUp, Memory}
+use Rattle.etcd_types.specs.declared.refusal.Refusal.TheVariants.{NoKey, ValueGiven, LeaseGiven, KeyNotFound}
+use Rattle.etcd_types.specs.declared.refusal.Refusal.TheVariants.{TooManyOps, DuplicateKey, Compacted, Future}
+use Rattle.etcd_types.specs.declared.refusal.Refusal.TheVariants.{NoSpace, LeaseNotFound, LeaseExists}
+use Rattle.etcd_types.specs.declared.refusal.Refusal.TheVariants.{TtlTooLarge, TooLarge, BadBody, NotOffered}
+use Rattle.etcd_types.specs.declared.refusal.Refusal.TheVariants.{NoTenant, NoPath, NotPost, TooManyWatches}
+use Rattle.etcd_types.specs.declared.refusal.Refusal.TheVariants.{UsedUp, Memory}
 
 abbrev pub refusal_number : Refusal → ℕ
 refusal_number NoKey = 1
@@ -26,7 +31,8 @@ refusal_number TooManyWatches = 19
 refusal_number UsedUp = 20
 refusal_number Memory = 21
 
--- invalid argument 3, not found 5, resource exhausted 8, failed precondition 9, out of range 11, unimplemented 12, unavailable 14
+-- invalid argument 3, not found 5, resource exhausted 8, failed precondition 9, out of range 11, unimplemented 12,
+-- unavailable 14
 abbrev pub refusal_code : Refusal → ℕ
 refusal_code NoKey = 3
 refusal_code ValueGiven = 3

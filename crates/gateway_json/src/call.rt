@@ -5,7 +5,8 @@ ghost use Rattle.etcd_types.specs.Limits.{max_body};
 ghost use Rattle.etcd_types.specs.declared.refusal.Refusal.TheVariants.{TooLarge};
 ghost use Rattle.etcd_model.specs.Members.{IsAnswer};
 ghost use Rattle.etcd_model.specs.Offered.{is_built};
-ghost use Rattle.etcd_model.specs.Calls.{check_fields, read_built, read_call, read_members, read_posted, read_step};
+ghost use Rattle.etcd_model.specs.Calls.{check_fields, read_built, read_call, read_members, read_posted};
+ghost use Rattle.etcd_model.specs.Calls.{read_step};
 
 use crate::body::read_body;
 use crate::kv::{read_compaction, read_delete, read_put, read_range};

@@ -1,7 +1,9 @@
 //! Tables of names, and the members that are one of a table.
 ghost use Rattle.std.specs.Prelude.{◌≡◌, option_map, map};
 ghost use Rattle.serde_json.specs.View.{view};
-ghost use Rattle.etcd_model.specs.Members.{IsAnswer, choice_in, named, placed, read_action, read_alarm, read_choice, read_compare_target, read_order, read_result, read_target};
+ghost use Rattle.etcd_model.specs.Members.{IsAnswer, choice_in, named, placed, read_action, read_alarm};
+ghost use Rattle.etcd_model.specs.Members.{read_choice, read_compare_target, read_order, read_result};
+ghost use Rattle.etcd_model.specs.Members.{read_sort_target};
 ghost use Rattle.etcd_model.specs.Requests.{filter_in};
 
 use crate::list::FromElement;
@@ -81,7 +83,7 @@ const TARGETS: [(&str, SortTarget); 5] = [
 ];
 
 impl FromMember for SortTarget {
-    ghost reads = { read_target };
+    ghost reads = { read_sort_target };
 
     fn read(_alloc: Global, value: Option<&Value>) -> Result<SortTarget, Refusal> {
         read_choice(value, &TARGETS, SortTarget::Key)

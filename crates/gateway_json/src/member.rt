@@ -4,7 +4,8 @@ ghost use Rattle.serde_json.specs.Data.{Data};
 ghost use Rattle.serde_json.specs.Find.{get};
 ghost use Rattle.serde_json.specs.View.{view};
 ghost use Rattle.etcd_types.specs.declared.refusal.Refusal.{Refusal};
-ghost use Rattle.etcd_model.specs.Members.{IsAnswer, first_of, member_of, present, read_bytes, read_flag, read_signed, read_unsigned, signed_text, unsigned_text};
+ghost use Rattle.etcd_model.specs.Members.{IsAnswer, member_of, unless_null, read_bytes, read_flag};
+ghost use Rattle.etcd_model.specs.Members.{read_signed, read_unsigned, signed_text, unsigned_text};
 
 use crate::names::spelled;
 use crate::spelling::bytes_of_text;
@@ -113,7 +114,7 @@ impl FromMember for bool {
 
 /// The member of that name, unless it is null.
 fn present<'v>(value: &'v Value, name: &str) -> Option<&'v Value>
-    ensures { option_map (λ v. view v.now) result ≡ present (get name.now (view value.now)) }
+    ensures { option_map (λ v. view v.now) result ≡ unless_null (get name.now (view value.now)) }
 {
     value.get(name).filter(|member| !member.is_null())
 }

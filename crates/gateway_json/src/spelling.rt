@@ -5,7 +5,8 @@ ghost use Rattle.base64.specs.Engines.{standard_no_pad};
 ghost use Rattle.base64.specs.GeneralPurpose.{IsBytes, decode_of};
 ghost use Rattle.etcd_types.specs.declared.refusal.Refusal.TheVariants.{Memory};
 ghost use Rattle.etcd_model.specs.Members.{IsAnswer, or_bad};
-ghost use Rattle.etcd_model.specs.Spelling.{Spells, spelled_bytes, standard_symbol, without_equals, without_padding};
+ghost use Rattle.etcd_model.specs.Spelling.{Spells, spelled_bytes, standard_symbol, without_equals};
+ghost use Rattle.etcd_model.specs.Spelling.{without_padding};
 
 use base64::DecodeAllocError;
 use base64::engine::general_purpose::STANDARD_NO_PAD;

@@ -24,7 +24,8 @@ struct Operands {
 impl Operands {
     /// The operand that the target names.
     fn of(self, target: CompareTarget) -> Operand
-        ensures { result ≡ operand_of target self.version self.create_revision self.mod_revision self.value self.lease }
+        ensures { result ≡ operand_of target
+            self.version self.create_revision self.mod_revision self.value self.lease }
     {
         match target {
             CompareTarget::Version => Operand::Version(self.version),

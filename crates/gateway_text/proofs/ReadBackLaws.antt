@@ -10,8 +10,8 @@ use Rattle.serde_json.specs.Read.{max_depth, read}
 use Rattle.serde_json.specs.Written.{compact_text}
 use Rattle.etcd_types.specs.declared.reply.Reply.{Reply}
 use Rattle.etcd_types.specs.declared.reply.Reply.TheVariants as reply
-use Rattle.etcd_model.specs.ReplyText.{range_data, put_data, delete_data, txn_data, bare_data, created_data, events_data, canceled_data, granted_data, kept_alive_data, time_to_live_data, leases_data, alarms_data, status_data, refusal_data, reply_body, stream_text}
-use Rattle.gateway_text.specs.ReadBack.{ReadsBack, reply_data}
+use Rattle.etcd_model.specs.ReplyText.{range_data, put_data, delete_data, txn_data, bare_data, created_data, events_data, canceled_data, granted_data, kept_alive_data, time_to_live_data, leases_data, alarms_data, status_data, refusal_data, reply_body, reply_data, stream_text}
+use Rattle.gateway_text.specs.ReadBack.{ReadsBack}
 use Rattle.gateway_text.proofs.AnswerShapes.{range_answer_fits, put_answer_fits, delete_answer_fits, txn_answer_fits, bare_fits, created_fits, events_fits, canceled_fits, granted_fits, kept_alive_fits, time_to_live_fits, leases_fits, alarms_fits, status_fits, refusal_fits}
 use Rattle.gateway_text.proofs.ReadBackLemmas.{read_text, read_line, utf8_line}
 use Rattle.gateway_text.proofs.ShapeLemmas.{Fits, utf8_text}

@@ -1,4 +1,4 @@
--- Groups of replies.
+-- A group of replies.
 use Rattle.std.specs.Prelude.{Bool, true, false}
 use Rattle.etcd_types.specs.declared.reply.Reply.{Reply}
 use Rattle.etcd_types.specs.declared.reply.Reply.TheVariants as reply
@@ -10,11 +10,3 @@ is_key_reply (reply.Put header prev_kv) = true
 is_key_reply (reply.Delete header deleted prev_kvs) = true
 is_key_reply (reply.Txn header succeeded responses) = true
 is_key_reply r = false
-
--- the answers that lie in a `result`
-abbrev pub is_stream_reply : Reply → Bool
-is_stream_reply (reply.Created header watch_id slot) = true
-is_stream_reply (reply.Events header watch_id events) = true
-is_stream_reply (reply.Canceled header watch_id compact_revision) = true
-is_stream_reply (reply.KeptAlive header id ttl) = true
-is_stream_reply r = false

@@ -1,8 +1,9 @@
 //! The answers about leases.
 ghost use Rattle.std.specs.Prelude.{◌≡◌, ◌++◌, IfOk, OnOk, codes, false, string_bytes};
 ghost use Rattle.serde_json.specs.Written.{compact_text};
-ghost use Rattle.etcd_model.specs.ReplyText.{granted_data, header_member, lease_data, leases_data, signed_member, time_to_live_data};
-ghost use Rattle.gateway_text.specs.Wrote.{Wrote};
+ghost use Rattle.etcd_model.specs.ReplyText.{granted_data, header_member, lease_data, leases_data};
+ghost use Rattle.etcd_model.specs.ReplyText.{signed_member, time_to_live_data};
+ghost use Rattle.gateway_text.specs.Wrote.{WroteMembers};
 
 use crate::list::{WriteItem, write_item, write_list};
 use crate::member::write_signed;
@@ -21,7 +22,7 @@ impl WriteItem for i64 {
 
 /// Writes the members of the answer to a grant or a keepalive.
 pub(crate) fn write_lease(out: &mut String, header: &Header, id: &i64, ttl: &i64) -> Mem<bool>
-    ensures { IfOk result (λ after. Wrote (string_bytes out.old) false (string_bytes out.new) after
+    ensures { IfOk result (λ after. WroteMembers (string_bytes out.old) false (string_bytes out.new) after
         (λ rest. signed_member (codes "ID") id.now
         (signed_member (codes "TTL") ttl.now (header_member header.now rest)))) }
 {

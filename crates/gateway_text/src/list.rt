@@ -6,7 +6,7 @@ ghost use Rattle.serde_json.specs.Data.{Data, member as with_member};
 ghost use Rattle.serde_json.specs.Written.{compact_text, items_text};
 ghost use Rattle.etcd_model.specs.ReplyText.{items_of, list_member};
 ghost use Rattle.gateway_text.specs.Plain.{is_plain};
-ghost use Rattle.gateway_text.specs.Wrote.{Wrote};
+ghost use Rattle.gateway_text.specs.Wrote.{WroteMembers};
 
 use crate::member::{write_comma, write_name};
 use etcd_types::Mem;
@@ -29,7 +29,7 @@ pub(crate) fn write_item<T: WriteItem>(
     item: &T,
 ) -> Mem<bool>
     requires { IsTrue (is_plain name.now) }
-    ensures { IfOk result (λ after. Wrote (string_bytes out.old) later (string_bytes out.new) after
+    ensures { IfOk result (λ after. WroteMembers (string_bytes out.old) later (string_bytes out.new) after
         (with_member name.now (T.data_of item.now))) }
 {
     write_name(out, later, name)?;
@@ -45,7 +45,7 @@ pub(crate) fn write_list<T: WriteItem>(
     items: &[T],
 ) -> Mem<bool>
     requires { IsTrue (is_plain name.now) }
-    ensures { IfOk result (λ after. Wrote (string_bytes out.old) later (string_bytes out.new) after
+    ensures { IfOk result (λ after. WroteMembers (string_bytes out.old) later (string_bytes out.new) after
         (list_member T.data_of name.now items.now)) }
 {
     if items.is_empty() {

@@ -7,9 +7,10 @@
 ghost use Rattle.std.specs.Prelude.{◌≡◌, ◌++◌, IsTrue, IfOk, OnOk, string_bytes};
 ghost use Rattle.serde_json.specs.Data.{string, number, unsigned, member as with_member};
 ghost use Rattle.serde_json.specs.Written.{comma_if, compact_text};
-ghost use Rattle.etcd_model.specs.ReplyText.{signed_member, unsigned_member, bytes_data, bytes_member, flag_member};
+ghost use Rattle.etcd_model.specs.ReplyText.{signed_member, unsigned_member, bytes_data, bytes_member};
+ghost use Rattle.etcd_model.specs.ReplyText.{flag_member};
 ghost use Rattle.gateway_text.specs.Plain.{is_plain};
-ghost use Rattle.gateway_text.specs.Wrote.{Wrote, name_text};
+ghost use Rattle.gateway_text.specs.Wrote.{WroteMembers, name_text};
 
 use base64::engine::general_purpose::STANDARD;
 use etcd_types::Mem;
@@ -53,7 +54,7 @@ fn write_quoted(out: &mut String, text: &str) -> Mem<()>
 pub(crate) fn write_text(out: &mut String, later: bool, name: &str, text: &str) -> Mem<bool>
     requires name { IsTrue (is_plain name.now) }
     requires text { IsTrue (is_plain text.now) }
-    ensures { IfOk result (λ after. Wrote (string_bytes out.old) later (string_bytes out.new) after
+    ensures { IfOk result (λ after. WroteMembers (string_bytes out.old) later (string_bytes out.new) after
         (with_member name.now (string text.now))) }
 {
     write_name(out, later, name)?;
@@ -65,7 +66,7 @@ pub(crate) fn write_text(out: &mut String, later: bool, name: &str, text: &str) 
 #[tactic(auto, using(crate::proofs::PlainLemmas::plain_signed))]
 pub(crate) fn write_signed(out: &mut String, later: bool, name: &str, n: &i64) -> Mem<bool>
     requires { IsTrue (is_plain name.now) }
-    ensures { IfOk result (λ after. Wrote (string_bytes out.old) later (string_bytes out.new) after
+    ensures { IfOk result (λ after. WroteMembers (string_bytes out.old) later (string_bytes out.new) after
         (signed_member name.now n.now)) }
 {
     if *n == 0 {
@@ -79,7 +80,7 @@ pub(crate) fn write_signed(out: &mut String, later: bool, name: &str, n: &i64) -
 #[tactic(auto, using(crate::proofs::PlainLemmas::plain_decimal))]
 pub(crate) fn write_unsigned(out: &mut String, later: bool, name: &str, n: u64) -> Mem<bool>
     requires { IsTrue (is_plain name.now) }
-    ensures { IfOk result (λ after. Wrote (string_bytes out.old) later (string_bytes out.new) after
+    ensures { IfOk result (λ after. WroteMembers (string_bytes out.old) later (string_bytes out.new) after
         (unsigned_member name.now n)) }
 {
     if n == 0 {
@@ -92,7 +93,7 @@ pub(crate) fn write_unsigned(out: &mut String, later: bool, name: &str, n: u64) 
 /// Writes a small number, which is a JSON number.
 pub(crate) fn write_number(out: &mut String, later: bool, name: &str, n: u64) -> Mem<bool>
     requires { IsTrue (is_plain name.now) }
-    ensures { IfOk result (λ after. Wrote (string_bytes out.old) later (string_bytes out.new) after
+    ensures { IfOk result (λ after. WroteMembers (string_bytes out.old) later (string_bytes out.new) after
         (with_member name.now (number (unsigned n)))) }
 {
     let mut buffer = itoa::Buffer::new();
@@ -115,7 +116,7 @@ pub(crate) fn write_base64(out: &mut String, bytes: &[u8]) -> Mem<()>
 /// Writes bytes, which are a string of base64.
 pub(crate) fn write_bytes(out: &mut String, later: bool, name: &str, bytes: &[u8]) -> Mem<bool>
     requires { IsTrue (is_plain name.now) }
-    ensures { IfOk result (λ after. Wrote (string_bytes out.old) later (string_bytes out.new) after
+    ensures { IfOk result (λ after. WroteMembers (string_bytes out.old) later (string_bytes out.new) after
         (bytes_member name.now bytes.now)) }
 {
     if bytes.is_empty() {
@@ -129,7 +130,7 @@ pub(crate) fn write_bytes(out: &mut String, later: bool, name: &str, bytes: &[u8
 /// Writes what is true.
 pub(crate) fn write_flag(out: &mut String, later: bool, name: &str, flag: bool) -> Mem<bool>
     requires { IsTrue (is_plain name.now) }
-    ensures { IfOk result (λ after. Wrote (string_bytes out.old) later (string_bytes out.new) after
+    ensures { IfOk result (λ after. WroteMembers (string_bytes out.old) later (string_bytes out.new) after
         (flag_member name.now flag)) }
 {
     if !flag {

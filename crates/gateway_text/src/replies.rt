@@ -1,8 +1,9 @@
 //! The status and the text of a reply.
 ghost use Rattle.std.specs.Prelude.{◌≡◌, ◌++◌, IfOk, OnOk, codes, false, string_bytes};
 ghost use Rattle.serde_json.specs.Written.{compact_text};
-ghost use Rattle.etcd_model.specs.ReplyText.{alarm_list, alarms_data, bare_data, list_member, reply_body, reply_status, status_data};
-ghost use Rattle.gateway_text.specs.Wrote.{Wrote};
+ghost use Rattle.etcd_model.specs.ReplyText.{alarm_list, alarms_data, bare_data, list_member, reply_body};
+ghost use Rattle.etcd_model.specs.ReplyText.{reply_status, status_data};
+ghost use Rattle.gateway_text.specs.Wrote.{WroteMembers};
 
 use crate::leases::{write_granted, write_leases, write_time_to_live};
 use crate::list::write_item;
@@ -95,7 +96,7 @@ fn write_alarms(out: &mut String, header: &Header, no_space: bool) -> Mem<()>
 
 /// Writes the list of the one alarm that there is, if it is raised.
 fn write_alarm(out: &mut String, no_space: bool) -> Mem<bool>
-    ensures { IfOk result (λ after. Wrote (string_bytes out.old) false (string_bytes out.new) after
+    ensures { IfOk result (λ after. WroteMembers (string_bytes out.old) false (string_bytes out.new) after
         (list_member (λ alarm. alarm) (codes "alarms") (alarm_list no_space))) }
 {
     if no_space {

@@ -2,7 +2,8 @@
 ghost use Rattle.std.specs.Prelude.{◌≡◌, ◌++◌, IsTrue, OnOk, string_bytes};
 ghost use Rattle.serde_json.specs.Data.{object};
 ghost use Rattle.serde_json.specs.Written.{compact_text};
-ghost use Rattle.etcd_model.specs.ReplyText.{delete_members, put_members, range_members, reply_body, response_data, txn_data};
+ghost use Rattle.etcd_model.specs.ReplyText.{delete_members, put_members, range_members, reply_body};
+ghost use Rattle.etcd_model.specs.ReplyText.{response_data, txn_data};
 ghost use Rattle.gateway_text.specs.Groups.{is_key_reply};
 
 use crate::header::InnerHeader;

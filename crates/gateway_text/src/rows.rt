@@ -2,7 +2,7 @@
 ghost use Rattle.std.specs.Prelude.{IsTrue, IfOk, string_bytes};
 ghost use Rattle.etcd_model.specs.ReplyText.{bytes_data, event_data, key_value_data, kind_member, row_member};
 ghost use Rattle.gateway_text.specs.Plain.{is_plain};
-ghost use Rattle.gateway_text.specs.Wrote.{Wrote};
+ghost use Rattle.gateway_text.specs.Wrote.{WroteMembers};
 
 use crate::list::{WriteItem, write_item};
 use crate::member::{write_base64, write_bytes, write_signed, write_text, write_unsigned};
@@ -53,7 +53,7 @@ pub(crate) fn write_row(
     row: &Option<KeyValue>,
 ) -> Mem<bool>
     requires { IsTrue (is_plain name.now) }
-    ensures { IfOk result (λ after. Wrote (string_bytes out.old) later (string_bytes out.new) after
+    ensures { IfOk result (λ after. WroteMembers (string_bytes out.old) later (string_bytes out.new) after
         (row_member name.now row.now)) }
 {
     match row {
@@ -64,7 +64,7 @@ pub(crate) fn write_row(
 
 /// Writes what happened, unless it was a put.
 fn write_kind(out: &mut String, later: bool, kind: EventKind) -> Mem<bool>
-    ensures { IfOk result (λ after. Wrote (string_bytes out.old) later (string_bytes out.new) after
+    ensures { IfOk result (λ after. WroteMembers (string_bytes out.old) later (string_bytes out.new) after
         (kind_member kind)) }
 {
     match kind {

@@ -1,7 +1,7 @@
 //! The answers of watches and of keepalives: each lies in a `result` and ends a line.
 ghost use Rattle.std.specs.Prelude.{◌≡◌, ◌++◌, IsTrue, OnOk, string_bytes};
-ghost use Rattle.etcd_model.specs.ReplyText.{canceled_data, created_data, events_data, kept_alive_data, reply_body, stream_text};
-ghost use Rattle.gateway_text.specs.Groups.{is_stream_reply};
+ghost use Rattle.etcd_model.specs.ReplyText.{canceled_data, created_data, events_data, is_stream_reply};
+ghost use Rattle.etcd_model.specs.ReplyText.{kept_alive_data, reply_body, stream_text};
 
 use crate::leases::write_lease;
 use crate::list::{write_item, write_list};

@@ -7,7 +7,7 @@ use Rattle.std.proofs.lemmas.List.Edits.{length-insert, get_or-insert_below, get
 use Rattle.etcd_model.specs.Order.{key_cmp}
 use Rattle.key_index.specs.Links.{Cells, Linked, IsChained, IsNewest, NoneAfter, IsPlaced, without, with_link, with_older}
 use Rattle.key_index.specs.Index.{IsIndexOf, IsGapFor, IsAt}
-use Rattle.key_index.specs.Sought.{key_of}
+use Rattle.key_index.specs.Sought.{entry_key}
 use Rattle.key_index.proofs.Links.{one_linked, less_from_greater, not_less, if_same, if_other, without_some, none_from_gap}
 
 module _ (w m : Cells) (cell : ℕ) (e1 : Linked)
@@ -264,24 +264,24 @@ module _ (m : Cells) (cell : ℕ) (placed : IsPlaced m cell) where
     later : (b : ℕ) (g : Linked) → without m cell b ≡ Some g → g.change.key ≡ e1.change.key → g.change.revision < e1.change.revision
     later b g has same = placed.later placed.here.0 placed.here.1 b g has same
 
-  same_key : key_of (m cell) ≡ placed.here.0.change.key
-  same_key = ap key_of placed.here.1
+  same_key : entry_key (m cell) ≡ placed.here.0.change.key
+  same_key = ap entry_key placed.here.1
 
   -- a head that has the key had it without the new record
-  at_without : (heads : List ℕ) (i : ℕ) → IsIndexOf (without m cell) heads → IsAt m heads (key_of (m cell)) i → IsAt (without m cell) heads placed.here.0.change.key i
+  at_without : (heads : List ℕ) (i : ℕ) → IsIndexOf (without m cell) heads → IsAt m heads (entry_key (m cell)) i → IsAt (without m cell) heads placed.here.0.change.key i
   at_without heads i index at =
       let n = index.newest i at.in_range in
       let same : n.0 ≡ at.of_key.0 = one_linked (m (get_or heads i 0)) n.0 at.of_key.0 (without_some m cell _ n.0 n.1).1 at.of_key.1 in
       record { in_range = at.in_range; of_key = (n.0, n.1, ap (λ (x : Linked). x.change.key) same ∙ at.of_key.2 ∙ same_key) }
 
-  gap_without : (heads : List ℕ) (i : ℕ) → IsGapFor m heads (key_of (m cell)) i → IsGapFor (without m cell) heads placed.here.0.change.key i
+  gap_without : (heads : List ℕ) (i : ℕ) → IsGapFor m heads (entry_key (m cell)) i → IsGapFor (without m cell) heads placed.here.0.change.key i
   gap_without heads i gap = record {
     in_range = gap.in_range;
     smaller_before = λ j e lt has. subst (λ (k : List ℕ). key_cmp e.change.key k ≡ Less) same_key (gap.smaller_before j e lt (without_some m cell _ e has).1);
     greater_after = λ j e le lt has. subst (λ (k : List ℕ). key_cmp e.change.key k ≡ Greater) same_key (gap.greater_after j e le lt (without_some m cell _ e has).1);
   }
 
-  pub added_at : (heads : List ℕ) (i h : ℕ) → IsIndexOf (without m cell) heads → IsChained (without m cell) → IsAt m heads (key_of (m cell)) i → h ≡ get_or heads i 0 → AreAdded (with_link m cell (Some h)) (set heads i cell)
+  pub added_at : (heads : List ℕ) (i h : ℕ) → IsIndexOf (without m cell) heads → IsChained (without m cell) → IsAt m heads (entry_key (m cell)) i → h ≡ get_or heads i 0 → AreAdded (with_link m cell (Some h)) (set heads i cell)
   added_at heads i h index chained at is =
       let link : Option ℕ = Some h in
       let old = at_without heads i index at in
@@ -297,7 +297,7 @@ module _ (m : Cells) (cell : ℕ) (placed : IsPlaced m cell) where
             (λ eq. let p : link ≡ None = eq in let bad : ⊥ = cc in absurd bad);
       }
 
-  pub added_new : (heads : List ℕ) (i : ℕ) → IsIndexOf (without m cell) heads → IsChained (without m cell) → IsGapFor m heads (key_of (m cell)) i → AreAdded (with_link m cell None) (insert heads i cell)
+  pub added_new : (heads : List ℕ) (i : ℕ) → IsIndexOf (without m cell) heads → IsChained (without m cell) → IsGapFor m heads (entry_key (m cell)) i → AreAdded (with_link m cell None) (insert heads i cell)
   added_new heads i index chained gap =
       let link : Option ℕ = None in
       let old = gap_without heads i gap in

@@ -11,7 +11,7 @@ use Rattle.std.proofs.lemmas.List.{get_or_default}
 use Rattle.std.proofs.lemmas.Cmp.{tied_itself}
 use Rattle.etcd_model.specs.Order.{key_cmp}
 use Rattle.etcd_model.proofs.OrderLaws.{tied_keys}
-use Rattle.key_index.specs.Links.{Cells, Linked, without, IsChained, IsOf, IsNewest}
+use Rattle.key_index.specs.Links.{Cells, Linked, without, IsChained, IsOfKey, IsNewest}
 use Rattle.key_index.specs.Index.{IsIndexOf, IsSpread, IsGapFor, IsAt}
 
 -- the revision of the record under a cell
@@ -84,7 +84,7 @@ greater_down cells heads key m o index lt cmp greater j f from below at =
     ]
 
 -- where the record at m compares equal, it has the key
-pub at_equal : (cells : Cells) (heads key : List ℕ) (m : ℕ) (o : Ordering) → IsSpread cells heads → m < length heads → IfSome (cells (get_or heads m 0)) (λ e. o ≡ key_cmp e.change.key key) → o ≡ Equal → IsOf cells key (get_or heads m 0)
+pub at_equal : (cells : Cells) (heads key : List ℕ) (m : ℕ) (o : Ordering) → IsSpread cells heads → m < length heads → IfSome (cells (get_or heads m 0)) (λ e. o ≡ key_cmp e.change.key key) → o ≡ Equal → IsOfKey cells key (get_or heads m 0)
 at_equal cells heads key m o index lt cmp equal =
     let newest = index.some m lt in
     let says : o ≡ key_cmp newest.0.change.key key = at_linked _ (λ x. o ≡ key_cmp x.change.key key) newest.0 newest.1 cmp in
@@ -98,10 +98,10 @@ falls_along cells chained c d e at older =
     rw (at, next.1.at) next.1.earlier
 
 -- what the walk knows goes on along a link
-pub goes_on : (cells : Cells) → IsChained cells → (c d head revision now : ℕ) (e : Linked) → cells c ≡ Some e → IsOf cells e.change.key head → IfSome (cells c) (λ e. Some d ≡ e.older)
+pub goes_on : (cells : Cells) → IsChained cells → (c d head revision now : ℕ) (e : Linked) → cells c ≡ Some e → IsOfKey cells e.change.key head → IfSome (cells c) (λ e. Some d ≡ e.older)
     → IfSome (cells c) (λ e. now ≡ e.change.revision) → revision < now
     → ((b : ℕ) (f : Linked) → cells b ≡ Some f → f.change.key ≡ e.change.key → f.change.revision ≤ revision → f.change.revision ≤ e.change.revision)
-    → (x : Linked) × (cells d ≡ Some x) × IsOf cells x.change.key head × ((b : ℕ) (f : Linked) → cells b ≡ Some f → f.change.key ≡ x.change.key → f.change.revision ≤ revision → f.change.revision ≤ x.change.revision)
+    → (x : Linked) × (cells d ≡ Some x) × IsOfKey cells x.change.key head × ((b : ℕ) (f : Linked) → cells b ≡ Some f → f.change.key ≡ x.change.key → f.change.revision ≤ revision → f.change.revision ≤ x.change.revision)
 goes_on cells chained c d head revision now e at of older is above bound =
     let link : e.older ≡ Some d = sym (at_linked _ (λ x. Some d ≡ x.older) e at older) in
     let next = chained.linked c d e at link in
@@ -128,10 +128,10 @@ none_from_gap m heads key i index gap c e has same =
     ]
 
 -- the record that is found is the newest of its key
-pub newest_at : (m : Cells) (heads key : List ℕ) (i c : ℕ) → IsIndexOf m heads → IsAt m heads key i → c ≡ get_or heads i c → IsNewest m c × IsOf m key c
+pub newest_at : (m : Cells) (heads key : List ℕ) (i c : ℕ) → IsIndexOf m heads → IsAt m heads key i → c ≡ get_or heads i c → IsNewest m c × IsOfKey m key c
 newest_at m heads key i c index at is =
     let eq : get_or heads i 0 ≡ c = sym (is ∙ get_or_default heads i c 0 at.in_range) in
-    (subst (λ (x : ℕ). IsNewest m x) eq (index.newest i at.in_range), subst (λ (x : ℕ). IsOf m key x) eq at.of_key)
+    (subst (λ (x : ℕ). IsNewest m x) eq (index.newest i at.in_range), subst (λ (x : ℕ). IsOfKey m key x) eq at.of_key)
 
 pub if_same : {A : Type 0} (c : ℕ) (x y : A) → (if c == c then x else y) ≡ x
 if_same c x y = grind (arith, nat_tests)

@@ -8,57 +8,57 @@ use Rattle.key_index.specs.Links.{Cells, IsChained, IsPlaced, without}
 use Rattle.key_index.specs.Index.{IsIndexOf}
 use Rattle.key_index.specs.Compaction.{IsCompacted}
 use Rattle.key_index.specs.Order.{with_record}
-use Rattle.key_index.specs.Listed.{linked_of, cells_of, IsListed}
+use Rattle.key_index.specs.Listed.{linked_of, listed_cells, IsIndexedList}
 use Rattle.key_index.specs.declared.record_list.Record.{Record}
 use Rattle.key_index.proofs.Links.{if_other}
 use Rattle.key_index.proofs.Compacted.{linked_some}
 use Rattle.key_index.proofs.OrderAdded.{at_record, without_record, placed_record}
 
-fresh : (items : List (Option Record)) → cells_of items (length items) ≡ None
+fresh : (items : List (Option Record)) → listed_cells items (length items) ≡ None
 fresh items = ap (option_map linked_of) (get_or_past items (length items) None (omega arith))
 
 -- one more item is one more record
-pub cells_push : (items : List (Option Record)) (r : Record) → cells_of (items ++ Some r ∷ []) ≡ with_record (cells_of items) (length items) (linked_of r)
+pub cells_push : (items : List (Option Record)) (r : Record) → listed_cells (items ++ Some r ∷ []) ≡ with_record (listed_cells items) (length items) (linked_of r)
 cells_push items r = fun_ext (λ b. elim (cases_order b (length items)) [
-  | inl same ↦ subst (λ (x : ℕ). cells_of (items ++ Some r ∷ []) x ≡ with_record (cells_of items) (length items) (linked_of r) x) (sym same)
-      (ap (option_map linked_of) (get_or_push items (Some r) None (length items) refl) ∙ sym (at_record (cells_of items) (length items) (linked_of r)))
+  | inl same ↦ subst (λ (x : ℕ). listed_cells (items ++ Some r ∷ []) x ≡ with_record (listed_cells items) (length items) (linked_of r) x) (sym same)
+      (ap (option_map linked_of) (get_or_push items (Some r) None (length items) refl) ∙ sym (at_record (listed_cells items) (length items) (linked_of r)))
   | inr other ↦ elim other [
     | inl low ↦ ap (option_map linked_of) (get_or_append_left items (Some r ∷ []) None b low)
-        ∙ sym (if_other b (length items) (Some (linked_of r)) (cells_of items b) (λ eq. omega (arith, eq, low)))
+        ∙ sym (if_other b (length items) (Some (linked_of r)) (listed_cells items b) (λ eq. omega (arith, eq, low)))
     | inr high ↦ ap (option_map linked_of) (get_or_past (items ++ Some r ∷ []) b None (omega (arith, length_push items (Some r), high)) ∙ sym (get_or_past items b None (omega (arith, high))))
-        ∙ sym (if_other b (length items) (Some (linked_of r)) (cells_of items b) (λ eq. omega (arith, eq, high)))
+        ∙ sym (if_other b (length items) (Some (linked_of r)) (listed_cells items b) (λ eq. omega (arith, eq, high)))
   ]
 ])
 
-module _ (items : List (Option Record)) (heads : List ℕ) (listed : IsListed items heads) where
+module _ (items : List (Option Record)) (heads : List ℕ) (listed : IsIndexedList items heads) where
   -- what a compaction leaves is listed
-  pub listed_cut : (next : List (Option Record)) (left : List ℕ) (revision : ℕ) → IsCompacted (cells_of items) (cells_of next) revision → length next ≡ length items
-      → IsIndexOf (cells_of next) left → IsChained (cells_of next) → IsListed next left
+  pub listed_cut : (next : List (Option Record)) (left : List ℕ) (revision : ℕ) → IsCompacted (listed_cells items) (listed_cells next) revision → length next ≡ length items
+      → IsIndexOf (listed_cells next) left → IsChained (listed_cells next) → IsIndexedList next left
   listed_cut next left revision compacted same index chained = record {
     index = index;
     chained = chained;
     numbered = λ c e at.
-        let f = linked_some (cells_of items) c e.change (compacted.only c e at).0 in
+        let f = linked_some (listed_cells items) c e.change (compacted.only c e at).0 in
         omega (arith, listed.numbered c f.0 f.1, ap (λ (x : Recorded). x.revision) f.2, same);
   }
 
   module _ (r : Record) (is : r.revision ≡ length items + 2) (pushed : List (Option Record)) (one_more : pushed ≡ items ++ Some r ∷ []) (c : ℕ) (at : c ≡ length items) where
-    records : cells_of pushed ≡ with_record (cells_of items) c (linked_of r)
-    records = ap cells_of one_more ∙ cells_push items r ∙ ap (λ (x : ℕ). with_record (cells_of items) x (linked_of r)) (sym at)
+    records : listed_cells pushed ≡ with_record (listed_cells items) c (linked_of r)
+    records = ap listed_cells one_more ∙ cells_push items r ∙ ap (λ (x : ℕ). with_record (listed_cells items) x (linked_of r)) (sym at)
 
-    none_there : cells_of items c ≡ None
-    none_there = ap (cells_of items) at ∙ fresh items
+    none_there : listed_cells items c ≡ None
+    none_there = ap (listed_cells items) at ∙ fresh items
 
-    before : without (cells_of pushed) c ≡ cells_of items
-    before = ap (λ (m : Cells). without m c) records ∙ without_record (cells_of items) c (linked_of r) none_there
+    before : without (listed_cells pushed) c ≡ listed_cells items
+    before = ap (λ (m : Cells). without m c) records ∙ without_record (listed_cells items) c (linked_of r) none_there
 
     -- the next record can be taken up
-    pub placed_next : IsPlaced (cells_of pushed) c
+    pub placed_next : IsPlaced (listed_cells pushed) c
     placed_next = subst (λ (m : Cells). IsPlaced m c) (sym records)
-        (placed_record (cells_of items) c (linked_of r) none_there (λ b g at same. omega (arith, listed.numbered b g at, is)))
+        (placed_record (listed_cells items) c (linked_of r) none_there (λ b g at same. omega (arith, listed.numbered b g at, is)))
 
-    pub index_next : IsIndexOf (without (cells_of pushed) c) heads
+    pub index_next : IsIndexOf (without (listed_cells pushed) c) heads
     index_next = subst (λ (m : Cells). IsIndexOf m heads) (sym before) listed.index
 
-    pub chained_next : IsChained (without (cells_of pushed) c)
+    pub chained_next : IsChained (without (listed_cells pushed) c)
     chained_next = subst IsChained (sym before) listed.chained

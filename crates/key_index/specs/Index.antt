@@ -5,7 +5,7 @@ use Rattle.std.specs.declared.cmp.Ordering.TheVariants.{Less, Greater}
 use Rattle.std.specs.Str.{bytes_eq}
 use Rattle.etcd_model.specs.Order.{key_cmp, key_lt}
 use Rattle.etcd_model.specs.Interval.{is_in}
-use Rattle.key_index.specs.Links.{Cells, Linked, IsOf, IsNewest}
+use Rattle.key_index.specs.Links.{Cells, Linked, IsOfKey, IsNewest}
 
 -- the index's cells, and how many it can have
 pub record Heads : Type 0 where
@@ -24,12 +24,12 @@ pub record IsIndexOf (cells : Cells) (heads : List ℕ) : Type 0 where
   pub sorted : (i j : ℕ) (e f : Linked) → i < j → j < length heads → cells (slice_index heads i) ≡ Some e
       → cells (slice_index heads j) ≡ Some f → key_cmp e.change.key f.change.key ≡ Less
   pub whole : (c : ℕ) (e : Linked) → cells c ≡ Some e
-      → (i : ℕ) × (i < length heads) × IsOf cells e.change.key (slice_index heads i)
+      → (i : ℕ) × (i < length heads) × IsOfKey cells e.change.key (slice_index heads i)
 
 -- the record at a place has the key
 pub record IsAt (cells : Cells) (heads : List ℕ) (key : List ℕ) (i : ℕ) : Type 0 where
   pub in_range : i < length heads
-  pub of_key : IsOf cells key (slice_index heads i)
+  pub of_key : IsOfKey cells key (slice_index heads i)
 
 -- the key would go at a place: smaller keys before it, and greater keys from it on
 pub record IsGapFor (cells : Cells) (heads : List ℕ) (key : List ℕ) (i : ℕ) : Type 0 where

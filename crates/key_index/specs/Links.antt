@@ -16,8 +16,8 @@ abbrev pub change_at : Cells → ℕ → Option Recorded
 change_at cells c = option_map (λ e. e.change) (cells c)
 
 -- the cell has a record of this key
-abbrev pub IsOf : Cells → List ℕ → ℕ → Type 0
-IsOf cells key c = (e : Linked) × (cells c ≡ Some e) × (e.change.key ≡ key)
+abbrev pub IsOfKey : Cells → List ℕ → ℕ → Type 0
+IsOfKey cells key c = (e : Linked) × (cells c ≡ Some e) × (e.change.key ≡ key)
 
 -- each record of the key is from this revision or an earlier one
 abbrev pub NoneAfter : Cells → List ℕ → ℕ → Type 0
@@ -35,7 +35,7 @@ IsNewest cells c = (e : Linked) × (cells c ≡ Some e) × NoneAfter cells e.cha
 
 -- the last change of the key at a revision at most this one
 pub record IsLast (cells : Cells) (key : List ℕ) (revision c : ℕ) : Type 0 where
-  pub of_key : IsOf cells key c
+  pub of_key : IsOfKey cells key c
   pub up_to : (e : Linked) → cells c ≡ Some e → e.change.revision ≤ revision
   pub last : (e : Linked) → cells c ≡ Some e → (b : ℕ) (g : Linked) → cells b ≡ Some g → g.change.key ≡ key
       → g.change.revision ≤ revision → g.change.revision ≤ e.change.revision

@@ -10,8 +10,8 @@ linked_of r =
     record { change = record { key = r.key.items; revision = r.revision; row = r.row }; older = r.older }
 
 -- what is under each place
-abbrev pub cells_of : List (Option Record) → Cells
-cells_of items c = option_map linked_of (slice_index_or items c None)
+abbrev pub listed_cells : List (Option Record) → Cells
+listed_cells items c = option_map linked_of (slice_index_or items c None)
 
 -- an empty place is one cell
 abbrev pub empty_cell : Option Record → ℕ
@@ -23,7 +23,7 @@ empty_places items = sum_by empty_cell items
 
 -- A list with its index, of which no record has a later revision than its places allow: they begin with
 -- revision 2.
-pub record IsListed (items : List (Option Record)) (heads : List ℕ) : Type 0 where
-  pub index : IsIndexOf (cells_of items) heads
-  pub chained : IsChained (cells_of items)
-  pub numbered : (c : ℕ) (e : Linked) → cells_of items c ≡ Some e → e.change.revision < length items + 2
+pub record IsIndexedList (items : List (Option Record)) (heads : List ℕ) : Type 0 where
+  pub index : IsIndexOf (listed_cells items) heads
+  pub chained : IsChained (listed_cells items)
+  pub numbered : (c : ℕ) (e : Linked) → listed_cells items c ≡ Some e → e.change.revision < length items + 2

@@ -9,10 +9,10 @@ abbrev pub IsThere : Cells → Sought → Type 0
 IsThere cells (Key key) = Unit {0}
 IsThere cells (KeyOf c) = IsSome (cells c)
 
-abbrev pub key_of : Option Linked → List ℕ
-key_of None = []
-key_of (Some e) = e.change.key
+abbrev pub entry_key : Option Linked → List ℕ
+entry_key None = []
+entry_key (Some e) = e.change.key
 
 abbrev pub sought_key : Cells → Sought → List ℕ
 sought_key cells (Key key) = key.now
-sought_key cells (KeyOf c) = key_of (cells c)
+sought_key cells (KeyOf c) = entry_key (cells c)

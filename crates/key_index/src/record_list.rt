@@ -21,9 +21,9 @@ pub struct RecordList {
 }
 
 impl Records for RecordList {
-    ghost use Rattle.key_index.specs.Listed.{cells_of};
+    ghost use Rattle.key_index.specs.Listed.{listed_cells};
 
-    ghost cells = { λ s. cells_of s.items.items };
+    ghost cells = { λ s. listed_cells s.items.items };
 
     fn key_cmp(&self, cell: CellNo, key: &[u8]) -> Ordering {
         match self.items.get(cell.number() as usize) {

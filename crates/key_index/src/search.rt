@@ -2,7 +2,7 @@
 ghost use Rattle.std.specs.Prelude.{◌≡◌, ℕ, ◌+◌, ◌-◌, ◌*◌, ◌<◌, ◌≤◌, List, length, slice_index};
 ghost use Rattle.std.specs.Prelude.{Option, Some, None, IsSome, IfSome, MatchResult, MatchOption};
 ghost use Rattle.etcd_model.specs.Order.{key_cmp as cmp_of_keys};
-ghost use Rattle.key_index.specs.Links.{Linked, IsChained, IsLast, IsNewest, IsOf, NoneUpTo};
+ghost use Rattle.key_index.specs.Links.{Linked, IsChained, IsLast, IsNewest, IsOfKey, NoneUpTo};
 ghost use Rattle.key_index.specs.Index.{IsAt, IsGapFor, IsSpread};
 ghost use Rattle.key_index.specs.Sought.{IsThere, sought_key};
 
@@ -59,7 +59,7 @@ pub(crate) fn search<R: Records>(
 pub fn last_up_to<R: Records>(head: CellNo, records: &R, revision: u64) -> Option<CellNo>
     requires chained { IsChained (R.cells records.now) }
     requires newest { IsNewest (R.cells records.now) head }
-    ensures { (key : List ℕ) → IsOf (R.cells records.now) key head
+    ensures { (key : List ℕ) → IsOfKey (R.cells records.now) key head
       → MatchOption result (NoneUpTo (R.cells records.now) key revision)
       (IsLast (R.cells records.now) key revision) }
 {

@@ -38,13 +38,13 @@ struct Changes {
 
 impl Model for Changes {
     ghost use Rattle.key_index.specs.Index.{Heads};
-    ghost use Rattle.key_index.specs.Listed.{IsListed};
+    ghost use Rattle.key_index.specs.Listed.{IsIndexedList};
 
     ghost Value = { Heads };
 
     ghost view = { λ s. s.index };
 
-    ghost invariant = { λ s. IsListed s.records.items.items s.index.cells };
+    ghost invariant = { λ s. IsIndexedList s.records.items.items s.index.cells };
 }
 
 impl Changes {

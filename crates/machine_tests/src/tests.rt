@@ -1,7 +1,7 @@
 //! What a tenant's machine answers, by worked examples.
 //!
-//! Scripts are tables of plain values, and each of their steps is made, taken and told by one small function: a test
-//! that holds many values is long to prove, for each way out of it.
+//! Scripts are tables of plain values, and each of their steps is made, taken and told by one small function:
+//! a test that holds many values is long to prove, for each way out of it.
 ghost use Rattle.std.specs.Prelude.{◌≡◌, ◌+◌, ◌≤◌};
 ghost use Rattle.etcd_types.specs.Limits.{max_quota, min_quota};
 ghost use Rattle.cell_arena.specs.Loan.{IsLent};

@@ -9,7 +9,7 @@ use Rattle.etcd_model.specs.declared.state.Change.{Change}
 use Rattle.etcd_model.specs.declared.state.History.{History}
 use Rattle.etcd_model.specs.History.{key_of}
 use Rattle.etcd_model.specs.Kept.{is_last_put}
-use Rattle.etcd_model.specs.Changes.{Recorded, entry_at, entry_of, change_of, changes_of, recorded, last, keeps, kept, ChangesOnce, record_revision}
+use Rattle.etcd_model.specs.Changes.{Recorded, entry_at, entry_of, change_of, recorded_changes, recorded, last, keeps, kept, ChangesOnce, record_revision}
 use Rattle.etcd_model.proofs.HistoryLaws.{changes_of as own_changes}
 use Rattle.model_laws.specs.Once.{IsOnce}
 use Rattle.model_laws.specs.Apart.{is_same_place, AreApart, is_at, is_last_up_to}
@@ -35,8 +35,8 @@ from_entries : (xs : List Recorded) → Apart (map entry_of xs) → AreApart xs
 from_entries [] h = tt
 from_entries (x ∷ xs) h = (from_place x xs h.0, from_entries xs h.1)
 
-pub changes_apart : (H : History) → ChangesOnce H → AreApart (changes_of H)
-changes_apart H once = from_entries (changes_of H) (subst Apart (sym (changes_are_entries H)) (entries_apart H.first H.revisions once))
+pub changes_apart : (H : History) → ChangesOnce H → AreApart (recorded_changes H)
+changes_apart H once = from_entries (recorded_changes H) (subst Apart (sym (changes_are_entries H)) (entries_apart H.first H.revisions once))
 
 pub kept_apart : (c : ℕ) (xs : List Recorded) → AreApart xs → AreApart (kept c xs)
 kept_apart c [] apart = tt

@@ -38,8 +38,8 @@ use Rattle.etcd_model.specs.Compares.{all_hold}
 use Rattle.etcd_model.specs.Operations.{op_refusal, ops_refusal, op_reply, pending_after, replies, branch, first_refusal}
 use Rattle.etcd_model.specs.declared.state.State.{State}
 use Rattle.etcd_model.specs.Tenant.{Asks, Outcome, reads, header, used, stays}
-use Rattle.etcd_model.specs.Leases.{lease_at, attached, finish, tick, run_out, with_lease, granted_ttl}
-use Rattle.etcd_model.specs.Watches.{created, given, taken, told, watch_of, with_slot, free_slot, first_of, event_of, bare}
+use Rattle.etcd_model.specs.Leases.{lease_at, attached, finish, tick, run_out, put_lease, granted_ttl}
+use Rattle.etcd_model.specs.Watches.{created, events_given, taken, watch_told, watch_of, with_slot, free_slot, first_of, event_of, bare}
 use Rattle.etcd_model.specs.Fields.{fields, refused_if}
 use Rattle.etcd_model.specs.Stepping.{writes, chooses_id, may_add, adds, with_header, compact_refusal, compacted_at, grant_id, counter_after, look_up, pending, single, transaction, compaction, grant, revoke, kept_alive, time_left, alarm_of, outcome, decided, early, before_space, within_quota, unless_alarmed, machine}
 use Rattle.etcd_model.specs.Held.{over, outcome_over}
@@ -142,13 +142,13 @@ module _ {X Y : Type 0} (ax : Asks X) (ay : Asks Y) (h : X → Y) where
   same_grant : (t : State X) → Carries t.store → (g : GrantReq) → grant ay (over h t) g ≡ outcome_over h (grant ax t g)
   same_grant t k g =
       ap (λ (l : Look). let o : Outcome Y = record {
-        state = record (over h t) { leases = with_lease t.moment t.leases (grant_id t.counter t.leases g.id) (granted_ttl g.ttl); counter = counter_after t.counter t.leases g.id };
+        state = record (over h t) { leases = put_lease t.moment t.leases (grant_id t.counter t.leases g.id) (granted_ttl g.ttl); counter = counter_after t.counter t.leases g.id };
         reply = Granted (head t (l [])) (grant_id t.counter t.leases g.id) (pos (granted_ttl g.ttl));
       } in o) k.look
 
   same_kept_alive : (t : State X) → Carries t.store → (id : ℤ) (o : Option Lease) → kept_alive ay (over h t) id o ≡ outcome_over h (kept_alive ax t id o)
   same_kept_alive t k id None = ap (λ (l : Look). let o : Outcome Y = record { state = over h t; reply = KeptAlive (head t (l [])) id (pos 0) } in o) k.look
-  same_kept_alive t k id (Some w) = ap (λ (l : Look). let o : Outcome Y = record { state = record (over h t) { leases = with_lease t.moment t.leases id w.ttl }; reply = KeptAlive (head t (l [])) id (pos w.ttl) } in o) k.look
+  same_kept_alive t k id (Some w) = ap (λ (l : Look). let o : Outcome Y = record { state = record (over h t) { leases = put_lease t.moment t.leases id w.ttl }; reply = KeptAlive (head t (l [])) id (pos w.ttl) } in o) k.look
 
   same_time : (t : State X) → Carries t.store → (id : ℤ) (asked : Bool) (o : Option Lease) → time_left ay (over h t) id asked o ≡ time_left ax t id asked o
   same_time t k id asked None = ap (λ (l : Look). TimeReply (head t (l [])) id (negsuc 0) (pos 0) []) k.look
@@ -170,9 +170,9 @@ module _ {X Y : Type 0} (ax : Asks X) (ay : Asks Y) (h : X → Y) where
       ap (λ (v : Event). v ∷ map (λ (f : Entry). event_of ay (over h t) w f f.change) es) (same_event t k w e e.change)
       ∙ ap (λ (vs : List Event). event_of ax t w e e.change ∷ vs) (same_events t k w es)
 
-  same_given : (t : State X) → Carries t.store → (i : ℕ) (w : Watching) (es : List Entry) (vs : List Event) → given ay (over h t) i w es vs ≡ outcome_over h (given ax t i w es vs)
-  same_given t k i w es [] = ap (λ (l : Look). let o : Outcome Y = record { state = record (over h t) { slots = slice_set t.slots i (Some (told (l []).current w es)) }; reply = Quiet } in o) k.look
-  same_given t k i w es (v ∷ vs) = ap (λ (l : Look). let o : Outcome Y = record { state = record (over h t) { slots = slice_set t.slots i (Some (told (l []).current w es)) }; reply = Events (head t (l [])) w.id (v ∷ vs) } in o) k.look
+  same_given : (t : State X) → Carries t.store → (i : ℕ) (w : Watching) (es : List Entry) (vs : List Event) → events_given ay (over h t) i w es vs ≡ outcome_over h (events_given ax t i w es vs)
+  same_given t k i w es [] = ap (λ (l : Look). let o : Outcome Y = record { state = record (over h t) { slots = slice_set t.slots i (Some (watch_told (l []).current w es)) }; reply = Quiet } in o) k.look
+  same_given t k i w es (v ∷ vs) = ap (λ (l : Look). let o : Outcome Y = record { state = record (over h t) { slots = slice_set t.slots i (Some (watch_told (l []).current w es)) }; reply = Events (head t (l [])) w.id (v ∷ vs) } in o) k.look
 
   either_over : (b : Bool) (x y : Outcome X) → (if b then outcome_over h x else outcome_over h y) ≡ outcome_over h (if b then x else y)
   either_over true x y = refl
@@ -183,14 +183,14 @@ module _ {X Y : Type 0} (ax : Asks X) (ay : Asks Y) (h : X → Y) where
   same_taken t k i (Some None) = refl
   same_taken t k i (Some (Some w)) =
       let events : List Entry → List Event = λ es. map (λ e. event_of ax t w e e.change) (first_of es) in
-      let rest : Outcome Y = given ay (over h t) i w (ay.ahead (h t.store) w) (map (λ e. event_of ay (over h t) w e e.change) (first_of (ay.ahead (h t.store) w))) in
-      let over_given : rest ≡ outcome_over h (given ax t i w (ax.ahead t.store w) (events (ax.ahead t.store w))) =
-      ap (λ (vs : List Event). given ay (over h t) i w (ay.ahead (h t.store) w) vs) (same_events t k w (first_of (ay.ahead (h t.store) w)))
-      ∙ ap (λ (f : Watching → List Entry). given ay (over h t) i w (f w) (events (f w))) k.ahead
+      let rest : Outcome Y = events_given ay (over h t) i w (ay.ahead (h t.store) w) (map (λ e. event_of ay (over h t) w e e.change) (first_of (ay.ahead (h t.store) w))) in
+      let over_given : rest ≡ outcome_over h (events_given ax t i w (ax.ahead t.store w) (events (ax.ahead t.store w))) =
+      ap (λ (vs : List Event). events_given ay (over h t) i w (ay.ahead (h t.store) w) vs) (same_events t k w (first_of (ay.ahead (h t.store) w)))
+      ∙ ap (λ (f : Watching → List Entry). events_given ay (over h t) i w (f w) (events (f w))) k.ahead
       ∙ same_given t k i w (ax.ahead t.store w) (events (ax.ahead t.store w)) in
       ap (λ (l : Look). let o : Outcome Y = if nat_lt w.next (l []).compacted then record { state = record (over h t) { slots = slice_set t.slots i None }; reply = Canceled (head t (l [])) w.id (pos (l []).compacted) } else rest in o) k.look
       ∙ ap (λ (o : Outcome Y). if nat_lt w.next (reads ax t).compacted then record { state = record (over h t) { slots = slice_set t.slots i None }; reply = Canceled (header ax t) w.id (pos (reads ax t).compacted) } else o) over_given
-      ∙ either_over (nat_lt w.next (reads ax t).compacted) (record { state = with_slot ax t i None; reply = Canceled (header ax t) w.id (pos (reads ax t).compacted) }) (given ax t i w (ax.ahead t.store w) (events (ax.ahead t.store w)))
+      ∙ either_over (nat_lt w.next (reads ax t).compacted) (record { state = with_slot ax t i None; reply = Canceled (header ax t) w.id (pos (reads ax t).compacted) }) (events_given ax t i w (ax.ahead t.store w) (events (ax.ahead t.store w)))
 
   -- ---- the alarm and the space
 

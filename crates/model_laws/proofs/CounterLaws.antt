@@ -18,7 +18,7 @@ use Rattle.etcd_model.specs.declared.state.State.{State}
 use Rattle.etcd_model.specs.Order.{beside, put_in}
 use Rattle.etcd_model.specs.Operations.{has_lease}
 use Rattle.etcd_model.specs.Tenant.{used}
-use Rattle.etcd_model.specs.Leases.{lease_at, step_past, free_id, finish, run_out, with_lease}
+use Rattle.etcd_model.specs.Leases.{lease_at, step_past, free_id, finish, run_out, put_lease}
 use Rattle.etcd_model.specs.Stepping.{counter_after, early, outcome, kept_alive}
 use Rattle.etcd_model.specs.Machine as machine
 use Rattle.etcd_model.specs.Held.{by_id}
@@ -52,10 +52,10 @@ grant_adds_one x (l ∷ ls) h =
     tied : by_id x l ≡ Equal → int_eq l.id x.id ≡ true
     tied e = (Decides-int_eq l.id x.id).1 (sym (same_id x.id l.id (ap is_eq e)))
 
-pub grant_adds : (moment : ℕ) (leases : List Lease) (id : ℤ) (ttl : ℕ) → has_lease leases id ≡ false → length (with_lease moment leases id ttl) ≡ length leases + 1
+pub grant_adds : (moment : ℕ) (leases : List Lease) (id : ℤ) (ttl : ℕ) → has_lease leases id ≡ false → length (put_lease moment leases id ttl) ≡ length leases + 1
 grant_adds moment leases id ttl h = grant_adds_one (record { id = id; ttl = ttl; end = moment + ttl }) leases h
 
-pub renew_adds_none : (moment : ℕ) (leases : List Lease) (id : ℤ) (ttl : ℕ) → IsStrictlySortedBy by_id leases → has_lease leases id ≡ true → length (with_lease moment leases id ttl) ≡ length leases
+pub renew_adds_none : (moment : ℕ) (leases : List Lease) (id : ℤ) (ttl : ℕ) → IsStrictlySortedBy by_id leases → has_lease leases id ≡ true → length (put_lease moment leases id ttl) ≡ length leases
 renew_adds_none moment leases id ttl ascend h = renewed (record { id = id; ttl = ttl; end = moment + ttl }) leases h ascend
 
 -- those without an ID, and those with it

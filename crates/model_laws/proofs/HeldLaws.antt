@@ -26,7 +26,7 @@ use Rattle.etcd_model.specs.Kept as over_history
 use Rattle.etcd_model.specs.Kept.{cost, cost_delete}
 use Rattle.etcd_model.specs.declared.state.State.{State}
 use Rattle.etcd_model.specs.Tenant.{Outcome, reads}
-use Rattle.etcd_model.specs.Watches.{is_ahead, passes}
+use Rattle.etcd_model.specs.Watches.{is_ahead, passes_filters}
 use Rattle.etcd_model.specs.Operations.{branch, first_refusal}
 use Rattle.etcd_model.specs.Leases.{attached, finish, run_out}
 use Rattle.etcd_model.specs.Fields.{fields}
@@ -34,7 +34,7 @@ use Rattle.etcd_model.specs.Stepping as stepping
 use Rattle.etcd_model.specs.Stepping.{early, look_up, used_up, writes, chooses_id, outcome, pending, decided}
 use Rattle.etcd_model.specs.Machine as machine
 use Rattle.etcd_model.specs.Machine.{opening}
-use Rattle.etcd_model.specs.Changes.{Recorded, ChangesOnce, entry_at, entry_of, change_of, changes_of, recorded, record_revision, live, rows, keeps, kept, Rises}
+use Rattle.etcd_model.specs.Changes.{Recorded, ChangesOnce, entry_at, entry_of, change_of, recorded_changes, recorded, record_revision, live, rows, keeps, kept, Rises}
 use Rattle.etcd_model.specs.Store as store
 use Rattle.etcd_model.specs.Store.{Store, kept_store}
 use Rattle.etcd_model.specs.Held.{keep, IsHistory, outcome_over, over}
@@ -62,26 +62,26 @@ kept_revision c n xs (d ∷ ds) above rises up =
     kept_revision c n (xs ++ x ∷ []) ds above (rises_push xs x rises up) (all_push (λ (y : Recorded). y.revision ≤ n) xs x up (omega arith))
     ∙ ap (λ ys. record_revision n ys ds) (kept_append c xs (x ∷ []) (above, tt) ∙ ap (λ y. kept c xs ++ y ∷ []) (sym (recorded_kept c xs e from rises)))
 
-pub keep_after : (H : History) (cs : List Change) → H.compacted ≤ current H → store.after (keep H) cs ≡ keep (history.after H cs)
+pub keep_after : (H : History) (cs : List Change) → H.compacted ≤ current H → store.after (keep H) cs ≡ keep (history.history_after H cs)
 keep_after H [] le = refl
 keep_after H (c ∷ cs) le =
     let n = current H + 1 in
     let above : H.compacted < n = omega (arith, le) in
-    let all : kept H.compacted (changes_of (history.after H (c ∷ cs))) ≡ record_revision n (kept H.compacted (changes_of H)) (c ∷ cs) =
+    let all : kept H.compacted (recorded_changes (history.history_after H (c ∷ cs))) ≡ record_revision n (kept H.compacted (recorded_changes H)) (c ∷ cs) =
     ap (kept H.compacted) (changes_after H c cs)
-    ∙ kept_revision H.compacted n (changes_of H) (c ∷ cs) above (changes_rise H) (all_weaker (λ (x : Recorded). x.revision ≤ current H) (λ (x : Recorded). x.revision ≤ n) (λ x h. omega (arith, h)) (changes_of H) (changes_up_to_current H)) in
+    ∙ kept_revision H.compacted n (recorded_changes H) (c ∷ cs) above (changes_rise H) (all_weaker (λ (x : Recorded). x.revision ≤ current H) (λ (x : Recorded). x.revision ≤ n) (λ x h. omega (arith, h)) (recorded_changes H) (changes_up_to_current H)) in
     λ i. record { current = sym (current-after H c cs) i; compacted = H.compacted; changes = sym all i }
 
 pub keep_compact : (H : History) (r : ℕ) → H.compacted ≤ r → store.compact (keep H) r ≡ keep (machine.history.compact H r)
-keep_compact H r le = λ i. record { current = current H; compacted = r; changes = kept_kept H.compacted r (changes_of H) le (changes_rise H) i }
+keep_compact H r le = λ i. record { current = current H; compacted = r; changes = kept_kept H.compacted r (recorded_changes H) le (changes_rise H) i }
 
 -- ---- reads
 
-pub live_kept_history : (H : History) (key : List ℕ) (r : ℕ) → H.compacted ≤ r → live key r (kept H.compacted (changes_of H)) ≡ kv H key r
-live_kept_history H key r le = live_kept key H.compacted r (changes_of H) le (changes_rise H) ∙ live_of_changes H key r
+pub live_kept_history : (H : History) (key : List ℕ) (r : ℕ) → H.compacted ≤ r → live key r (kept H.compacted (recorded_changes H)) ≡ kv H key r
+live_kept_history H key r le = live_kept key H.compacted r (recorded_changes H) le (changes_rise H) ∙ live_of_changes H key r
 
-pub rows_kept_history : (H : History) (interval : List ℕ → Bool) (r : ℕ) → H.compacted ≤ r → rows interval r (kept H.compacted (changes_of H)) ≡ history.rows H interval r
-rows_kept_history H interval r le = rows_kept interval H.compacted r (changes_of H) le (changes_rise H) (changes_own_their_rows H) ∙ rows_of_changes H interval r
+pub rows_kept_history : (H : History) (interval : List ℕ → Bool) (r : ℕ) → H.compacted ≤ r → rows interval r (kept H.compacted (recorded_changes H)) ≡ history.history_rows H interval r
+rows_kept_history H interval r le = rows_kept interval H.compacted r (recorded_changes H) le (changes_rise H) (changes_own_their_rows H) ∙ rows_of_changes H interval r
 
 -- at a revision from the compaction on, or nothing below it
 guarded : {Z : Type 0} (r c : ℕ) (none x y : Z) → (c ≤ r → x ≡ y) → (if nat_lt r c then none else x) ≡ (if nat_lt r c then none else y)
@@ -90,12 +90,12 @@ guarded r c none x y same = elim (cases_lt r c) [
   | inr from ↦ ap (λ z. if nat_lt r c then none else z) (same from)
 ]
 
-pub keep_reads : (H : History) → H.compacted ≤ current H → store.reads_of (keep H) ≡ machine.reads_of H
+pub keep_reads : (H : History) → H.compacted ≤ current H → store.reads_of (keep H) ≡ machine.history_reads H
 keep_reads H le =
-    let row : (λ (key : List ℕ). live key (current H) (kept H.compacted (changes_of H))) ≡ (λ key. kv H key (current H)) = fun_ext (λ key. live_kept_history H key (current H) le) in
-    let newest : (λ (key end : List ℕ). rows (is_in key end) (current H) (kept H.compacted (changes_of H))) ≡ (λ key end. history.rows H (is_in key end) (current H)) = fun_ext (λ key. fun_ext (λ end. rows_kept_history H (is_in key end) (current H) le)) in
-    let older : (λ (key end : List ℕ) (r : ℕ). if nat_lt r H.compacted then [] else rows (is_in key end) r (kept H.compacted (changes_of H))) ≡ (λ key end r. if nat_lt r H.compacted then [] else history.rows H (is_in key end) r) =
-    fun_ext (λ key. fun_ext (λ end. fun_ext (λ r. guarded r H.compacted [] (rows (is_in key end) r (kept H.compacted (changes_of H))) (history.rows H (is_in key end) r) (rows_kept_history H (is_in key end) r)))) in
+    let row : (λ (key : List ℕ). live key (current H) (kept H.compacted (recorded_changes H))) ≡ (λ key. kv H key (current H)) = fun_ext (λ key. live_kept_history H key (current H) le) in
+    let newest : (λ (key end : List ℕ). rows (is_in key end) (current H) (kept H.compacted (recorded_changes H))) ≡ (λ key end. history.history_rows H (is_in key end) (current H)) = fun_ext (λ key. fun_ext (λ end. rows_kept_history H (is_in key end) (current H) le)) in
+    let older : (λ (key end : List ℕ) (r : ℕ). if nat_lt r H.compacted then [] else rows (is_in key end) r (kept H.compacted (recorded_changes H))) ≡ (λ key end r. if nat_lt r H.compacted then [] else history.history_rows H (is_in key end) r) =
+    fun_ext (λ key. fun_ext (λ end. fun_ext (λ r. guarded r H.compacted [] (rows (is_in key end) r (kept H.compacted (recorded_changes H))) (history.history_rows H (is_in key end) r) (rows_kept_history H (is_in key end) r)))) in
     λ i. record { current = current H; compacted = H.compacted; row = row i; rows = newest i; rows_at = older i }
 
 -- ---- what a watch is told of
@@ -113,7 +113,7 @@ ahead_kept w c (x ∷ xs) le = elim (cases_Bool (keeps c x xs)) [
     below c x xs lost = grind (arith, nat_tests)
 
     behind : keeps c x xs ≡ false → is_ahead w (entry_of x) ≡ false
-    behind lost = let low : x.revision < c = below c x xs lost in ap (λ b. b && (is_in w.key w.range_end (key_of (change_of x)) && passes w (change_of x))) (lt-leb w.next x.revision (omega (arith, low, le)))
+    behind lost = let low : x.revision < c = below c x xs lost in ap (λ b. b && (is_in w.key w.range_end (key_of (change_of x)) && passes_filters w (change_of x))) (lt-leb w.next x.revision (omega (arith, low, le)))
 
 -- ---- the space
 
@@ -123,24 +123,24 @@ records_entries (x ∷ xs) =
     sum_by-cons (λ (y : Recorded). cost (change_of y)) x xs ∙ ap (λ n. cost (change_of x) + n) (records_entries xs)
     ∙ sym (sum_by-cons (λ (e : Entry). cost e.change) (entry_of x) (map entry_of xs))
 
-pub keep_cells : (H : History) → IsHistory H → store.cells (keep H) ≡ over_history.cells H
+pub keep_cells : (H : History) → IsHistory H → store.counted_cells (keep H) ≡ over_history.history_cells H
 keep_cells H is =
-    ap (λ n. n + store.reserved_cells (current H) (kept H.compacted (changes_of H))) (records_entries (kept H.compacted (changes_of H)) ∙ ap (sum_by (λ (e : Entry). cost e.change)) (kept_of_changes H is.once))
-    ∙ ap (λ (rs : List KeyValue). sum_by (λ (e : Entry). cost e.change) (over_history.kept H) + sum_by (λ (row : KeyValue). cost_delete row.key) rs) (rows_kept_history H every_key (current H) is.compacted)
+    ap (λ n. n + store.reserved_cells (current H) (kept H.compacted (recorded_changes H))) (records_entries (kept H.compacted (recorded_changes H)) ∙ ap (sum_by (λ (e : Entry). cost e.change)) (kept_of_changes H is.once))
+    ∙ ap (λ (rs : List KeyValue). sum_by (λ (e : Entry). cost e.change) (over_history.kept_entries H) + sum_by (λ (row : KeyValue). cost_delete row.key) rs) (rows_kept_history H every_key (current H) is.compacted)
 
 -- ---- carried
 
-pub up_after : (H : History) (cs : List Change) → H.compacted ≤ current H → (history.after H cs).compacted ≤ current (history.after H cs)
+pub up_after : (H : History) (cs : List Change) → H.compacted ≤ current H → (history.history_after H cs).compacted ≤ current (history.history_after H cs)
 up_after H [] le = le
 up_after H (c ∷ cs) le = omega (arith, le, current-after H c cs)
 
 pub carries : (H : History) → H.compacted ≤ current H → Carries machine.history kept_store keep H
 carries H le = record {
-  look = fun_ext (λ cs. ap store.reads_of (keep_after H cs le) ∙ keep_reads (history.after H cs) (up_after H cs le));
+  look = fun_ext (λ cs. ap store.reads_of (keep_after H cs le) ∙ keep_reads (history.history_after H cs) (up_after H cs le));
   after = λ cs. keep_after H cs le;
   compact = λ r from. keep_compact H r from;
-  ahead = fun_ext (λ w. guarded w.next H.compacted [] (filter (is_ahead w) (map entry_of (kept H.compacted (changes_of H)))) (filter (is_ahead w) (entries H)) (λ from. ahead_kept w H.compacted (changes_of H) from ∙ ap (filter (is_ahead w)) (changes_are_entries H)));
-  row_at = fun_ext (λ key. fun_ext (λ r. guarded r H.compacted None (live key r (kept H.compacted (changes_of H))) (kv H key r) (live_kept_history H key r)));
+  ahead = fun_ext (λ w. guarded w.next H.compacted [] (filter (is_ahead w) (map entry_of (kept H.compacted (recorded_changes H)))) (filter (is_ahead w) (entries H)) (λ from. ahead_kept w H.compacted (recorded_changes H) from ∙ ap (filter (is_ahead w)) (changes_are_entries H)));
+  row_at = fun_ext (λ key. fun_ext (λ r. guarded r H.compacted None (live key r (kept H.compacted (recorded_changes H))) (kv H key r) (live_kept_history H key r)));
 }
 
 -- ---- a history as runs make it

@@ -15,7 +15,7 @@ use Rattle.etcd_model.specs.declared.state.Entry.{Entry}
 use Rattle.etcd_model.specs.History.{key_of, is_put, entries_after, last_change}
 use Rattle.etcd_model.specs.Kept as over_history
 use Rattle.etcd_model.specs.Kept.{is_last_put, is_kept}
-use Rattle.etcd_model.specs.Changes.{Recorded, OwnRow, entry_at, entry_of, change_of, change_by, changes_of, next_row, last_by, is_up_to, last, keeps, kept, or_before, ChangesOnce, Rises, recorded, rows}
+use Rattle.etcd_model.specs.Changes.{Recorded, OwnRow, entry_at, entry_of, change_of, change_by, recorded_changes, next_row, last_by, is_up_to, last, keeps, kept, or_before, ChangesOnce, Rises, recorded, rows}
 use Rattle.etcd_model.proofs.HistoryLaws.{changes_of as changes_of_key}
 use Rattle.model_laws.proofs.LastLaws.{some_or_none, none_any, any_none, all_last, last_passes}
 use Rattle.model_laws.proofs.KeptLaws.{same_key, all_kept, live_kept, last_here}
@@ -149,7 +149,7 @@ alike c zs x ys apart = elim (cases_lt x.revision c) [
     ]
 
 -- over the whole history, of which ys are the last changes
-kept_rest : (H : History) (zs ys : List Recorded) → changes_of H ≡ zs ++ ys → Apart (map entry_of ys) → map entry_of (kept H.compacted ys) ≡ filter (is_kept H) (map entry_of ys)
+kept_rest : (H : History) (zs ys : List Recorded) → recorded_changes H ≡ zs ++ ys → Apart (map entry_of ys) → map entry_of (kept H.compacted ys) ≡ filter (is_kept H) (map entry_of ys)
 kept_rest H zs [] is apart = refl
 kept_rest H zs (x ∷ ys) is apart =
     let c = H.compacted in
@@ -165,7 +165,7 @@ kept_rest H zs (x ∷ ys) is apart =
     out true = refl
     out false = refl
 
-pub kept_of_changes : (H : History) → ChangesOnce H → map entry_of (kept H.compacted (changes_of H)) ≡ over_history.kept H
+pub kept_of_changes : (H : History) → ChangesOnce H → map entry_of (kept H.compacted (recorded_changes H)) ≡ over_history.kept_entries H
 kept_of_changes H once =
-    kept_rest H [] (changes_of H) refl (subst Apart (sym (changes_are_entries H)) (entries_apart H.first H.revisions once))
+    kept_rest H [] (recorded_changes H) refl (subst Apart (sym (changes_are_entries H)) (entries_apart H.first H.revisions once))
     ∙ ap (filter (is_kept H)) (changes_are_entries H)

@@ -14,7 +14,7 @@ use Rattle.std.proofs.lemmas.List.Kept.{IsStrictlySortedBy-filter}
 use Rattle.etcd_model.specs.declared.state.Lease.{Lease}
 use Rattle.etcd_model.specs.Order.{beside, put_in, in_order}
 use Rattle.etcd_model.specs.Operations.{has_lease}
-use Rattle.etcd_model.specs.Leases.{step_past, end_cmp, free_id, run_out, with_lease}
+use Rattle.etcd_model.specs.Leases.{step_past, end_cmp, free_id, run_out, put_lease}
 use Rattle.etcd_model.proofs.OrderLaws.{sorted-put_in, sorted-in_order, below_less}
 use Rattle.etcd_model.specs.Held.{by_id}
 
@@ -24,7 +24,7 @@ by_id_total = on_total (λ (l : Lease). l.id) int_cmp_total
 pub end_cmp_total : IsTotalOrder end_cmp
 end_cmp_total = then_total (on_total (λ (l : Lease). l.end) nat_cmp_total) (on_total (λ (l : Lease). l.id) int_cmp_total)
 
-pub with_lease_ascends : (moment : ℕ) (leases : List Lease) (id : ℤ) (ttl : ℕ) → IsStrictlySortedBy by_id leases → IsStrictlySortedBy by_id (with_lease moment leases id ttl)
+pub with_lease_ascends : (moment : ℕ) (leases : List Lease) (id : ℤ) (ttl : ℕ) → IsStrictlySortedBy by_id leases → IsStrictlySortedBy by_id (put_lease moment leases id ttl)
 with_lease_ascends moment leases id ttl h = sorted-put_in by_id by_id_total (record { id = id; ttl = ttl; end = moment + ttl }) leases h
 
 pub without_lease_ascends : (leases : List Lease) (id : ℤ) → IsStrictlySortedBy by_id leases → IsStrictlySortedBy by_id (filter (λ l. not (int_eq l.id id)) leases)

@@ -29,8 +29,7 @@ use Rattle.etcd_model.specs.declared.state.Entry.{Entry}
 use Rattle.etcd_model.specs.declared.state.State.{State}
 use Rattle.std.specs.declared.cmp.Ordering.TheVariants.{Equal}
 use Rattle.etcd_model.specs.Order.{put_in}
-use Rattle.etcd_model.specs.History as history
-use Rattle.etcd_model.specs.History.{key_of, current, entries_after, kv, rows, keys, generation, shown_by}
+use Rattle.etcd_model.specs.History.{key_of, current, entries_after, kv, history_rows, history_keys, generation, shown_by, history_after}
 use Rattle.etcd_model.specs.Interval.{is_in, every_key}
 use Rattle.etcd_model.specs.Reads.{Reads}
 use Rattle.etcd_model.specs.Compares.{all_hold}
@@ -40,7 +39,7 @@ use Rattle.etcd_model.specs.Leases.{lease_at, attached, finish, run_out, granted
 use Rattle.etcd_model.specs.Fields.{fields, refused_if, is_empty, op_lacks_key}
 use Rattle.etcd_model.specs.Stepping.{look_up, outcome, pending, kept_alive, grant_id}
 use Rattle.etcd_model.specs.Machine as machine
-use Rattle.etcd_model.specs.Machine.{opening}
+use Rattle.etcd_model.specs.Machine.{opening, history_reads}
 use Rattle.etcd_model.specs.Changes.{entry_at, next_row}
 use Rattle.etcd_model.specs.Held.{HasKeys, HoldsLeased, is_leased, by_id}
 use Rattle.etcd_model.proofs.OrderLaws.{any-put_in}
@@ -84,16 +83,16 @@ row_has_key H has key r row e = given key (kv-key H key r row e) e
     given [] is shown = let none : None ≡ Some row = sym (no_empty_row H has r) ∙ shown in let bad : ⊥ = cc in absurd bad
     given (b ∷ bs) is shown = ap is_empty is
 
-rows_have_keys : (H : History) → HasKeys H → (interval : List ℕ → Bool) (r : ℕ) → AllByRecursion (λ row. is_empty row.key ≡ false) (rows H interval r)
+rows_have_keys : (H : History) → HasKeys H → (interval : List ℕ → Bool) (r : ℕ) → AllByRecursion (λ row. is_empty row.key ≡ false) (history_rows H interval r)
 rows_have_keys H has interval r =
-    recursion_from_All (λ (row : KeyValue). is_empty row.key ≡ false) (rows H interval r)
-    (all_rows (λ k. kv H k r) (λ k row. kv-key H k r row) (λ row. is_empty row.key ≡ false) (λ k row e. row_has_key H has k r row e) (filter interval (keys H)))
+    recursion_from_All (λ (row : KeyValue). is_empty row.key ≡ false) (history_rows H interval r)
+    (all_rows (λ k. kv H k r) (λ k row. kv-key H k r row) (λ row. is_empty row.key ≡ false) (λ k row e. row_has_key H has k r row e) (filter interval (history_keys H)))
 
 keyed_deletes : (rs : List KeyValue) → AllByRecursion (λ row. is_empty row.key ≡ false) rs → Keyed (map (λ row. Del row.key) rs)
 keyed_deletes [] all = tt
 keyed_deletes (r ∷ rs) all = (all.0, keyed_deletes rs all.1)
 
-keys_after : (H : History) (cs : List Change) → HasKeys H → Keyed cs → HasKeys (history.after H cs)
+keys_after : (H : History) (cs : List Change) → HasKeys H → Keyed cs → HasKeys (history_after H cs)
 keys_after H [] has keyed = has
 keys_after H (c ∷ cs) has keyed = all_push Keyed H.revisions (c ∷ cs) has keyed
 
@@ -105,15 +104,15 @@ keyed_ops H has (PutOp p ∷ ops) pending h keyed =
     let c = put_change p ((machine.history.look H pending).row p.key) in
     keyed_ops H has ops (pending ++ c ∷ []) parts.1 (all_push (λ (d : Change). is_empty (key_of d) ≡ false) pending c keyed parts.0)
 keyed_ops H has (DeleteOp d ∷ ops) pending h keyed =
-    let T = history.after H pending in
-    let rs = rows T (is_in d.key d.range_end) (current T) in
+    let T = history_after H pending in
+    let rs = history_rows T (is_in d.key d.range_end) (current T) in
     let parts = or_parts (is_empty d.key) (list_any op_lacks_key ops) h in
     keyed_ops H has ops (pending ++ map (λ row. Del row.key) rs) parts.1
     (all_append (λ (c : Change). is_empty (key_of c) ≡ false) pending (map (λ (row : KeyValue). Del row.key) rs) keyed (keyed_deletes rs (rows_have_keys T (keys_after H pending has keyed) (is_in d.key d.range_end) (current T))))
 keyed_ops H has (Nested ∷ ops) pending h keyed = keyed_ops H has ops (pending ++ []) h (subst Keyed (sym (append-nil pending)) keyed)
 
-keyed_attached : (H : History) → HasKeys H → (id : ℤ) → Keyed (map Del (attached (machine.reads_of H) id))
-keyed_attached H has id = from (rows H (is_in (0 ∷ []) (0 ∷ [])) (current H)) (rows_have_keys H has (is_in (0 ∷ []) (0 ∷ [])) (current H))
+keyed_attached : (H : History) → HasKeys H → (id : ℤ) → Keyed (map Del (attached (history_reads H) id))
+keyed_attached H has id = from (history_rows H (is_in (0 ∷ []) (0 ∷ [])) (current H)) (rows_have_keys H has (is_in (0 ∷ []) (0 ∷ [])) (current H))
   where
     from : (rs : List KeyValue) → AllByRecursion (λ row. is_empty row.key ≡ false) rs → Keyed (map Del (map (λ row. row.key) (filter (λ row. int_eq row.lease id) rs)))
     from [] all = tt
@@ -172,7 +171,7 @@ leased_fold leases r key o (c ∷ cs) h all = elim (bytes_eq (key_of c) key) as 
   | false ↦ leased_fold leases r key o cs h all.1
 ]
 
-leased_after : (S : State History) (cs : List Change) → HoldsLeased S → AllByRecursion (ChangeLeased S.leases) cs → (key : List ℕ) → RowLeased S.leases (kv (history.after S.store cs) key (current (history.after S.store cs)))
+leased_after : (S : State History) (cs : List Change) → HoldsLeased S → AllByRecursion (ChangeLeased S.leases) cs → (key : List ℕ) → RowLeased S.leases (kv (history_after S.store cs) key (current (history_after S.store cs)))
 leased_after S cs has all key = subst (RowLeased S.leases) (sym (kv-current_after S.store cs key)) (leased_fold S.leases (current S.store + 1) key (kv S.store key (current S.store)) cs (has key) all)
 
 -- a put whose lease is there
@@ -208,8 +207,8 @@ leased_ops S has (PutOp p ∷ ops) pending e all =
     leased_ops S has ops (pending ++ c ∷ []) parts.1
     (all_push (ChangeLeased S.leases) pending c all (leased_put S.leases p.ignore_lease p.lease (kept_lease now) own (leased_kept S.leases now (leased_after S pending has all p.key))))
 leased_ops S has (DeleteOp d ∷ ops) pending e all =
-    let T = history.after S.store pending in
-    let rs = rows T (is_in d.key d.range_end) (current T) in
+    let T = history_after S.store pending in
+    let rs = history_rows T (is_in d.key d.range_end) (current T) in
     let parts = first_none (op_refusal S.leases (reads machine.history S) (DeleteOp d)) (map (op_refusal S.leases (reads machine.history S)) ops) e in
     leased_ops S has ops (pending ++ map (λ row. Del row.key) rs) parts.1 (all_append (ChangeLeased S.leases) pending (map (λ (row : KeyValue). Del row.key) rs) all (leased_deletes S.leases rs))
 leased_ops S has (Nested ∷ ops) pending e all =
@@ -265,15 +264,15 @@ first_key (zero ∷ b ∷ bs) h = refl
 first_key (suc b ∷ bs) h = grind (arith, nat_tests)
 
 -- a live key with a lease is among those that the lease holds
-held_key : (H : History) → HasKeys H → (id : ℤ) (key : List ℕ) (row : KeyValue) → kv H key (current H) ≡ Some row → int_eq row.lease id ≡ true → list_any (λ k. bytes_eq k key) (attached (machine.reads_of H) id) ≡ true
+held_key : (H : History) → HasKeys H → (id : ℤ) (key : List ℕ) (row : KeyValue) → kv H key (current H) ≡ Some row → int_eq row.lease id ≡ true → list_any (λ k. bytes_eq k key) (attached (history_reads H) id) ≡ true
 held_key H has id key row is held =
     let n = current H in
     let every : List ℕ → Bool = is_in (0 ∷ []) (0 ∷ []) in
     let mine : KeyValue → Bool = λ r. bytes_eq r.key key in
     let inside : KeyValue → Bool = λ r. every r.key in
-    let there : find mine (filter inside (rows H every_key n)) ≡ Some row = find_filtered mine inside (rows H every_key n) row (first_key row.key (row_has_key H has key n row is)) (row_among H key n ∙ is) in
-    found_key key (filter (λ r. int_eq r.lease id) (rows H every n)) row
-    (find_filtered mine (λ r. int_eq r.lease id) (rows H every n) row held (ap (find mine) (rows-interval H every n) ∙ there))
+    let there : find mine (filter inside (history_rows H every_key n)) ≡ Some row = find_filtered mine inside (history_rows H every_key n) row (first_key row.key (row_has_key H has key n row is)) (row_among H key n ∙ is) in
+    found_key key (filter (λ r. int_eq r.lease id) (history_rows H every n)) row
+    (find_filtered mine (λ r. int_eq r.lease id) (history_rows H every n) row held (ap (find mine) (rows-interval H every n) ∙ there))
 
 other_lease : (leases : List Lease) (id lease : ℤ) → int_eq lease id ≡ false → is_leased leases lease ≡ true → is_leased (filter (λ l. not (int_eq l.id id)) leases) lease ≡ true
 other_lease leases id lease apart h = ap (λ b. int_eq lease (pos 0) || b) (any-filter_same (λ (l : Lease). int_eq l.id lease) (λ (l : Lease). not (int_eq l.id id)) true (λ l t. ap not (ap (λ z. int_eq z id) (same_id l.id lease t) ∙ apart)) leases) ∙ h
@@ -281,14 +280,14 @@ other_lease leases id lease apart h = ap (λ b. int_eq lease (pos 0) || b) (any-
 finish_leased : (S : State History) (id : ℤ) → HasKeys S.store → HoldsLeased S → HoldsLeased (finish machine.history S id)
 finish_leased S id given has key =
     let H = S.store in
-    let ids = attached (machine.reads_of H) id in
+    let ids = attached (history_reads H) id in
     let left = filter (λ (l : Lease). not (int_eq l.id id)) S.leases in
     elim (fold_deletes (current H + 1) key (kv H key (current H)) ids) [
       | inl gone ↦ subst (RowLeased left) (sym (kv-current_after H (map Del ids) key ∙ gone)) tt
       | inr stays ↦ subst (RowLeased left) (sym (kv-current_after H (map Del ids) key ∙ stays.1)) (still (kv H key (current H)) refl (has key) stays.0)
     ]
   where
-    still : (o : Option KeyValue) → kv S.store key (current S.store) ≡ o → RowLeased S.leases o → list_any (λ k. bytes_eq k key) (attached (machine.reads_of S.store) id) ≡ false → RowLeased (filter (λ (l : Lease). not (int_eq l.id id)) S.leases) o
+    still : (o : Option KeyValue) → kv S.store key (current S.store) ≡ o → RowLeased S.leases o → list_any (λ k. bytes_eq k key) (attached (history_reads S.store) id) ≡ false → RowLeased (filter (λ (l : Lease). not (int_eq l.id id)) S.leases) o
     still None is h none = tt
     still (Some row) is h none = other_lease S.leases id row.lease (false_from_ne_true (int_eq row.lease id) (λ t. true≢false (sym (held_key S.store given id key row is t) ∙ none))) h
 

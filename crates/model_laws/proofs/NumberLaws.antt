@@ -11,7 +11,7 @@ use Rattle.etcd_model.specs.declared.state.Change.{Change}
 use Rattle.etcd_model.specs.declared.state.History.{History}
 use Rattle.etcd_model.specs.declared.state.Change.TheVariants.{Put as Set, Delete as Del}
 use Rattle.etcd_model.specs.History.{key_of, entries_after}
-use Rattle.etcd_model.specs.Changes.{Recorded, entry_at, next_row, is_up_to, last, live, recorded, record_change, record_revision, ChangesOnce, changes_of, kept}
+use Rattle.etcd_model.specs.Changes.{Recorded, entry_at, next_row, is_up_to, last, live, recorded, record_change, record_revision, ChangesOnce, recorded_changes, kept}
 use Rattle.model_laws.specs.Once.{IsOnce}
 use Rattle.model_laws.specs.Numbers.{IsWithin, HasNumbers}
 use Rattle.model_laws.proofs.LastLaws.{all_last, last_passes}
@@ -74,5 +74,5 @@ numbers_from r xs (cs ∷ more) all up once =
     subst (AllByRecursion HasNumbers) (sym (fold-append record_change xs (map (entry_at n) cs) (entries_after n more)))
     (numbers_from n ys more here (all_up n xs cs to) (λ key. All-tail (λ ds. length (filter (λ c. bytes_eq (key_of c) key) ds) ≤ 1) cs more (once key)))
 
-pub changes_have_numbers : (H : History) → ChangesOnce H → AllByRecursion HasNumbers (changes_of H)
+pub changes_have_numbers : (H : History) → ChangesOnce H → AllByRecursion HasNumbers (recorded_changes H)
 changes_have_numbers H once = numbers_from H.first [] H.revisions tt tt once

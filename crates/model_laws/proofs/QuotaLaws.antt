@@ -22,10 +22,9 @@ use Rattle.etcd_model.specs.declared.state.Change.{Change}
 use Rattle.etcd_model.specs.declared.state.Change.TheVariants.{Delete as Del}
 use Rattle.etcd_model.specs.declared.state.State.{State}
 use Rattle.etcd_model.specs.Order.{beside, put_in}
-use Rattle.etcd_model.specs.History as history
-use Rattle.etcd_model.specs.History.{current}
+use Rattle.etcd_model.specs.History.{current, history_after}
 use Rattle.etcd_model.specs.Reads.{Look}
-use Rattle.etcd_model.specs.Kept as over_history
+use Rattle.etcd_model.specs.Kept.{history_cells}
 use Rattle.etcd_model.specs.Operations.{branch, pending_after, adds_any, first_refusal}
 use Rattle.etcd_model.specs.Tenant.{Outcome, reads, used}
 use Rattle.etcd_model.specs.Leases.{lease_at, attached, finish, run_out}
@@ -53,16 +52,16 @@ CellsFall S T = used machine.history T ≤ used machine.history S
 -- ---- writes with no put
 
 -- changes that take no cell over what is kept take none over the history
-same_cells : (H : History) (cs : List Change) → IsHistory H → IsHistory (history.after H cs) → store.cells (store.after (keep H) cs) ≡ store.cells (keep H) → over_history.cells (history.after H cs) ≡ over_history.cells H
-same_cells H cs is ended none = sym (keep_cells (history.after H cs) ended) ∙ ap store.cells (sym (keep_after H cs is.compacted)) ∙ none ∙ keep_cells H is
+same_cells : (H : History) (cs : List Change) → IsHistory H → IsHistory (history_after H cs) → store.counted_cells (store.after (keep H) cs) ≡ store.counted_cells (keep H) → history_cells (history_after H cs) ≡ history_cells H
+same_cells H cs is ended none = sym (keep_cells (history_after H cs) ended) ∙ ap store.counted_cells (sym (keep_after H cs is.compacted)) ∙ none ∙ keep_cells H is
 
 pub look_kept : (H : History) → IsHistory H → kept_store.look (keep H) ≡ machine.history.look H
 look_kept H is = (carries H is.compacted).look
 
-ops_cells : (S : State History) (ops : List Op) → IsHistory S.store → IsHistory (history.after S.store (pending machine.history S ops)) → adds_any ops ≡ false
-    → over_history.cells (history.after S.store (pending machine.history S ops)) ≡ over_history.cells S.store
+ops_cells : (S : State History) (ops : List Op) → IsHistory S.store → IsHistory (history_after S.store (pending machine.history S ops)) → adds_any ops ≡ false
+    → history_cells (history_after S.store (pending machine.history S ops)) ≡ history_cells S.store
 ops_cells S ops is ended h = same_cells S.store (pending machine.history S ops) is ended
-    (ap (λ (l : Look). store.cells (store.after (keep S.store) (pending_after l [] ops))) (sym (look_kept S.store is)) ∙ no_put_takes_none (keep S.store) ops (keep_is_store S.store is) h)
+    (ap (λ (l : Look). store.counted_cells (store.after (keep S.store) (pending_after l [] ops))) (sym (look_kept S.store is)) ∙ no_put_takes_none (keep S.store) ops (keep_is_store S.store is) h)
 
 -- ---- the end of leases
 
@@ -77,7 +76,7 @@ finish_cells : (S : State History) (id : ℤ) → IsHistory S.store → CellsFal
 finish_cells S id is =
     let cs = map Del (attached (reads machine.history S) id) in
     let same = same_cells S.store cs is (finish_is_history S id is)
-    (ap (λ (l : Look). store.cells (store.after (keep S.store) (map Del (attached (l []) id)))) (sym (look_kept S.store is)) ∙ finish_takes_none (keep S.store) id (keep_is_store S.store is)) in
+    (ap (λ (l : Look). store.counted_cells (store.after (keep S.store) (map Del (attached (l []) id)))) (sym (look_kept S.store is)) ∙ finish_takes_none (keep S.store) id (keep_is_store S.store is)) in
     omega (arith, same, fewer (λ (l : Lease). not (int_eq l.id id)) S.leases)
 
 ends_cells : (ls : List Lease) (S : State History) → IsHistory S.store → CellsFall S (fold (λ T l. finish machine.history T l.id) S ls)
@@ -135,18 +134,18 @@ compact_cells S r is e =
     let n = compacted_at r in
     let K = machine.history.compact S.store n in
     let ended : IsHistory K = record { compacted = to; once = is.once } in
-    omega (arith, ap store.cells (keep_compact S.store n from), keep_cells K ended, keep_cells S.store is, compaction_takes_none (keep S.store) n (keep_is_store S.store is) from to)
+    omega (arith, ap store.counted_cells (keep_compact S.store n from), keep_cells K ended, keep_cells S.store is, compaction_takes_none (keep S.store) n (keep_is_store S.store is) from to)
 
 falls : (S : State History) (step : Step) → IsHistory S.store → HasLeases S → fields step ≡ None → look_up machine.history S step ≡ None → adds (reads machine.history S) step ≡ false → CellsFall S (outcome machine.history S step).state
 falls S (Put p) is has f e h = absurd (true≢false h)
 falls S (Grant g) is has f e h = absurd (true≢false h)
 falls S (Delete d) is has f e h =
     let ops : List Op = DeleteOp d ∷ [] in
-    let ended : IsHistory (history.after S.store (pending machine.history S ops)) = record { compacted = up_after S.store (pending machine.history S ops) is.compacted; once = outcome_once S (Delete d) is.once f } in
+    let ended : IsHistory (history_after S.store (pending machine.history S ops)) = record { compacted = up_after S.store (pending machine.history S ops) is.compacted; once = outcome_once S (Delete d) is.once f } in
     omega (arith, ops_cells S ops is ended refl)
 falls S (Txn t) is has f e h =
     let ops = branch (reads machine.history S) t in
-    let ended : IsHistory (history.after S.store (pending machine.history S ops)) = record { compacted = up_after S.store (pending machine.history S ops) is.compacted; once = outcome_once S (Txn t) is.once f } in
+    let ended : IsHistory (history_after S.store (pending machine.history S ops)) = record { compacted = up_after S.store (pending machine.history S ops) is.compacted; once = outcome_once S (Txn t) is.once f } in
     omega (arith, ops_cells S ops is ended h)
 falls S (Compact r) is has f e h = compact_cells S r is e
 falls S (Revoke id) is has f e h = finish_cells S id is

@@ -17,7 +17,7 @@ use Rattle.etcd_model.specs.declared.state.Change.{Change}
 use Rattle.etcd_model.specs.declared.state.Entry.{Entry}
 use Rattle.etcd_model.specs.declared.state.Change.TheVariants.{Put as Set, Delete as Del}
 use Rattle.etcd_model.specs.History.{key_of, entries, entries_after, current, kv, last_change}
-use Rattle.etcd_model.specs.Changes.{Recorded, OwnRow, entry_at, next_row, change_by, entry_of, last_by, is_up_to, last, live, rows, Rises, recorded, record_change, changes_of, record_revision}
+use Rattle.etcd_model.specs.Changes.{Recorded, OwnRow, entry_at, next_row, change_by, entry_of, last_by, is_up_to, last, live, rows, Rises, recorded, record_change, recorded_changes, record_revision}
 use Rattle.etcd_model.proofs.HistoryLaws.{is_past, next_by, entries-after, all_current, kv_by_changes}
 use Rattle.etcd_model.proofs.PutLaws.{rows_ascend, rows-interval, row_among}
 use Rattle.model_laws.proofs.LastLaws.{last_push, last_alike, last_map, last_filter}
@@ -57,10 +57,10 @@ entries-fold xs (e ∷ es) =
     ∙ ap (λ zs. zs ++ es) (map-append entry_of xs (recorded xs e ∷ []) ∙ ap (λ (x : Entry). map entry_of xs ++ x ∷ []) (entry_of-recorded xs e))
     ∙ append_assoc (map entry_of xs) (e ∷ []) es
 
-pub changes_are_entries : (H : History) → map entry_of (changes_of H) ≡ entries H
+pub changes_are_entries : (H : History) → map entry_of (recorded_changes H) ≡ entries H
 changes_are_entries H = entries-fold [] (entries H)
 
-pub changes_after : (H : History) (c : Change) (cs : List Change) → changes_of (history.after H (c ∷ cs)) ≡ record_revision (current H + 1) (changes_of H) (c ∷ cs)
+pub changes_after : (H : History) (c : Change) (cs : List Change) → recorded_changes (history.history_after H (c ∷ cs)) ≡ record_revision (current H + 1) (recorded_changes H) (c ∷ cs)
 changes_after H c cs =
     ap (fold record_change []) (entries-after H (c ∷ cs))
     ∙ fold-append record_change [] (entries H) (map (entry_at (current H + 1)) (c ∷ cs))
@@ -95,11 +95,11 @@ rises_of : (xs : List Recorded) → EntriesRise (map entry_of xs) → Rises xs
 rises_of [] h = tt
 rises_of (x ∷ xs) h = (all_of (λ n. x.revision ≤ n) xs h.0, rises_of xs h.1)
 
-pub changes_rise : (H : History) → Rises (changes_of H)
-changes_rise H = rises_of (changes_of H) (subst EntriesRise (sym (changes_are_entries H)) (entries_rise H.first H.revisions))
+pub changes_rise : (H : History) → Rises (recorded_changes H)
+changes_rise H = rises_of (recorded_changes H) (subst EntriesRise (sym (changes_are_entries H)) (entries_rise H.first H.revisions))
 
-pub changes_up_to_current : (H : History) → AllByRecursion (λ x. x.revision ≤ current H) (changes_of H)
-changes_up_to_current H = all_of (λ n. n ≤ current H) (changes_of H) (subst (AllByRecursion (λ (e : Entry). e.revision ≤ current H)) (sym (changes_are_entries H)) (recursion_from_All (λ (e : Entry). e.revision ≤ current H) (entries H) (all_current H)))
+pub changes_up_to_current : (H : History) → AllByRecursion (λ x. x.revision ≤ current H) (recorded_changes H)
+changes_up_to_current H = all_of (λ n. n ≤ current H) (recorded_changes H) (subst (AllByRecursion (λ (e : Entry). e.revision ≤ current H)) (sym (changes_are_entries H)) (recursion_from_All (λ (e : Entry). e.revision ≤ current H) (entries H) (all_current H)))
 
 pub own_recorded : (r : ℕ) (row : Option KeyValue) (c : Change) → IfSome (next_row r row c) (λ w. w.key ≡ key_of c)
 own_recorded r row (Set key value lease) = refl
@@ -109,7 +109,7 @@ pub own_fold : (xs : List Recorded) (es : List Entry) → AllByRecursion OwnRow 
 own_fold xs [] own = own
 own_fold xs (e ∷ es) own = own_fold (record_change xs e) es (all_push OwnRow xs (recorded xs e) own (own_recorded e.revision (live (key_of e.change) e.revision xs) e.change))
 
-pub changes_own_their_rows : (H : History) → AllByRecursion OwnRow (changes_of H)
+pub changes_own_their_rows : (H : History) → AllByRecursion OwnRow (recorded_changes H)
 changes_own_their_rows H = own_fold [] (entries H) tt
 
 -- ---- what a key shows
@@ -151,26 +151,26 @@ live_fold key r n xs (e ∷ es) up from rise =
     low : AllByRecursion (λ x. x.revision ≤ e.revision) xs
     low = all_weaker (λ (x : Recorded). x.revision ≤ n) (λ (x : Recorded). x.revision ≤ e.revision) (λ x h. omega (arith, h, from.0)) xs up
 
-pub live_of_changes : (H : History) (key : List ℕ) (r : ℕ) → live key r (changes_of H) ≡ kv H key r
+pub live_of_changes : (H : History) (key : List ℕ) (r : ℕ) → live key r (recorded_changes H) ≡ kv H key r
 live_of_changes H key r = live_fold key r 0 [] (entries H) tt (all_each (λ (e : Entry). 0 ≤ e.revision) (λ e. omega arith) (entries H)) (entries_rise H.first H.revisions) ∙ sym (kv_by_changes H key r)
 
 pub key_of-change_by : (key : List ℕ) (row : Option KeyValue) → key_of (change_by key row) ≡ key
 key_of-change_by key None = refl
 key_of-change_by key (Some row) = refl
 
-pub last_of_changes : (H : History) (key : List ℕ) (r : ℕ) → option_map entry_of (last key r (changes_of H)) ≡ last_change H key r
+pub last_of_changes : (H : History) (key : List ℕ) (r : ℕ) → option_map entry_of (last key r (recorded_changes H)) ≡ last_change H key r
 last_of_changes H key r =
-    ap (option_map entry_of) (last_alike (is_up_to key r) (λ x. is_past key r (entry_of x)) (changes_of H)
-    (all_each (λ (x : Recorded). is_up_to key r x ≡ is_past key r (entry_of x)) (λ x. ap (λ k. bytes_eq k key && nat_le x.revision r) (sym (key_of-change_by x.key x.row))) (changes_of H)))
-    ∙ last_map entry_of (is_past key r) (changes_of H) ∙ ap (last_by (is_past key r)) (changes_are_entries H) ∙ last_filter (is_past key r) (entries H)
+    ap (option_map entry_of) (last_alike (is_up_to key r) (λ x. is_past key r (entry_of x)) (recorded_changes H)
+    (all_each (λ (x : Recorded). is_up_to key r x ≡ is_past key r (entry_of x)) (λ x. ap (λ k. bytes_eq k key && nat_le x.revision r) (sym (key_of-change_by x.key x.row))) (recorded_changes H)))
+    ∙ last_map entry_of (is_past key r) (recorded_changes H) ∙ ap (last_by (is_past key r)) (changes_are_entries H) ∙ last_filter (is_past key r) (entries H)
 
 -- ---- rows
 
-pub rows_of_changes : (H : History) (interval : List ℕ → Bool) (r : ℕ) → rows interval r (changes_of H) ≡ history.rows H interval r
+pub rows_of_changes : (H : History) (interval : List ℕ → Bool) (r : ℕ) → rows interval r (recorded_changes H) ≡ history.history_rows H interval r
 rows_of_changes H interval r =
-    let xs = changes_of H in
+    let xs = recorded_changes H in
     let own = changes_own_their_rows H in
     rows_inside xs own r interval
     ∙ ap (filter (λ (row : KeyValue). interval row.key))
-    (rows_by_their_keys (rows every_key r xs) (history.rows H every_key r) (rows_rise xs own r every_key) (rows_ascend H every_key r) (λ key. row_found xs own r key ∙ live_of_changes H key r ∙ sym (row_among H key r)))
+    (rows_by_their_keys (rows every_key r xs) (history.history_rows H every_key r) (rows_rise xs own r every_key) (rows_ascend H every_key r) (λ key. row_found xs own r key ∙ live_of_changes H key r ∙ sym (row_among H key r)))
     ∙ sym (rows-interval H interval r)

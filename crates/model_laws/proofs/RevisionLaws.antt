@@ -17,8 +17,7 @@ use Rattle.etcd_model.specs.declared.state.History.{History}
 use Rattle.etcd_model.specs.declared.state.Change.{Change}
 use Rattle.etcd_model.specs.declared.state.Change.TheVariants.{Delete as Del}
 use Rattle.etcd_model.specs.declared.state.State.{State}
-use Rattle.etcd_model.specs.History as history
-use Rattle.etcd_model.specs.History.{current, rows}
+use Rattle.etcd_model.specs.History.{current, history_rows, history_after}
 use Rattle.etcd_model.specs.Interval.{every_key}
 use Rattle.etcd_model.specs.Reads.{Reads, Look}
 use Rattle.etcd_model.specs.Compares.{all_hold}
@@ -39,19 +38,19 @@ use Rattle.model_laws.proofs.RunLaws.{quiet_outcome}
 use Rattle.model_laws.proofs.QuotaLaws.{finish_is_history, look_kept, step_within_quota}
 
 abbrev live_keys : History → ℕ
-live_keys H = length (rows H every_key (current H))
+live_keys H = length (history_rows H every_key (current H))
 
 -- ---- each live key has room for its delete
 
 keys_used : (S : State History) → live_keys S.store ≤ used machine.history S
-keys_used S = omega (arith, a_cell_each (rows S.store every_key (current S.store)))
+keys_used S = omega (arith, a_cell_each (history_rows S.store every_key (current S.store)))
 
 -- ---- the end of leases
 
 keys_kept : (H : History) → IsHistory H → length (changes.rows every_key (keep H).current (keep H).changes) ≡ live_keys H
 keys_kept H is = ap length (rows_kept_history H every_key (current H) is.compacted)
 
-current_after : (H : History) (cs : List Change) → current (history.after H cs) ≤ current H + length cs
+current_after : (H : History) (cs : List Change) → current (history_after H cs) ≤ current H + length cs
 current_after H [] = omega arith
 current_after H (c ∷ cs) = omega (arith, current-after H c cs)
 
@@ -62,7 +61,7 @@ map_length (k ∷ ks) = omega (arith, map_length ks)
 finish_fits : (bound : ℕ) (S : State History) (id : ℤ) → IsHistory S.store → FitsRevisions bound S → FitsRevisions bound (finish machine.history S id)
 finish_fits bound S id is fits =
     let ids = attached (reads machine.history S) id in
-    let H = history.after S.store (map Del ids) in
+    let H = history_after S.store (map Del ids) in
     let kept_ids = attached (store.reads_of (keep S.store)) id in
     let same : kept_ids ≡ ids = ap (λ (l : Look). attached (l []) id) (look_kept S.store is) in
     let taken = finish_takes_keys (keep S.store) id (keep_is_store S.store is) in
@@ -108,7 +107,7 @@ unwritten_fits bound S (Delete d) is fits h = absurd (true≢false h)
 unwritten_fits bound S (Txn t) is fits h =
     let ops = branch (reads machine.history S) t in
     let none : pending machine.history S ops ≡ [] = nothing_pending (machine.history.look S.store) [] ops (branch_writes_not (reads machine.history S) t h) in
-    subst (λ (cs : List Change). current (history.after S.store cs) + live_keys (history.after S.store cs) ≤ last_revision + bound) (sym none) fits
+    subst (λ (cs : List Change). current (history_after S.store cs) + live_keys (history_after S.store cs) ≤ last_revision + bound) (sym none) fits
 unwritten_fits bound S (Compact r) is fits h = fits
 unwritten_fits bound S (Grant g) is fits h = fits
 unwritten_fits bound S (Revoke id) is fits h = finish_fits bound S id is fits

@@ -24,17 +24,16 @@ use Rattle.etcd_types.specs.Limits.{last_moment, max_ttl, watch_slots}
 use Rattle.etcd_model.specs.declared.state.Lease.{Lease}
 use Rattle.etcd_model.specs.declared.state.Watch.{Watch as Watching}
 use Rattle.etcd_model.specs.Order.{beside, put_in}
-use Rattle.etcd_model.specs.History as history
 use Rattle.etcd_model.specs.declared.state.History.{History}
 use Rattle.etcd_model.specs.declared.state.Change.{Change}
 use Rattle.etcd_model.specs.declared.state.Entry.{Entry}
 use Rattle.etcd_model.specs.declared.state.Change.TheVariants.{Delete as Del}
-use Rattle.etcd_model.specs.History.{current}
+use Rattle.etcd_model.specs.History.{current, history_after}
 use Rattle.etcd_model.specs.Operations.{branch}
 use Rattle.etcd_model.specs.declared.state.State.{State}
 use Rattle.etcd_model.specs.Tenant.{Outcome, reads, header}
-use Rattle.etcd_model.specs.Leases.{lease_at, attached, finish, run_out, end_cmp, with_lease, granted_ttl}
-use Rattle.etcd_model.specs.Watches.{with_slot, created, given, taken, free_slot, first_of, event_of}
+use Rattle.etcd_model.specs.Leases.{lease_at, attached, finish, run_out, end_cmp, put_lease, granted_ttl}
+use Rattle.etcd_model.specs.Watches.{with_slot, created, events_given, taken, free_slot, first_of, event_of}
 use Rattle.etcd_model.specs.Fields.{fields, refused_if}
 use Rattle.etcd_model.specs.Stepping.{outcome, pending, grant_id, kept_alive, alarm_of}
 use Rattle.etcd_model.specs.Machine as machine
@@ -69,7 +68,7 @@ module _ (P : State History → Type 0) (S : State History) (same : P S) (slot :
   quiet_created q None = same
   quiet_created q (Some i) = slot i _
 
-  quiet_given : (i : ℕ) (w : Watching) (es : List Entry) (vs : List Event) → P (given machine.history S i w es vs).state
+  quiet_given : (i : ℕ) (w : Watching) (es : List Entry) (vs : List Event) → P (events_given machine.history S i w es vs).state
   quiet_given i w es [] = slot i _
   quiet_given i w es (v ∷ vs) = slot i _
 
@@ -81,7 +80,7 @@ module _ (P : State History → Type 0) (S : State History) (same : P S) (slot :
       let vs = map (λ (e : Entry). event_of machine.history S w e e.change) (first_of es) in
       either P (nat_lt w.next S.store.compacted)
       (record { state = with_slot machine.history S i None; reply = Canceled (header machine.history S) w.id (pos S.store.compacted) })
-      (given machine.history S i w es vs) (slot i None) (quiet_given i w es vs)
+      (events_given machine.history S i w es vs) (slot i None) (quiet_given i w es vs)
 
   quiet_alarm : (mine : Bool) (a : AlarmAction) (n : AlarmKind) → P (alarm_of machine.history S mine a n).state
   quiet_alarm true Get Any = same
@@ -107,7 +106,7 @@ module _ (P : State History → Type 0) (S : State History) (same : P S) (slot :
 
 -- ---- no empty revision
 
-full_after : (H : History) (cs : List Change) → IsFull H → IsFull (history.after H cs)
+full_after : (H : History) (cs : List Change) → IsFull H → IsFull (history_after H cs)
 full_after H [] full = full
 full_after H (c ∷ cs) full = all_push (λ (ds : List Change). 1 ≤ length ds) H.revisions (c ∷ cs) full (omega arith)
 
@@ -191,7 +190,7 @@ all_found P p (x ∷ xs) l all is = step (all_found P p xs l all.1) (p x) is
 new_lease : (moment : ℕ) (id : ℤ) (ttl : ℕ) → 1 ≤ ttl → int_le (pos ttl) max_ttl ≡ true → IsRunning moment (record { id = id; ttl = ttl; end = moment + ttl })
 new_lease moment id ttl least most = record { least = least; most = most; after = omega (arith, least); before = omega arith }
 
-leased : (S : State History) (id : ℤ) (ttl : ℕ) → HasLeases S → 1 ≤ ttl → int_le (pos ttl) max_ttl ≡ true → HasLeases (record S { leases = with_lease S.moment S.leases id ttl })
+leased : (S : State History) (id : ℤ) (ttl : ℕ) → HasLeases S → 1 ≤ ttl → int_le (pos ttl) max_ttl ≡ true → HasLeases (record S { leases = put_lease S.moment S.leases id ttl })
 leased S id ttl has least most = record {
   ascend = with_lease_ascends S.moment S.leases id ttl has.ascend;
   running = all_put_in (IsRunning S.moment) (record { id = id; ttl = ttl; end = S.moment + ttl }) S.leases (new_lease S.moment id ttl least most) has.running;
@@ -307,7 +306,7 @@ leases_outcome : (S : State History) (step : Step) → HasLeases S → fields st
 leases_outcome S (Grant g) has h =
     let id = grant_id S.counter S.leases g.id in
     let new = leased S id (granted_ttl g.ttl) has (granted_least g.ttl) (granted_most g.ttl (allowed (int_lt max_ttl g.ttl) h)) in
-    same_leases (record S { leases = with_lease S.moment S.leases id (granted_ttl g.ttl) }) (outcome machine.history S (Grant g)).state new refl refl
+    same_leases (record S { leases = put_lease S.moment S.leases id (granted_ttl g.ttl) }) (outcome machine.history S (Grant g)).state new refl refl
   where
     allowed : (b : Bool) → refused_if b TtlTooLarge ≡ None → b ≡ false
     allowed true e = let bad : ⊥ = cc in absurd bad

@@ -1,4 +1,4 @@
--- What a change makes of the cells in use.
+-- What a change makes of the counted_cells in use.
 use Rattle.std.proofs.Common.{◌≡◌, ℕ, ◌+◌, ◌≤◌, List, [], ◌∷◌, ◌++◌, length, refl, ap, ◌∙◌, sym, arith, subst, map, append_assoc, inl, inr}
 use Rattle.std.specs.Prelude.{Bool, true, false, not, cond, fold, filter, filter_map, find, sum_by, Option, Some, None, if◌then◌else◌, ℤ, ◌-◌}
 use Rattle.std.specs.Str.{bytes_eq}
@@ -27,8 +27,8 @@ use Rattle.etcd_model.specs.Interval.{is_in, every_key}
 use Rattle.etcd_model.specs.Kept.{cost, cost_delete, cost_put}
 use Rattle.etcd_model.specs.Operations.{kept_value, kept_lease, and_changes, pending_after, adds_any}
 use Rattle.etcd_model.specs.Leases.{attached}
-use Rattle.etcd_model.specs.Changes.{Recorded, OwnRow, keys, Rises, entry_at, change_by, change_of, changes_of, next_row, live, rows, recorded, record_change, record_revision, kept, keeps}
-use Rattle.etcd_model.specs.Store.{Store, IsStore, after, reads_of, record_cells, reserved_cells, cells, kept_store, compact}
+use Rattle.etcd_model.specs.Changes.{Recorded, OwnRow, keys, Rises, entry_at, change_by, change_of, recorded_changes, next_row, live, rows, recorded, record_change, record_revision, kept, keeps}
+use Rattle.etcd_model.specs.Store.{Store, IsStore, after, reads_of, record_cells, reserved_cells, counted_cells, kept_store, compact}
 use Rattle.etcd_model.specs.Held.{keep, IsHistory}
 use Rattle.etcd_model.proofs.OrderLaws.{bytes_eq-key_cmp}
 use Rattle.etcd_model.proofs.OnceLaws.{deletes_of}
@@ -142,7 +142,7 @@ pub rows_pending : (s : Store) (cs : List Change) → IsStore s → (interval : 
 rows_pending s [] is interval = same_rows s.changes s.changes is.own is.own s.current (s.current + 1) (live_next s is) interval
 rows_pending s (c ∷ cs) is interval = refl
 
-cells_pending : (s : Store) (cs : List Change) → IsStore s → cells (after s cs) ≡ cells_of (s.current + 1) (pend s cs)
+cells_pending : (s : Store) (cs : List Change) → IsStore s → counted_cells (after s cs) ≡ cells_of (s.current + 1) (pend s cs)
 cells_pending s [] is = ap (λ (rs : List KeyValue). record_cells s.changes + sum_by (λ (row : KeyValue). cost_delete row.key) rs) (rows_pending s [] is every_key)
 cells_pending s (c ∷ cs) is = refl
 
@@ -158,7 +158,7 @@ same_cost r row (Del key) = refl
 
 -- what a change takes, and what it gives back
 change_cells : (s : Store) (cs : List Change) (c : Change) → IsStore s
-    → cells (after s (cs ++ c ∷ [])) + room ((reads_of (after s cs)).row (key_of c)) ≡ cells (after s cs) + (cost c + room (next_row (s.current + 1) (live (key_of c) (s.current + 1) (pend s cs)) c))
+    → counted_cells (after s (cs ++ c ∷ [])) + room ((reads_of (after s cs)).row (key_of c)) ≡ counted_cells (after s cs) + (cost c + room (next_row (s.current + 1) (live (key_of c) (s.current + 1) (pend s cs)) c))
 change_cells s cs c is =
     let n = s.current + 1 in
     let y = recorded (pend s cs) (entry_at n c) in
@@ -167,11 +167,11 @@ change_cells s cs c is =
     omega (arith, one, cells_pending s (cs ++ c ∷ []) is, ap (cells_of n) (pend_push s cs c), cells_pending s cs is, ap room (row_pending s cs is (key_of c)), same_cost n (live (key_of c) n (pend s cs)) c)
 
 pub put_takes_cells : (s : Store) (cs : List Change) (key value : List ℕ) (lease : ℤ) → IsStore s
-    → cells (after s (cs ++ Set key value lease ∷ [])) + room ((reads_of (after s cs)).row key) ≡ cells (after s cs) + (cost_put key value + cost_delete key)
+    → counted_cells (after s (cs ++ Set key value lease ∷ [])) + room ((reads_of (after s cs)).row key) ≡ counted_cells (after s cs) + (cost_put key value + cost_delete key)
 put_takes_cells s cs key value lease is = change_cells s cs (Set key value lease) is
 
 pub delete_takes_its_room : (s : Store) (cs : List Change) (key : List ℕ) → IsStore s
-    → cells (after s (cs ++ Del key ∷ [])) + room ((reads_of (after s cs)).row key) ≡ cells (after s cs) + cost_delete key
+    → counted_cells (after s (cs ++ Del key ∷ [])) + room ((reads_of (after s cs)).row key) ≡ counted_cells (after s cs) + cost_delete key
 delete_takes_its_room s cs key is = omega (arith, change_cells s cs (Del key) is)
 
 -- ---- deletes of live keys
@@ -193,15 +193,15 @@ still_live s cs r (z ∷ zs) above all =
     earlier : (a b : List ℕ) → key_cmp a b ≡ Less → bytes_eq a b ≡ false
     earlier a b e = bytes_eq-key_cmp a b ∙ ap is_eq e
 
-deletes_take_none : (s : Store) (cs : List Change) (rs : List KeyValue) → IsStore s → IsStrictlySortedBy by_key rs → AllLive s cs rs → cells (after s (cs ++ deletes_of rs)) ≡ cells (after s cs)
+deletes_take_none : (s : Store) (cs : List Change) (rs : List KeyValue) → IsStore s → IsStrictlySortedBy by_key rs → AllLive s cs rs → counted_cells (after s (cs ++ deletes_of rs)) ≡ counted_cells (after s cs)
 unfolding IsStrictlySortedBy
-deletes_take_none s cs [] is h all = ap (λ ds. cells (after s ds)) (append-nil cs)
+deletes_take_none s cs [] is h all = ap (λ ds. counted_cells (after s ds)) (append-nil cs)
 deletes_take_none s cs (r ∷ rs) is h all =
-    ap (λ ds. cells (after s ds)) (sym (append_assoc cs (Del r.key ∷ []) (deletes_of rs)))
+    ap (λ ds. counted_cells (after s ds)) (sym (append_assoc cs (Del r.key ∷ []) (deletes_of rs)))
     ∙ deletes_take_none s (cs ++ Del r.key ∷ []) rs is h.1 (still_live s cs r rs h.0 all.1)
     ∙ one
   where
-    one : cells (after s (cs ++ Del r.key ∷ [])) ≡ cells (after s cs)
+    one : counted_cells (after s (cs ++ Del r.key ∷ [])) ≡ counted_cells (after s cs)
     one = omega (arith, delete_takes_its_room s cs r.key is, ap room (row_pending s cs is r.key ∙ all.0))
 
 -- the rows of an interval are live
@@ -214,45 +214,45 @@ all_live s cs is (k ∷ ks) =
       | Some row ↦ λ e. (ap (λ a. live a n (pend s cs)) (live-key (pend s cs) (own_pend s cs is) k n row e) ∙ e, all_live s cs is ks)
     ] refl
 
-pub delete_takes_none : (s : Store) (cs : List Change) (d : DeleteReq) → IsStore s → cells (after s (and_changes (kept_store.look s) cs (DeleteOp d))) ≡ cells (after s cs)
+pub delete_takes_none : (s : Store) (cs : List Change) (d : DeleteReq) → IsStore s → counted_cells (after s (and_changes (kept_store.look s) cs (DeleteOp d))) ≡ counted_cells (after s cs)
 delete_takes_none s cs d is =
     let inside : List ℕ → Bool = is_in d.key d.range_end in
     let n = s.current + 1 in
     let rs = rows inside n (pend s cs) in
-    ap (λ (qs : List KeyValue). cells (after s (cs ++ deletes_of qs))) (rows_pending s cs is inside)
+    ap (λ (qs : List KeyValue). counted_cells (after s (cs ++ deletes_of qs))) (rows_pending s cs is inside)
     ∙ deletes_take_none s cs rs is (rows_rise (pend s cs) (own_pend s cs is) n inside) (all_live s cs is (filter inside (keys (pend s cs))))
 
 all_passed : (s : Store) (cs : List Change) (p : KeyValue → Bool) (rs : List KeyValue) → AllLive s cs rs → AllLive s cs (filter p rs)
 all_passed s cs p [] all = tt
 all_passed s cs p (r ∷ rs) all = elim (p r) as (λ b. AllLive s cs (cond b (r ∷ filter p rs) (filter p rs))) [ true ↦ (all.0, all_passed s cs p rs all.1) | false ↦ all_passed s cs p rs all.1 ]
 
-pub finish_takes_none : (s : Store) (id : ℤ) → IsStore s → cells (after s (map Del (attached (reads_of s) id))) ≡ cells s
+pub finish_takes_none : (s : Store) (id : ℤ) → IsStore s → counted_cells (after s (map Del (attached (reads_of s) id))) ≡ counted_cells s
 finish_takes_none s id is =
     let every : List ℕ → Bool = is_in (0 ∷ []) (0 ∷ []) in
     let held : KeyValue → Bool = λ row. int_eq row.lease id in
     let n = s.current + 1 in
     let rs = rows every n s.changes in
-    ap (λ (qs : List KeyValue). cells (after s (map Del (map (λ (row : KeyValue). row.key) (filter held qs))))) (rows_pending s [] is every)
-    ∙ ap (λ cs. cells (after s cs)) (map-map Del (λ (row : KeyValue). row.key) (filter held rs))
+    ap (λ (qs : List KeyValue). counted_cells (after s (map Del (map (λ (row : KeyValue). row.key) (filter held qs))))) (rows_pending s [] is every)
+    ∙ ap (λ cs. counted_cells (after s cs)) (map-map Del (λ (row : KeyValue). row.key) (filter held rs))
     ∙ deletes_take_none s [] (filter held rs) is (IsStrictlySortedBy-filter by_key held rs (rows_rise s.changes is.own n every)) (all_passed s [] held rs (all_live s [] is (filter every (keys s.changes))))
 
 pub op_takes_cells : (s : Store) (cs : List Change) (op : Op) → IsStore s
-    → cells (after s (and_changes (kept_store.look s) cs op)) + given_by (kept_store.look s cs) op ≡ cells (after s cs) + taken_by (kept_store.look s cs) op
-op_takes_cells s cs (RangeOp q) is = omega (arith, ap (λ ds. cells (after s ds)) (append-nil cs))
+    → counted_cells (after s (and_changes (kept_store.look s) cs op)) + given_by (kept_store.look s cs) op ≡ counted_cells (after s cs) + taken_by (kept_store.look s cs) op
+op_takes_cells s cs (RangeOp q) is = omega (arith, ap (λ ds. counted_cells (after s ds)) (append-nil cs))
 op_takes_cells s cs (PutOp p) is =
     let now = (reads_of (after s cs)).row p.key in
     put_takes_cells s cs p.key (if p.ignore_value then kept_value now else p.value) (if p.ignore_lease then kept_lease now else p.lease) is
 op_takes_cells s cs (DeleteOp d) is = omega (arith, delete_takes_none s cs d is)
-op_takes_cells s cs Nested is = omega (arith, ap (λ ds. cells (after s ds)) (append-nil cs))
+op_takes_cells s cs Nested is = omega (arith, ap (λ ds. counted_cells (after s ds)) (append-nil cs))
 
-no_put : (s : Store) (cs : List Change) (ops : List Op) → IsStore s → adds_any ops ≡ false → cells (after s (pending_after (kept_store.look s) cs ops)) ≡ cells (after s cs)
+no_put : (s : Store) (cs : List Change) (ops : List Op) → IsStore s → adds_any ops ≡ false → counted_cells (after s (pending_after (kept_store.look s) cs ops)) ≡ counted_cells (after s cs)
 no_put s cs [] is h = refl
-no_put s cs (RangeOp q ∷ ops) is h = no_put s (cs ++ []) ops is h ∙ ap (λ ds. cells (after s ds)) (append-nil cs)
+no_put s cs (RangeOp q ∷ ops) is h = no_put s (cs ++ []) ops is h ∙ ap (λ ds. counted_cells (after s ds)) (append-nil cs)
 no_put s cs (PutOp p ∷ ops) is h = absurd (true≢false h)
 no_put s cs (DeleteOp d ∷ ops) is h = no_put s (and_changes (kept_store.look s) cs (DeleteOp d)) ops is h ∙ delete_takes_none s cs d is
-no_put s cs (Nested ∷ ops) is h = no_put s (cs ++ []) ops is h ∙ ap (λ ds. cells (after s ds)) (append-nil cs)
+no_put s cs (Nested ∷ ops) is h = no_put s (cs ++ []) ops is h ∙ ap (λ ds. counted_cells (after s ds)) (append-nil cs)
 
-pub no_put_takes_none : (s : Store) (ops : List Op) → IsStore s → adds_any ops ≡ false → cells (after s (pending_after (kept_store.look s) [] ops)) ≡ cells s
+pub no_put_takes_none : (s : Store) (ops : List Op) → IsStore s → adds_any ops ≡ false → counted_cells (after s (pending_after (kept_store.look s) [] ops)) ≡ counted_cells s
 no_put_takes_none s ops is h = no_put s [] ops is h
 
 -- ---- how many keys are live
@@ -315,7 +315,7 @@ fewer_records c (x ∷ xs) =
       | inr lost ↦ omega (arith, fewer_records c xs, sum_by-cons f x xs, ap record_cells (kept_false c x xs lost))
     ]
 
-pub compaction_takes_none : (s : Store) (r : ℕ) → IsStore s → s.compacted ≤ r → r ≤ s.current → cells (compact s r) ≤ cells s
+pub compaction_takes_none : (s : Store) (r : ℕ) → IsStore s → s.compacted ≤ r → r ≤ s.current → counted_cells (compact s r) ≤ counted_cells s
 compaction_takes_none s r is from to = omega (arith, fewer_records r s.changes, ap (sum_by (λ (row : KeyValue). cost_delete row.key)) (rows_kept every_key r s.current s.changes to is.rises is.own))
 
 pub records_are_used_cells : (t : State Store) → record_cells t.store.changes + length t.leases ≡ used kept_store t - reserved_cells t.store.current t.store.changes
@@ -362,8 +362,8 @@ compact_is_store s r le is = record {
 
 pub keep_is_store : (H : History) → IsHistory H → IsStore (keep H)
 keep_is_store H is = record {
-  rises = kept_rises H.compacted (changes_of H) (changes_rise H);
-  own = all_kept OwnRow H.compacted (changes_of H) (changes_own_their_rows H);
-  up = all_kept (λ x. x.revision ≤ current H) H.compacted (changes_of H) (changes_up_to_current H);
+  rises = kept_rises H.compacted (recorded_changes H) (changes_rise H);
+  own = all_kept OwnRow H.compacted (recorded_changes H) (changes_own_their_rows H);
+  up = all_kept (λ x. x.revision ≤ current H) H.compacted (recorded_changes H) (changes_up_to_current H);
   compacted = is.compacted;
 }

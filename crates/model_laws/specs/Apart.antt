@@ -5,7 +5,7 @@ use Rattle.std.specs.List.{AllByRecursion}
 use Rattle.std.specs.Str.{bytes_eq}
 use Rattle.etcd_model.specs.declared.state.History.{History}
 use Rattle.etcd_model.specs.declared.state.Change.{Change}
-use Rattle.etcd_model.specs.Changes.{Recorded, ChangesOnce, changes_of, record_revision, last, kept}
+use Rattle.etcd_model.specs.Changes.{Recorded, ChangesOnce, recorded_changes, record_revision, last, kept}
 use Rattle.model_laws.specs.Once.{IsOnce}
 
 -- two changes of one key at one revision
@@ -27,7 +27,7 @@ is_last_up_to c xs x = is_at x.revision (last x.key c xs)
 
 pub record ApartLaws : Type 0 where
   -- each recorded change of a key is alone at its revision, if no revision changes a key twice
-  pub changes_apart : (H : History) → ChangesOnce H → AreApart (changes_of H)
+  pub changes_apart : (H : History) → ChangesOnce H → AreApart (recorded_changes H)
   -- so it is of what a compaction keeps, and with one more revision of changes of different keys
   pub kept_apart : (c : ℕ) (xs : List Recorded) → AreApart xs → AreApart (kept c xs)
   pub recorded_apart : (n : ℕ) (xs : List Recorded) (cs : List Change) → AreApart xs

@@ -17,11 +17,11 @@ use Rattle.etcd_model.specs.Held.{keep, empty_store, over, outcome_over, IsHisto
 pub record HoldingLaws : Type 0 where
   -- what is kept follows the history: one more revision, and a later compaction
   pub keep_after : (H : History) (cs : List Change) → H.compacted ≤ current H
-      → store.after (keep H) cs ≡ keep (history.after H cs)
+      → store.after (keep H) cs ≡ keep (history.history_after H cs)
   pub keep_compact : (H : History) (r : ℕ) → H.compacted ≤ r
       → store.compact (keep H) r ≡ keep (machine.history.compact H r)
   -- it shows what can be read of the history, with changes pending too
-  pub keep_reads : (H : History) → H.compacted ≤ current H → store.reads_of (keep H) ≡ machine.reads_of H
+  pub keep_reads : (H : History) → H.compacted ≤ current H → store.reads_of (keep H) ≡ machine.history_reads H
   pub keep_look : (H : History) → H.compacted ≤ current H → kept_store.look (keep H) ≡ machine.history.look H
   -- it tells a watch what the history tells it, and of a key before a change what the history shows
   pub keep_ahead : (H : History) → H.compacted ≤ current H
@@ -29,7 +29,7 @@ pub record HoldingLaws : Type 0 where
   pub keep_row_at : (H : History) → H.compacted ≤ current H
       → kept_store.row_at (keep H) ≡ machine.history.row_at H
   -- it takes the cells that the history counts
-  pub keep_cells : (H : History) → IsHistory H → store.cells (keep H) ≡ over_history.cells H
+  pub keep_cells : (H : History) → IsHistory H → store.counted_cells (keep H) ≡ over_history.history_cells H
   -- from an opening on the compaction is not above the current revision, and no revision changes a key twice
   pub opening_is_history : (cluster quota first : ℕ) → IsHistory (opening cluster quota first).store
   pub step_is_history : (S : State History) (step : Step) → IsHistory S.store

@@ -4,7 +4,7 @@ use Rattle.std.specs.List.{AllByRecursion}
 use Rattle.etcd_model.specs.declared.state.History.{History}
 use Rattle.etcd_model.specs.declared.state.Entry.{Entry}
 use Rattle.etcd_model.specs.Kept as over_history
-use Rattle.etcd_model.specs.Changes.{Recorded, OwnRow, ChangesOnce, Rises, entry_of, changes_of, recorded}
+use Rattle.etcd_model.specs.Changes.{Recorded, OwnRow, ChangesOnce, Rises, entry_of, recorded_changes, recorded}
 use Rattle.etcd_model.specs.Changes.{live, rows, since, kept}
 
 pub record KeepingLaws : Type 0 where
@@ -27,4 +27,4 @@ pub record KeepingLaws : Type 0 where
       → recorded (kept c xs) e ≡ recorded xs e
   -- if no revision changes a key twice, what is kept of the recorded changes is what is kept of the history
   pub kept_of_changes : (H : History) → ChangesOnce H
-      → map entry_of (kept H.compacted (changes_of H)) ≡ over_history.kept H
+      → map entry_of (kept H.compacted (recorded_changes H)) ≡ over_history.kept_entries H

@@ -7,7 +7,7 @@ use Rattle.etcd_types.specs.Limits.{last_moment}
 use Rattle.etcd_model.specs.declared.state.Lease.{Lease}
 use Rattle.etcd_model.specs.Operations.{has_lease}
 use Rattle.etcd_model.specs.declared.state.State.{State}
-use Rattle.etcd_model.specs.Leases.{free_id, run_out, end_cmp, with_lease, finish, tick}
+use Rattle.etcd_model.specs.Leases.{free_id, run_out, end_cmp, put_lease, finish, tick}
 use Rattle.etcd_model.specs.Store.{Store, kept_store}
 use Rattle.etcd_model.specs.Held.{by_id}
 use Rattle.model_laws.specs.Recording.{IsIn}
@@ -30,15 +30,15 @@ pub record LeaseLaws : Type 0 where
   pub free_id_within : (counter : ℕ) (leases : List Lease) → free_id counter leases ≤ counter + length leases
   -- a grant adds one lease, a renewal none, and the end of a lease takes that one alone
   pub grant_adds : (moment : ℕ) (leases : List Lease) (id : ℤ) (ttl : ℕ) → has_lease leases id ≡ false
-      → length (with_lease moment leases id ttl) ≡ length leases + 1
+      → length (put_lease moment leases id ttl) ≡ length leases + 1
   pub renew_adds_none : (moment : ℕ) (leases : List Lease) (id : ℤ) (ttl : ℕ)
       → IsStrictlySortedBy by_id leases → has_lease leases id ≡ true
-      → length (with_lease moment leases id ttl) ≡ length leases
+      → length (put_lease moment leases id ttl) ≡ length leases
   pub finish_takes_one : (leases : List Lease) (id : ℤ) → IsStrictlySortedBy by_id leases
       → has_lease leases id ≡ true → length (without_lease leases id) + 1 ≡ length leases
   -- leases stay in order of their IDs when one is granted or renewed, and when one goes
   pub with_lease_ascends : (moment : ℕ) (leases : List Lease) (id : ℤ) (ttl : ℕ)
-      → IsStrictlySortedBy by_id leases → IsStrictlySortedBy by_id (with_lease moment leases id ttl)
+      → IsStrictlySortedBy by_id leases → IsStrictlySortedBy by_id (put_lease moment leases id ttl)
   pub without_lease_ascends : (leases : List Lease) (id : ℤ) → IsStrictlySortedBy by_id leases
       → IsStrictlySortedBy by_id (without_lease leases id)
   -- the leases that have run out are in order of their ends, and then of their IDs

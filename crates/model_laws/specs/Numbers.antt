@@ -4,7 +4,7 @@ use Rattle.std.specs.List.{AllByRecursion}
 use Rattle.etcd_types.specs.declared.key_value.KeyValue.{KeyValue}
 use Rattle.etcd_model.specs.declared.state.History.{History}
 use Rattle.etcd_model.specs.declared.state.Change.{Change}
-use Rattle.etcd_model.specs.Changes.{Recorded, ChangesOnce, changes_of, record_revision, live, kept}
+use Rattle.etcd_model.specs.Changes.{Recorded, ChangesOnce, recorded_changes, record_revision, live, kept}
 use Rattle.model_laws.specs.Once.{IsOnce}
 
 -- a row that was last changed at a revision, created by then, and has no more versions than that
@@ -18,7 +18,7 @@ HasNumbers x = IfSome x.row (λ row. IsWithin x.revision row)
 
 pub record NumberLaws : Type 0 where
   -- the numbers of a recorded row are within the revision that wrote it, if no revision changes a key twice
-  pub changes_have_numbers : (H : History) → ChangesOnce H → AllByRecursion HasNumbers (changes_of H)
+  pub changes_have_numbers : (H : History) → ChangesOnce H → AllByRecursion HasNumbers (recorded_changes H)
   -- so it is of what a compaction keeps, and with one more revision of changes of different keys
   pub kept_have_numbers : (c : ℕ) (xs : List Recorded) → AllByRecursion HasNumbers xs
       → AllByRecursion HasNumbers (kept c xs)

@@ -3,7 +3,7 @@ use Rattle.std.specs.Prelude.{◌≡◌, ℕ, ◌+◌, ◌≤◌, List, length, 
 use Rattle.etcd_types.specs.declared.step.Step.{Step}
 use Rattle.etcd_types.specs.Limits.{last_revision, last_lease_id}
 use Rattle.etcd_model.specs.declared.state.History.{History}
-use Rattle.etcd_model.specs.History.{current, rows}
+use Rattle.etcd_model.specs.History.{current, history_rows}
 use Rattle.etcd_model.specs.Interval.{every_key}
 use Rattle.etcd_model.specs.declared.state.State.{State}
 use Rattle.etcd_model.specs.Tenant.{used}
@@ -14,7 +14,7 @@ use Rattle.etcd_model.specs.Held.{IsHistory, IsFull, HasKeys, HasLeases, HoldsLe
 -- on the cells: a write ends there at most, and each further revision, when leases end, takes a live key.
 abbrev pub FitsRevisions : ℕ → State History → Type 0
 FitsRevisions bound S =
-    current S.store + length (rows S.store every_key (current S.store)) ≤ last_revision + bound
+    current S.store + length (history_rows S.store every_key (current S.store)) ≤ last_revision + bound
 
 -- the counter of lease IDs, at least 1, passes the last ID that is chosen by a bound on the cells at most
 pub record FitsCounter (bound : ℕ) (S : State History) : Type 0 where

@@ -1,4 +1,4 @@
--- Laws: what a step makes of the cells in use.
+-- Laws: what a step makes of the counted_cells in use.
 use Rattle.std.specs.Prelude.{◌≡◌, ℕ, ◌+◌, ◌-◌, ◌≤◌, true, false, ℤ, List, [], ◌∷◌, ◌++◌, length, map}
 use Rattle.std.specs.Prelude.{Option, Some, None, if◌then◌else◌}
 use Rattle.std.specs.List.Sorted.{IsStrictlySortedBy}
@@ -18,7 +18,7 @@ use Rattle.etcd_model.specs.Leases.{attached, finish}
 use Rattle.etcd_model.specs.Interval.{every_key}
 use Rattle.etcd_model.specs.Changes.{rows}
 use Rattle.etcd_model.specs.Store.{Store, IsStore, after, compact, reads_of, kept_store}
-use Rattle.etcd_model.specs.Store.{record_cells, reserved_cells, cells}
+use Rattle.etcd_model.specs.Store.{record_cells, reserved_cells, counted_cells}
 use Rattle.etcd_model.specs.Held.{keep, IsHistory, by_id}
 
 -- a number for each row, and 0 if there is none
@@ -30,14 +30,14 @@ if_row f (Some row) = f row
 abbrev pub room : Option KeyValue → ℕ
 room o = if_row (λ row. cost_delete row.key) o
 
--- the cells in use, and the room that is held for a key, once some changes are one more revision
+-- the counted_cells in use, and the room that is held for a key, once some changes are one more revision
 abbrev pub cells_after : Store → List Change → ℕ
-cells_after s cs = cells (after s cs)
+cells_after s cs = counted_cells (after s cs)
 
 abbrev pub room_after : Store → List Change → List ℕ → ℕ
 room_after s cs key = room ((reads_of (after s cs)).row key)
 
--- An operation of a transaction reads what is pending: what it takes of the cells, and what it gives back.
+-- An operation of a transaction reads what is pending: what it takes of the counted_cells, and what it gives back.
 abbrev pub taken_by : Reads → Op → ℕ
 taken_by R (PutOp p) =
     cost_put p.key (if p.ignore_value then kept_value (R.row p.key) else p.value) + cost_delete p.key
@@ -70,23 +70,23 @@ pub record SpaceLaws : Type 0 where
   -- so a deleterange takes no cell
   pub delete_takes_none : (s : Store) (cs : List Change) (d : DeleteReq) → IsStore s
       → cells_after s (and_changes (kept_store.look s) cs (DeleteOp d)) ≡ cells_after s cs
-  -- an operation with changes pending before it takes and gives back so many cells
+  -- an operation with changes pending before it takes and gives back so many counted_cells
   pub op_takes_cells : (s : Store) (cs : List Change) (op : Op) → IsStore s
       → cells_after s (and_changes (kept_store.look s) cs op) + given_by (kept_store.look s cs) op
       ≡ cells_after s cs + taken_by (kept_store.look s cs) op
   -- operations of which none is a put take no cell
   pub no_put_takes_none : (s : Store) (ops : List Op) → IsStore s → adds_any ops ≡ false
-      → cells_after s (pending_after (kept_store.look s) [] ops) ≡ cells s
+      → cells_after s (pending_after (kept_store.look s) [] ops) ≡ counted_cells s
   -- nor does the end of a lease: each of its keys is live no more, and the cell of the lease itself is free
-  pub finish_takes_none : (s : Store) (id : ℤ) → IsStore s → cells (finished s id) ≡ cells s
+  pub finish_takes_none : (s : Store) (id : ℤ) → IsStore s → counted_cells (finished s id) ≡ counted_cells s
   pub finish_takes_keys : (s : Store) (id : ℤ) → IsStore s
       → live_keys (finished s id) + length (attached (reads_of s) id) ≡ live_keys s
   pub finish_frees_a_cell : (t : State Store) (id : ℤ) → IsStore t.store → IsStrictlySortedBy by_id t.leases
       → has_lease t.leases id ≡ true → used kept_store (finish kept_store t id) + 1 ≡ used kept_store t
   -- nor does a compaction
   pub compaction_takes_none : (s : Store) (r : ℕ) → IsStore s → s.compacted ≤ r → r ≤ s.current
-      → cells (compact s r) ≤ cells s
-  -- the records take the cells in use without the reserved ones
+      → counted_cells (compact s r) ≤ counted_cells s
+  -- the records take the counted_cells in use without the reserved ones
   pub records_are_used_cells : (t : State Store) → record_cells t.store.changes + length t.leases
       ≡ used kept_store t - reserved_cells t.store.current t.store.changes
   -- there is a reserved cell for each live key at least

@@ -14,18 +14,18 @@ use Rattle.etcd_model.specs.History.{key_of}
 use Rattle.etcd_model.specs.Interval.{is_in}
 use Rattle.etcd_model.specs.Changes.{Recorded, entry_at, next_row, version_of, live, rows, recorded, record_revision}
 use Rattle.etcd_model.specs.Reads.{rows_read, revision_read, unreadable}
-use Rattle.etcd_model.specs.Operations.{put_change}
+use Rattle.etcd_model.specs.Operations.{put_change, row_put}
 use Rattle.etcd_model.specs.Store.{Store, IsStore, after, compact, reads_of}
 use Rattle.model_laws.specs.Once.{IsOnce}
 use Rattle.model_laws.specs.Numbers.{HasNumbers}
 use Rattle.model_laws.proofs.NumberLaws.{live_is_within, kept_have_numbers, recorded_have_numbers}
 use Rattle.model_laws.proofs.RecordedLaws.{all_append, all_weaker}
 use Rattle.model_laws.proofs.SpaceLaws.{after_is_store, compact_is_store, row_pending}
-use Rattle.plain_store.specs.Answers.{IsPlain, row_put}
+use Rattle.plain_store.specs.Answers.{IsPlainStore}
 
 -- ---- a compaction
 
-pub compact_is_plain : (s : Store) (r : ℕ) → r ≤ s.current → IsPlain s → IsPlain (compact s r)
+pub compact_is_plain : (s : Store) (r : ℕ) → r ≤ s.current → IsPlainStore s → IsPlainStore (compact s r)
 compact_is_plain s r le is = record { store = compact_is_store s r le is.store; numbers = kept_have_numbers r s.changes is.numbers; fits = is.fits }
 
 -- ---- deletes
@@ -37,7 +37,7 @@ deletes_have_numbers n xs (row ∷ rs) all =
     deletes_have_numbers n (xs ++ x ∷ []) rs (all_append HasNumbers xs (x ∷ []) all (tt, tt))
 
 -- where there is a row
-pub deletes_are_plain : (s : Store) (rs : List KeyValue) → 0 < length rs → s.current + 1 < 2 ^ 63 → IsPlain s → IsPlain (record s { current = s.current + 1; changes = record_revision (s.current + 1) s.changes (map (λ row. Del row.key) rs) })
+pub deletes_are_plain : (s : Store) (rs : List KeyValue) → 0 < length rs → s.current + 1 < 2 ^ 63 → IsPlainStore s → IsPlainStore (record s { current = s.current + 1; changes = record_revision (s.current + 1) s.changes (map (λ row. Del row.key) rs) })
 deletes_are_plain s [] some fits is = absurd (omega (arith, some))
 deletes_are_plain s (row ∷ rs) some fits is = record {
   store = after_is_store s (map (λ row. Del row.key) (row ∷ rs)) is.store;
@@ -50,7 +50,7 @@ deletes_are_plain s (row ∷ rs) some fits is = record {
 one_is_once : (c : Change) → IsOnce (c ∷ [])
 one_is_once c key = elim (bytes_eq (key_of c) key) as (λ b. length (cond b (c ∷ []) []) ≤ 1) [ true ↦ omega arith | false ↦ omega arith ]
 
-change_is_plain : (s : Store) (c : Change) → s.current + 1 < 2 ^ 63 → IsPlain s → IsPlain (after s (c ∷ []))
+change_is_plain : (s : Store) (c : Change) → s.current + 1 < 2 ^ 63 → IsPlainStore s → IsPlainStore (after s (c ∷ []))
 change_is_plain s c fits is = record {
   store = after_is_store s (c ∷ []) is.store;
   numbers = recorded_have_numbers (s.current + 1) s.changes (c ∷ []) (omega arith) is.numbers (all_weaker (λ (x : Recorded). x.revision ≤ s.current) (λ (x : Recorded). x.revision < s.current + 1) (λ x h. omega (arith, h)) s.changes is.store.up) (one_is_once c);
@@ -69,14 +69,14 @@ put_is_recorded s p is =
     let c = put_change p (live p.key s.current s.changes) in
     ap (λ o. record s { current = s.current + 1; changes = s.changes ++ record { key = p.key; revision = s.current + 1; row = next_row (s.current + 1) o c } ∷ [] }) (row_pending s [] is p.key)
 
-pub put_is_plain : (s : Store) (p : PutReq) → s.current + 1 < 2 ^ 63 → IsPlain s → IsPlain (with_put s p)
-put_is_plain s p fits is = subst IsPlain (sym (put_is_recorded s p is.store)) (change_is_plain s (put_change p (live p.key s.current s.changes)) fits is)
+pub put_is_plain : (s : Store) (p : PutReq) → s.current + 1 < 2 ^ 63 → IsPlainStore s → IsPlainStore (with_put s p)
+put_is_plain s p fits is = subst IsPlainStore (sym (put_is_recorded s p is.store)) (change_is_plain s (put_change p (live p.key s.current s.changes)) fits is)
 
-version_fits : (s : Store) (o : Option KeyValue) (key : List ℕ) → live key s.current s.changes ≡ o → IsPlain s → version_of o ≤ s.current
+version_fits : (s : Store) (o : Option KeyValue) (key : List ℕ) → live key s.current s.changes ≡ o → IsPlainStore s → version_of o ≤ s.current
 version_fits s None key h is = omega arith
 version_fits s (Some row) key h is = (live_is_within key s.current s.changes row is.numbers h).version
 
-pub version_within : (s : Store) (key : List ℕ) → IsPlain s → version_of (live key s.current s.changes) ≤ s.current
+pub version_within : (s : Store) (key : List ℕ) → IsPlainStore s → version_of (live key s.current s.changes) ≤ s.current
 version_within s key is = version_fits s (live key s.current s.changes) key refl is
 
 -- ---- a range

@@ -7,8 +7,8 @@ ghost use Rattle.etcd_model.specs.Interval.{is_in};
 use crate::order::{ByBytes, in_order};
 use crate::recorded::Recorded;
 use etcd_types::{CopyOf, KeyValue, List, Mem};
-use request_checks::is_in;
 use std::alloc::Global;
+use store_words::is_in;
 
 /// The last change of a key up to a revision.
 pub(crate) fn last<'a>(changes: &'a [Recorded], key: &[u8], revision: u64) -> Option<&'a Recorded>

@@ -3,7 +3,8 @@ ghost use Rattle.std.specs.Prelude.{◌≡◌, ◌+◌, ◌<◌, ◌^◌, IfOk, 
 ghost use Rattle.std.specs.Option.{option_copied};
 ghost use Rattle.etcd_model.specs.declared.state.Change.TheVariants.{Delete as Del};
 ghost use Rattle.etcd_model.specs.Changes.{version_of, record_revision};
-ghost use Rattle.plain_store.specs.Answers.{refused_over, value_put, row_put};
+ghost use Rattle.etcd_model.specs.Operations.{value_put, row_put};
+ghost use Rattle.plain_store.specs.Answers.{refused_over};
 
 use crate::recorded::Recorded;
 use etcd_types::{CopyOf, KeyValue, List, Mem, PutReq, Refusal};
@@ -80,7 +81,8 @@ pub(crate) fn with_deletes(
     revision: u64,
     rows: &[KeyValue],
 ) -> Mem<Vec<Recorded>>
-    ensures { IfOk result (λ all. all.items ≡ record_revision revision changes.now (map (λ row. Del row.key) rows.now)) }
+    ensures { IfOk result
+        (λ all. all.items ≡ record_revision revision changes.now (map (λ row. Del row.key) rows.now)) }
 {
     let mut all = Recorded::copies_of(alloc, changes)?;
     for row in rows {

@@ -1,8 +1,8 @@
 //! What a range answers of the rows of its interval.
 ghost use Rattle.std.specs.Prelude.{◌≡◌, ◌<◌, ◌^◌, IfOk, map, filter, pos};
 ghost use Rattle.etcd_model.specs.Order.{in_order};
-ghost use Rattle.etcd_model.specs.Ranges.{is_within, is_wanted, target_cmp, row_cmp, limited, without_value};
-ghost use Rattle.plain_store.specs.Answers.{range_reply};
+ghost use Rattle.etcd_model.specs.Ranges.{is_within, is_wanted, target_cmp, row_cmp, limited, range_reply};
+ghost use Rattle.etcd_model.specs.Ranges.{without_value};
 
 use crate::order::{OrderOf, in_order};
 use etcd_types::{CopyOf, KeyValue, List, Mem, OpReply, RangeReq, SortOrder, SortTarget};
@@ -80,7 +80,9 @@ fn wanted(alloc: Global, request: &RangeReq, rows: &[KeyValue]) -> Mem<Vec<KeyVa
 
 /// Those rows in the order that is asked for.
 fn picked(alloc: Global, request: &RangeReq, rows: &[KeyValue]) -> Mem<Vec<KeyValue>>
-    ensures { IfOk result (λ some. some.items ≡ in_order (row_cmp request.now.sort_order request.now.sort_target) (filter (is_wanted request.now) rows.now)) }
+    ensures { IfOk result (λ some. some.items ≡
+        in_order (row_cmp request.now.sort_order request.now.sort_target)
+        (filter (is_wanted request.now) rows.now)) }
 {
     let asked = Asked {
         order: request.sort_order,

@@ -15,9 +15,9 @@ pub struct Recorded {
 }
 
 impl Model for Recorded {
-    ghost use Rattle.etcd_model.specs.Changes.{Recorded as Change};
+    ghost use Rattle.etcd_model.specs.Changes.{Recorded as RecordedChange};
 
-    ghost Value = { Change };
+    ghost Value = { RecordedChange };
 
     ghost view = { λ x. record { key = x.key; revision = x.revision; row = x.row } };
 }

@@ -1,14 +1,15 @@
 //! The store.
 ghost use Rattle.std.specs.Prelude.{◌≡◌, ◌+◌, ◌<◌, ◌≤◌, ◌^◌, IfOk, OnOk, OnErr, is_none, pos, [], map, None};
 ghost use Rattle.etcd_model.specs.declared.state.Change.TheVariants.{Delete as Del};
-ghost use Rattle.etcd_types.specs.declared.txn.Op.TheVariants.{Range as RangeOp, Put as PutOp, Delete as DeleteOp};
+ghost use Rattle.etcd_types.specs.declared.txn.Op.TheVariants.{Range as RangeOp, Put as PutOp};
+ghost use Rattle.etcd_types.specs.declared.txn.Op.TheVariants.{Delete as DeleteOp};
 ghost use Rattle.etcd_model.specs.Changes.{since};
 ghost use Rattle.etcd_model.specs.Held.{empty_store};
-ghost use Rattle.etcd_model.specs.Operations.{changes, op_refusal, op_reply};
+ghost use Rattle.etcd_model.specs.Operations.{changes, op_refusal, op_reply, put_refusal};
 ghost use Rattle.etcd_model.specs.Reads.{revision_read, unreadable};
 ghost use Rattle.etcd_model.specs.Stepping.{compact_refusal};
 ghost use Rattle.etcd_model.specs.Store.{after, compact, reads_of};
-ghost use Rattle.plain_store.specs.Answers.{answered, left, put_refusal};
+ghost use Rattle.plain_store.specs.Answers.{answered, left};
 
 use crate::keeping::{kept, since};
 use crate::looking::{live, rows};
@@ -30,13 +31,14 @@ pub struct PlainStore {
 
 impl Model for PlainStore {
     ghost use Rattle.etcd_model.specs.Store.{Store};
-    ghost use Rattle.plain_store.specs.Answers.{IsPlain};
+    ghost use Rattle.plain_store.specs.Answers.{IsPlainStore};
 
     ghost Value = { Store };
 
     ghost view = { λ s. record { current = s.current; compacted = s.compacted; changes = s.changes } };
 
-    ghost invariant = { λ s. IsPlain (record { current = s.current; compacted = s.compacted; changes = s.changes }) };
+    ghost invariant = { λ s.
+        IsPlainStore (record { current = s.current; compacted = s.compacted; changes = s.changes }) };
 }
 
 impl PlainStore {
@@ -59,10 +61,12 @@ impl PlainStore {
         self.current
     }
 
-    /// Reads an interval, as it is or as it was at a revision. A revision below the last compaction or above the current
-    /// one is refused.
+    /// Reads an interval, as it is or as it was at a revision. A revision below the last compaction or above
+    /// the current one is refused.
     pub fn range(&self, alloc: Global, request: &RangeReq) -> Mem<Result<OpReply, Refusal>>
-        ensures { IfOk result (λ answer. answer ≡ answered (op_refusal [] (reads_of self.now) (RangeOp request.now)) (op_reply (reads_of self.now) self.now.current (RangeOp request.now))) }
+        ensures { IfOk result (λ answer. answer ≡ answered
+            (op_refusal [] (reads_of self.now) (RangeOp request.now))
+            (op_reply (reads_of self.now) self.now.current (RangeOp request.now))) }
     {
         let revision = self.revision_read(request.revision);
         match self.unreadable(revision) {
@@ -71,12 +75,16 @@ impl PlainStore {
         }
     }
 
-    /// Writes one key. It is refused where the key is absent and its value or its lease is to stay, and then, or where
-    /// no memory is found, nothing changes. Which leases there are is not asked.
+    /// Writes one key. It is refused where the key is absent and its value or its lease is to stay, and then,
+    /// or where no memory is found, nothing changes. Which leases there are is not asked.
     pub fn put(&mut self, alloc: Global, request: &PutReq) -> Mem<Result<OpReply, Refusal>>
         requires { self.old.current + 1 < 2 ^ 63 }
-        ensures reply { IfOk result (λ answer. answer ≡ answered (put_refusal (reads_of self.old) request.now) (op_reply (reads_of self.old) (self.old.current + 1) (PutOp request.now))) }
-        ensures store { OnOk result (self.new ≡ left (put_refusal (reads_of self.old) request.now) self.old (after self.old (changes (reads_of self.old) (PutOp request.now)))) }
+        ensures reply { IfOk result (λ answer. answer ≡ answered
+            (put_refusal (reads_of self.old) request.now)
+            (op_reply (reads_of self.old) (self.old.current + 1) (PutOp request.now))) }
+        ensures store { OnOk result (self.new ≡ left
+            (put_refusal (reads_of self.old) request.now) self.old
+            (after self.old (changes (reads_of self.old) (PutOp request.now)))) }
         ensures memory { OnErr result (self.new ≡ self.old) }
     {
         let now = live(
@@ -102,12 +110,15 @@ impl PlainStore {
         }))
     }
 
-    /// Deletes the live keys of an interval in one revision; where there is none, nothing changes, nor where no memory
-    /// is found.
+    /// Deletes the live keys of an interval in one revision; where there is none, nothing changes, nor where
+    /// no memory is found.
     pub fn delete(&mut self, alloc: Global, request: &DeleteReq) -> Mem<OpReply>
         requires { self.old.current + 1 < 2 ^ 63 }
-        ensures reply { IfOk result (λ reply. reply ≡ op_reply (reads_of self.old) (after self.old (changes (reads_of self.old) (DeleteOp request.now))).current (DeleteOp request.now)) }
-        ensures store { OnOk result (self.new ≡ after self.old (changes (reads_of self.old) (DeleteOp request.now))) }
+        ensures reply { IfOk result (λ reply. reply ≡ op_reply
+            (reads_of self.old) (after self.old (changes (reads_of self.old) (DeleteOp request.now))).current
+            (DeleteOp request.now)) }
+        ensures store { OnOk result
+            (self.new ≡ after self.old (changes (reads_of self.old) (DeleteOp request.now))) }
         ensures memory { OnErr result (self.new ≡ self.old) }
     {
         let rows = rows(
@@ -176,7 +187,8 @@ impl PlainStore {
     fn range_at(&self, alloc: Global, request: &RangeReq, revision: u64) -> Mem<OpReply>
         requires at { revision ≡ revision_read (reads_of self.now) request.now.revision }
         requires readable { unreadable (reads_of self.now) revision ≡ None }
-        ensures { IfOk result (λ reply. reply ≡ op_reply (reads_of self.now) self.now.current (RangeOp request.now)) }
+        ensures { IfOk result
+            (λ reply. reply ≡ op_reply (reads_of self.now) self.now.current (RangeOp request.now)) }
     {
         let rows = rows(
             alloc,

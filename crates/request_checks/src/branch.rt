@@ -3,12 +3,13 @@ ghost use Rattle.std.specs.Prelude.{◌≡◌};
 ghost use Rattle.std.specs.List.{list_any};
 ghost use Rattle.std.specs.Str.{bytes_eq};
 ghost use Rattle.etcd_model.specs.Interval.{is_in};
-ghost use Rattle.etcd_model.specs.Fields.{op_lacks_key, puts, gives_value, gives_lease, is_nested, has_twice, has_duplicate};
+ghost use Rattle.etcd_model.specs.Fields.{op_lacks_key, puts, gives_value, gives_lease, is_nested, has_twice};
+ghost use Rattle.etcd_model.specs.Fields.{has_duplicate};
 ghost use Rattle.request_checks.specs.Branch.{any_put, any_delete};
 
-use crate::interval::is_in;
 use crate::put::{gives_lease, gives_value};
 use etcd_types::Op;
+use store_words::is_in;
 
 /// Whether an operation has no key.
 pub(crate) fn any_lacks_key(ops: &[Op]) -> bool

@@ -2,7 +2,6 @@
 #![tactic(auto)]
 
 mod branch;
-mod interval;
 mod offered;
 mod put;
 mod step;
@@ -10,8 +9,7 @@ mod step;
 mod tests;
 mod txn;
 
-pub use interval::is_in;
 pub use offered::is_offered;
 pub use put::put_fields;
 pub use step::fields;
-pub use txn::txn_fields;
+pub use txn::check_txn;

@@ -4,7 +4,8 @@ ghost use Rattle.etcd_model.specs.Fields.{put_fields, gives_value, gives_lease};
 
 use etcd_types::{PutReq, Refusal};
 
-/// The lowest refusal that the fields of a put give: no key, or a value or a lease where the present one is to stay.
+/// The lowest refusal that the fields of a put give: no key, or a value or a lease where the present one is
+/// to stay.
 pub fn put_fields(request: &PutReq) -> Option<Refusal>
     ensures { result ≡ put_fields request.now }
 {

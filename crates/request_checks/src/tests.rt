@@ -2,7 +2,7 @@
 //!
 //! A request is moved into the function that judges it: a way out of a test that drops requests is long
 //! to prove.
-use crate::{fields, is_in, is_offered, put_fields, txn_fields};
+use crate::{check_txn, fields, is_offered, put_fields};
 use etcd_types::{
     AlarmAction, AlarmKind, AlarmReq, Compare, CompareResult, DeleteReq, GrantReq, List, Mem, Op,
     Operand, PutReq, RangeReq, Refusal, SortOrder, SortTarget, Step, TxnReq, WatchReq,
@@ -145,7 +145,7 @@ fn put_refusal(request: PutReq) -> Option<Refusal> {
 
 /// What a transaction is refused for.
 fn txn_refusal(request: TxnReq) -> Option<Refusal> {
-    txn_fields(&request)
+    check_txn(&request).err()
 }
 
 /// What a step is refused for.
@@ -282,25 +282,6 @@ fn grants_and_alarms(rt: HostRuntime) {
     assert_met(&rt, above, Some(Refusal::TtlTooLarge), "above");
     for (action, alarm, wanted) in ALARMS.iter() {
         assert_met(&rt, alarm_refusal(*action, *alarm), *wanted, "alarm");
-    }
-}
-
-/// The first key, the end and a candidate, and whether it is among them.
-const INTERVALS: [(&[u8], &[u8], &[u8], bool); 8] = [
-    (b"a", b"", b"a", true),
-    (b"a", b"", b"ab", false),
-    (b"a", b"c", b"a", true),
-    (b"a", b"c", b"bz", true),
-    (b"a", b"c", b"c", false),
-    (b"b", b"a", b"b", false),
-    (b"b", &[0], b"a", false),
-    (&[0], &[0], &[255, 255], true),
-];
-
-#[test]
-fn intervals(rt: HostRuntime) {
-    for (key, range_end, candidate, wanted) in INTERVALS.iter() {
-        assert!(rt; is_in(key, range_end, candidate) == *wanted);
     }
 }
 

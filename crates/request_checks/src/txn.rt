@@ -1,7 +1,8 @@
 //! What a transaction is refused for.
-ghost use Rattle.std.specs.Prelude.{◌≡◌, ◌||◌, ◌++◌};
+ghost use Rattle.std.specs.Prelude.{◌≡◌, ◌||◌, ◌++◌, None, Some, MatchResult};
 ghost use Rattle.std.specs.List.{list_any};
-ghost use Rattle.etcd_model.specs.Fields.{txn_fields, is_empty, op_lacks_key, puts, gives_value, gives_lease, is_nested};
+ghost use Rattle.etcd_model.specs.Fields.{txn_fields, is_empty, op_lacks_key, puts, gives_value, gives_lease};
+ghost use Rattle.etcd_model.specs.Fields.{is_nested};
 
 use crate::branch::{
     any_gives_lease, any_gives_value, any_is_nested, any_lacks_key, has_duplicate,
@@ -9,32 +10,34 @@ use crate::branch::{
 use etcd_types::limits::MAX_OPS;
 use etcd_types::{Compare, Refusal, TxnReq};
 
-/// The lowest refusal that the fields of a transaction give, of its compares and of both its branches, the one that
-/// would not run among them.
+/// The lowest refusal that the fields of a transaction give, of its compares and of both its branches, the
+/// one that would not run among them.
 ///
-/// The keys of a branch are compared with each other only where no branch is above [`MAX_OPS`], which bounds the work.
-pub fn txn_fields(request: &TxnReq) -> Option<Refusal>
-    ensures { result ≡ txn_fields request.now }
+/// The keys of a branch are compared with each other only where no branch is above [`MAX_OPS`], which bounds
+/// the work.
+pub fn check_txn(request: &TxnReq) -> Result<(), Refusal>
+    ensures { MatchResult result (λ _. txn_fields request.now ≡ None)
+        (λ refusal. txn_fields request.now ≡ Some refusal) }
 {
     let success = request.success.as_slice();
     let failure = request.failure.as_slice();
     if lacks_key(request) {
-        Some(Refusal::NoKey)
+        Err(Refusal::NoKey)
     } else if gives_value(request) {
-        Some(Refusal::ValueGiven)
+        Err(Refusal::ValueGiven)
     } else if gives_lease(request) {
-        Some(Refusal::LeaseGiven)
+        Err(Refusal::LeaseGiven)
     } else if request.compare.as_slice().len() > MAX_OPS
         || success.len() > MAX_OPS
         || failure.len() > MAX_OPS
     {
-        Some(Refusal::TooManyOps)
+        Err(Refusal::TooManyOps)
     } else if has_duplicate(success) || has_duplicate(failure) {
-        Some(Refusal::DuplicateKey)
+        Err(Refusal::DuplicateKey)
     } else if has_nested(request) {
-        Some(Refusal::NotOffered)
+        Err(Refusal::NotOffered)
     } else {
-        None
+        Ok(())
     }
 }
 

@@ -15,7 +15,7 @@ use Rattle.etcd_model.specs.History.{key_of}
 use Rattle.etcd_model.specs.Kept.{cost, cost_delete}
 use Rattle.etcd_model.proofs.HistoryLaws.{changes_of as of_key}
 use Rattle.etcd_model.specs.Changes.{Recorded, change_of, created_at, entry_at, live, next_row, record_revision, recorded}
-use Rattle.etcd_model.specs.Store.{Store, after, cells as counted, reads_of, record_cells}
+use Rattle.etcd_model.specs.Store.{Store, after, counted_cells, reads_of, record_cells}
 use Rattle.model_laws.specs.Once.{IsOnce}
 use Rattle.model_laws.specs.Space.{room}
 use Rattle.model_laws.proofs.NumberLaws.{live_is_within}
@@ -87,7 +87,7 @@ module _ (store : StoreState) (sound : IsSound store) where
           let key : old.key ≡ row.key = live-key store.kept.changes sound.kept.own row.key store.kept.current old at in
           omega (arith, ap cost_delete key, ap (λ b. if b then cost_delete row.key else 0) apart)
 
-  write_grows : (cs : List Change) (write : Write) → Follows store write → of_key (key_of (change_in (cells store) write)) cs ≡ [] → counted (after store.kept (cs ++ change_in (cells store) write ∷ [])) ≡ counted (after store.kept cs) + growth_of write
+  write_grows : (cs : List Change) (write : Write) → Follows store write → of_key (key_of (change_in (cells store) write)) cs ≡ [] → counted_cells (after store.kept (cs ++ change_in (cells store) write ∷ [])) ≡ counted_cells (after store.kept cs) + growth_of write
   write_grows cs (Put row) follows free =
       omega (arith, put_takes_cells store.kept cs row.key row.value row.lease sound.kept, ap room (untouched cs row.key free), room_made row (live row.key store.kept.current store.kept.changes) refl follows)
   write_grows cs (Delete cell) follows free =
@@ -97,8 +97,8 @@ module _ (store : StoreState) (sound : IsSound store) where
       omega (arith, delete_takes_its_room store.kept cs key sound.kept, ap room shown, ap cost_delete is)
 
   writes_grow : (cs : List Change) (writes : List Write) → AllByRecursion (Follows store) writes → IsOnce (cs ++ changes_of store writes)
-      → counted (after store.kept (cs ++ changes_of store writes)) ≡ counted (after store.kept cs) + sum_by growth_of writes
-  writes_grow cs [] follow once = omega (arith, ap (λ ds. counted (after store.kept ds)) (append-nil cs))
+      → counted_cells (after store.kept (cs ++ changes_of store writes)) ≡ counted_cells (after store.kept cs) + sum_by growth_of writes
+  writes_grow cs [] follow once = omega (arith, ap (λ ds. counted_cells (after store.kept ds)) (append-nil cs))
   writes_grow cs (w ∷ ws) follow once =
       let c = change_in (cells store) w in
       let same : (cs ++ c ∷ []) ++ changes_of store ws ≡ cs ++ c ∷ changes_of store ws = append_assoc cs (c ∷ []) (changes_of store ws) in
@@ -106,12 +106,12 @@ module _ (store : StoreState) (sound : IsSound store) where
         arith,
         writes_grow (cs ++ c ∷ []) ws follow.1 (subst IsOnce (sym same) once),
         write_grows cs w follow.0 (none_before c cs (changes_of store ws) once),
-        ap (λ ds. counted (after store.kept ds)) same,
+        ap (λ ds. counted_cells (after store.kept ds)) same,
         sum_by-cons growth_of w ws,
       )
 
 -- a plan raises the cells that count by what each of its writes does
-pub grown : (store : StoreState) (writes : List Write) → IsSound store → IsPlanFor store writes → counted (after store.kept (changes_of store writes)) ≡ counted store.kept + sum_by growth_of writes
+pub grown : (store : StoreState) (writes : List Write) → IsSound store → IsPlanFor store writes → counted_cells (after store.kept (changes_of store writes)) ≡ counted_cells store.kept + sum_by growth_of writes
 grown store writes sound plan = writes_grow store sound [] writes plan.follow plan.once
 
 -- ---- up to a place

@@ -12,7 +12,7 @@ use Rattle.etcd_types.specs.declared.key_value.KeyValue.{KeyValue}
 use Rattle.etcd_types.specs.declared.kv.DeleteReq.{DeleteReq}
 use Rattle.etcd_types.specs.declared.kv.PutReq.{PutReq}
 use Rattle.etcd_types.specs.declared.txn.Op.TheVariants.{Put as PutOp}
-use Rattle.etcd_model.specs.Operations.{and_changes, put_change}
+use Rattle.etcd_model.specs.Operations.{and_changes, lease_put, put_change, row_put}
 use Rattle.etcd_model.specs.declared.state.Change.{Change}
 use Rattle.etcd_model.specs.declared.state.Change.TheVariants.{Put as Set}
 use Rattle.etcd_model.specs.History.{key_of}
@@ -26,7 +26,7 @@ use Rattle.model_laws.proofs.LastLaws.{last_push}
 use Rattle.model_laws.proofs.RecordedLaws.{all_push, all_weaker}
 use Rattle.revision_store.specs.Plans.{change_in}
 use Rattle.revision_store.specs.Stored.{StoreState, Follows, IsPlanFor, cells, changes_of, look}
-use Rattle.revision_store.specs.Pending.{IsPending, PendingState, changes_key, lease_put, left_by, present, put_at, put_row, row_put, row_put_to, rows_at}
+use Rattle.revision_store.specs.Pending.{IsPending, PendingState, changes_key, left_by, present, put_at, put_row, row_put_to, rows_at}
 use Rattle.revision_store.specs.declared.plan.Write.{Write}
 use Rattle.revision_store.specs.declared.plan.Write.TheVariants.{Put}
 use Rattle.revision_store.proofs.PendingReads.{one_revision, row_more, row_untouched}

@@ -15,10 +15,10 @@ use Rattle.etcd_types.specs.declared.kv.SortTarget.{SortTarget}
 use Rattle.etcd_types.specs.declared.kv.SortTarget.TheVariants.{Key, Version, Create, Mod, Value}
 use Rattle.etcd_types.specs.declared.reply.OpReply.TheVariants.{Range}
 use Rattle.etcd_model.specs.Order.{beside, put_in, in_order, key_cmp}
-use Rattle.etcd_model.specs.Ranges.{Found, is_wanted, row_cmp, target_cmp, limited, without_value, found}
+use Rattle.etcd_model.specs.Ranges.{Found, is_wanted, row_cmp, target_cmp, limited, without_value, found, range_reply}
 use Rattle.etcd_model.specs.Order.{by_key}
 use Rattle.revision_store.specs.Answering.{SaysMore, given}
-use Rattle.revision_store.specs.Ranging.{is_value, needs_values, range_answer, read}
+use Rattle.revision_store.specs.Ranging.{is_value, needs_values, read}
 use Rattle.revision_store.proofs.AnsweringLaws.{found_counted, found_kvs}
 
 -- ---- a map that changes no order
@@ -109,12 +109,12 @@ read_keys q rows e = ap (λ b. map (λ (row : KeyValue). if b then row else with
 found_count : (q : RangeReq) (all : List KeyValue) → q.count_only ≡ false → (found q all).count ≡ length all
 found_count q all h = rw h refl
 
-pub answer_counted : (q : RangeReq) (r : ℕ) (all : List KeyValue) (count : ℕ) → q.count_only ≡ true → count ≡ length all → Range (pos r) count [] false ≡ range_answer q r all
+pub answer_counted : (q : RangeReq) (r : ℕ) (all : List KeyValue) (count : ℕ) → q.count_only ≡ true → count ≡ length all → Range (pos r) count [] false ≡ range_reply r q all
 answer_counted q r all count h e =
     ap (λ n. Range (pos r) n [] false) e ∙ sym (ap (λ (f : Found). Range (pos r) f.count f.kvs f.more) (found_counted q all h))
 
 pub answer_given : (q : RangeReq) (r : ℕ) (all kvs : List KeyValue) (count wanted : ℕ) (more : Bool) → q.count_only ≡ false → IsStrictlySortedBy by_key all → count ≡ length all → length (filter (is_wanted q) all) ≡ wanted → SaysMore q wanted more → kvs ≡ given q (filter (is_wanted q) all)
-    → Range (pos r) count kvs more ≡ range_answer q r all
+    → Range (pos r) count kvs more ≡ range_reply r q all
 answer_given q r all kvs count wanted more h up counted some says is =
     let n : count ≡ (found q all).count = counted ∙ sym (found_count q all h) in
     let rows : kvs ≡ (found q all).kvs = is ∙ sym (found_kvs q all h) in

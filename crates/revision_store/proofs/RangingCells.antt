@@ -10,7 +10,7 @@ use Rattle.std.specs.List.Sorted.{IsStrictlySortedBy}
 use Rattle.etcd_model.specs.Ranges.{is_wanted}
 use Rattle.etcd_model.specs.Order.{by_key}
 use Rattle.revision_store.specs.Answering.{IsLimit, given, is_by_key, wants_all}
-use Rattle.revision_store.specs.Ranging.{passes}
+use Rattle.revision_store.specs.Ranging.{row_passes}
 use Rattle.revision_store.proofs.AnsweringLaws.{given_taken, sorted-take}
 
 -- what holds of all elements holds of those that pass a test
@@ -69,17 +69,17 @@ module _ {X : Type 0} (look : ℕ → Option X) where
 
 -- ---- those that pass the filters
 
-pub wanted_rows : (look : ℕ → Option KeyValue) (q : RangeReq) (cs : List ℕ) → filter_map look (filter (λ c. passes q (look c)) cs) ≡ filter (is_wanted q) (filter_map look cs)
+pub wanted_rows : (look : ℕ → Option KeyValue) (q : RangeReq) (cs : List ℕ) → filter_map look (filter (λ c. row_passes q (look c)) cs) ≡ filter (is_wanted q) (filter_map look cs)
 wanted_rows look q [] = refl
 wanted_rows look q (c ∷ cs) =
-    kept (passes q (look c)) ∙ ap (λ rows. cond (passes q (look c)) (cons_option (look c) rows) rows) (wanted_rows look q cs) ∙ by (look c)
+    kept (row_passes q (look c)) ∙ ap (λ rows. cond (row_passes q (look c)) (cons_option (look c) rows) rows) (wanted_rows look q cs) ∙ by (look c)
   where
-    kept : (b : Bool) → filter_map look (cond b (c ∷ filter (λ d. passes q (look d)) cs) (filter (λ d. passes q (look d)) cs))
-        ≡ cond b (cons_option (look c) (filter_map look (filter (λ d. passes q (look d)) cs))) (filter_map look (filter (λ d. passes q (look d)) cs))
+    kept : (b : Bool) → filter_map look (cond b (c ∷ filter (λ d. row_passes q (look d)) cs) (filter (λ d. row_passes q (look d)) cs))
+        ≡ cond b (cons_option (look c) (filter_map look (filter (λ d. row_passes q (look d)) cs))) (filter_map look (filter (λ d. row_passes q (look d)) cs))
     kept true = refl
     kept false = refl
 
-    by : (o : Option KeyValue) → cond (passes q o) (cons_option o (filter (is_wanted q) (filter_map look cs))) (filter (is_wanted q) (filter_map look cs)) ≡ filter (is_wanted q) (cons_option o (filter_map look cs))
+    by : (o : Option KeyValue) → cond (row_passes q o) (cons_option o (filter (is_wanted q) (filter_map look cs))) (filter (is_wanted q) (filter_map look cs)) ≡ filter (is_wanted q) (cons_option o (filter_map look cs))
     by None = refl
     by (Some row) = refl
 
@@ -100,11 +100,11 @@ pub all_wanted : (q : RangeReq) (rows : List KeyValue) → wants_all q ≡ true 
 all_wanted q [] h = refl
 all_wanted q (row ∷ rows) h = ap (λ b. cond b (row ∷ filter (is_wanted q) rows) (filter (is_wanted q) rows)) (any_row q row h) ∙ ap (λ rs. row ∷ rs) (all_wanted q rows h)
 
-pub all_pass : (look : ℕ → Option KeyValue) (q : RangeReq) (cs : List ℕ) → AllShow look cs → wants_all q ≡ true → filter (λ c. passes q (look c)) cs ≡ cs
+pub all_pass : (look : ℕ → Option KeyValue) (q : RangeReq) (cs : List ℕ) → AllShow look cs → wants_all q ≡ true → filter (λ c. row_passes q (look c)) cs ≡ cs
 all_pass look q [] all h = refl
-all_pass look q (c ∷ cs) all h = ap (λ b. cond b (c ∷ filter (λ d. passes q (look d)) cs) (filter (λ d. passes q (look d)) cs)) (by (look c) all.0) ∙ ap (λ ds. c ∷ ds) (all_pass look q cs all.1 h)
+all_pass look q (c ∷ cs) all h = ap (λ b. cond b (c ∷ filter (λ d. row_passes q (look d)) cs) (filter (λ d. row_passes q (look d)) cs)) (by (look c) all.0) ∙ ap (λ ds. c ∷ ds) (all_pass look q cs all.1 h)
   where
-    by : (o : Option KeyValue) → IsSome o → passes q o ≡ true
+    by : (o : Option KeyValue) → IsSome o → row_passes q o ≡ true
     by None e = let bad : ⊥ = cc in absurd bad
     by (Some row) e = any_row q row h
 

@@ -10,7 +10,7 @@ use Rattle.etcd_model.specs.Interval.{is_in}
 use Rattle.etcd_model.specs.Reads.{revision_read, rows_read, unreadable}
 use Rattle.etcd_model.specs.Store.{Store, reads_of}
 use Rattle.revision_store.specs.Answering.{SaysWanted}
-use Rattle.revision_store.specs.Ranging.{passes}
+use Rattle.revision_store.specs.Ranging.{row_passes}
 
 -- they are those at the revision that is read
 rows_readable : (s : Store) (key end : List ℕ) (revision : ℤ) → unreadable (reads_of s) (revision_read (reads_of s) revision) ≡ None → rows_read (reads_of s) key end revision ≡ rows (is_in key end) (revision_read (reads_of s) revision) s.changes
@@ -27,6 +27,6 @@ rows_live s key end low high revision r from to at h =
     ap (λ k. rows (is_in k high) r s.changes) from ∙ ap (λ k. rows (is_in key k) r s.changes) to ∙ ap (λ n. rows (is_in key end) n s.changes) at ∙ sym (rows_readable s key end revision h)
 
 -- what the filters say of the revisions of a row they say of the row
-pub passes_by : (q : RangeReq) (o : Option KeyValue) (create_revision mod_revision : ℕ) (b : Bool) → IsSome o → IfSome o (λ row. create_revision ≡ row.create_revision) → IfSome o (λ row. mod_revision ≡ row.mod_revision) → SaysWanted q create_revision mod_revision b → b ≡ passes q o
+pub passes_by : (q : RangeReq) (o : Option KeyValue) (create_revision mod_revision : ℕ) (b : Bool) → IsSome o → IfSome o (λ row. create_revision ≡ row.create_revision) → IfSome o (λ row. mod_revision ≡ row.mod_revision) → SaysWanted q create_revision mod_revision b → b ≡ row_passes q o
 passes_by q None create_revision mod_revision b there created modified says = let bad : ⊥ = cc in absurd bad
 passes_by q (Some row) create_revision mod_revision b there created modified says = says row (sym created) (sym modified)

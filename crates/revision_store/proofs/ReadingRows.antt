@@ -20,7 +20,7 @@ use Rattle.etcd_model.specs.Interval.{is_in, every_key}
 use Rattle.etcd_model.specs.Changes.{Recorded, OwnRow, live, rows}
 use Rattle.etcd_model.proofs.RowLaws.{filter-rows, find-rows, sorted-rows}
 use Rattle.model_laws.proofs.RowLaws.{live-key, row_found, rows_by_their_keys, rows_inside, rows_rise}
-use Rattle.key_index.specs.Links.{Cells, Linked, IsNewest, IsOf}
+use Rattle.key_index.specs.Links.{Cells, Linked, IsNewest, IsOfKey}
 use Rattle.key_index.specs.Index.{Heads, IsIndexOf, IsSpan}
 use Rattle.key_index.specs.Order.{changes_in}
 use Rattle.key_index.proofs.Order.{none_in_order}
@@ -129,7 +129,7 @@ key_is : (cells : Cells) (c : ℕ) (e : Linked) → cells c ≡ Some e → key_a
 key_is cells c e at = ap (λ (o : Option Linked). unwrap_or (option_map (λ (x : Recorded). x.key) (option_map (λ (y : Linked). y.change) o)) []) at
 
 -- the newest record of a key has it
-pub head_key : (cells : Cells) (head : ℕ) → IsNewest cells head → IsOf cells (key_at cells head) head
+pub head_key : (cells : Cells) (head : ℕ) → IsNewest cells head → IsOfKey cells (key_at cells head) head
 head_key cells head newest = (newest.0, newest.1, sym (key_is cells head newest.0 newest.1))
 
 -- each cell of a range of the heads is the newest of its key

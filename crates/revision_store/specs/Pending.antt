@@ -1,5 +1,5 @@
 -- Changes that are pending over a store, as reads find them: the last that touches a key says what it is.
-use Rattle.std.specs.Prelude.{◌≡◌, ℕ, ◌+◌, ◌*◌, ◌<◌, ◌^◌, ◌&&◌, ◌||◌, ◌⊎◌, ℤ, pos, Bool, not, List, [], length, filter, filter_map, option_and_then, option_map, Option, Some, None, IsSome, slice_get, if◌then◌else◌, refl}
+use Rattle.std.specs.Prelude.{◌≡◌, ℕ, ◌+◌, ◌*◌, ◌<◌, ◌^◌, ◌&&◌, ◌||◌, ◌⊎◌, ℤ, Bool, not, List, length, filter, filter_map, option_and_then, option_map, Option, Some, None, IsSome, slice_get, if◌then◌else◌, refl}
 use mathlib.Core.Logic.{inl, inr}
 use Rattle.std.specs.List.{AllByRecursion, list_any}
 use Rattle.std.specs.Option.{option_or}
@@ -9,14 +9,12 @@ use Rattle.etcd_types.specs.declared.key_value.KeyValue.{KeyValue}
 use Rattle.etcd_types.specs.declared.kv.PutReq.{PutReq}
 use Rattle.etcd_types.specs.declared.kv.DeleteReq.{DeleteReq}
 use Rattle.etcd_types.specs.declared.txn.Op.{Op}
-use Rattle.etcd_types.specs.declared.txn.Op.TheVariants.{Put as PutOp}
-use Rattle.etcd_types.specs.declared.refusal.Refusal.{Refusal}
 use Rattle.etcd_model.specs.declared.state.Change.{Change}
 use Rattle.etcd_model.specs.declared.state.Change.TheVariants.{Put as Set, Delete as Del}
 use Rattle.etcd_model.specs.History.{key_of, is_put}
 use Rattle.etcd_model.specs.Interval.{is_in}
-use Rattle.etcd_model.specs.Changes.{created_at, version_of, last_by, live}
-use Rattle.etcd_model.specs.Operations.{changes, op_refusal, kept_value, kept_lease}
+use Rattle.etcd_model.specs.Changes.{last_by, live}
+use Rattle.etcd_model.specs.Operations.{changes}
 use Rattle.etcd_model.specs.Ranges.{without_value}
 use Rattle.etcd_model.specs.Reads.{Reads}
 use Rattle.etcd_model.specs.Store.{IsStore, record_cells}
@@ -101,8 +99,8 @@ is_erased deletes key = list_any (λ d. is_in d.key d.range_end key) deletes
 abbrev pub left_by : List DeleteReq → StoreState → List ℕ → Option KeyValue
 left_by deletes store key = if is_erased deletes key then None else live key store.kept.current store.kept.changes
 
-abbrev pub shown : StoreState → List KeyValue → List DeleteReq → List ℕ → Option KeyValue
-shown store puts deletes key = option_or (row_put_to key puts) (left_by deletes store key)
+abbrev pub row_seen : StoreState → List KeyValue → List DeleteReq → List ℕ → Option KeyValue
+row_seen store puts deletes key = option_or (row_put_to key puts) (left_by deletes store key)
 
 -- each of some cells has a row
 abbrev pub AreRows : Cells → List ℕ → Type 0
@@ -129,27 +127,13 @@ pub record IsPending (store : StoreState) (writes : List Write) (places : List �
   pub short : (look store (changes_of store writes)).current < 2 ^ 63
   pub within : AllByRecursion (λ place. place < length writes) places
   pub puts : rows_at writes places ≡ filter_map put_row writes
-  pub seen : (key : List ℕ) → shown store (rows_at writes places) deletes key ≡ (look store (changes_of store writes)).row key
+  pub seen : (key : List ℕ) → row_seen store (rows_at writes places) deletes key ≡ (look store (changes_of store writes)).row key
 
 -- ---- a put
-
-abbrev pub value_put : PutReq → Option KeyValue → List ℕ
-value_put p now = if p.ignore_value then kept_value now else p.value
-
-abbrev pub lease_put : PutReq → Option KeyValue → ℤ
-lease_put p now = if p.ignore_lease then kept_lease now else p.lease
-
--- the row that a put leaves at a revision, over the present row of its key
-abbrev pub row_put : ℕ → PutReq → Option KeyValue → KeyValue
-row_put r p now = record { key = p.key; create_revision = created_at r now; mod_revision = r; version = version_of now + 1; value = value_put p now; lease = lease_put p now }
 
 -- the present row, with its value where the put asks for that
 abbrev pub present : PutReq → Option KeyValue → Option KeyValue
 present p now = if p.prev_kv || p.ignore_value then now else option_map without_value now
-
--- why a put is refused, whatever leases there are
-abbrev pub put_refusal : Reads → PutReq → Option Refusal
-put_refusal R p = op_refusal [] R (PutOp (record p { lease = pos 0 }))
 
 -- ---- an operation that is decided
 

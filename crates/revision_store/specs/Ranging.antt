@@ -1,12 +1,10 @@
--- The rows under some cells, and the answer of a range over some rows.
-use Rattle.std.specs.Prelude.{ℕ, Bool, true, false, not, ◌||◌, List, filter, filter_map, Option, Some, None, pos, if◌then◌else◌}
+-- The rows under some cells, and what of them a range reads.
+use Rattle.std.specs.Prelude.{ℕ, Bool, true, false, not, ◌||◌, List, filter, filter_map, Option, Some, None, if◌then◌else◌}
 use Rattle.etcd_types.specs.declared.key_value.KeyValue.{KeyValue}
 use Rattle.etcd_types.specs.declared.kv.RangeReq.{RangeReq}
 use Rattle.etcd_types.specs.declared.kv.SortTarget.{SortTarget}
 use Rattle.etcd_types.specs.declared.kv.SortTarget.TheVariants.{Value}
-use Rattle.etcd_types.specs.declared.reply.OpReply.{OpReply}
-use Rattle.etcd_types.specs.declared.reply.OpReply.TheVariants.{Range}
-use Rattle.etcd_model.specs.Ranges.{is_wanted, without_value, found}
+use Rattle.etcd_model.specs.Ranges.{is_wanted, without_value}
 use Rattle.key_index.specs.Links.{Cells}
 use Rattle.revision_store.specs.Stored.{row_at}
 
@@ -15,13 +13,13 @@ abbrev pub rows_of : Cells → List ℕ → List KeyValue
 rows_of cells cs = filter_map (row_at cells) cs
 
 -- there is a row, and it passes the filters
-abbrev pub passes : RangeReq → Option KeyValue → Bool
-passes q None = false
-passes q (Some row) = is_wanted q row
+abbrev pub row_passes : RangeReq → Option KeyValue → Bool
+row_passes q None = false
+row_passes q (Some row) = is_wanted q row
 
 -- those of some cells whose rows pass the filters
 abbrev pub wanted_cells : Cells → RangeReq → List ℕ → List ℕ
-wanted_cells cells q cs = filter (λ c. passes q (row_at cells c)) cs
+wanted_cells cells q cs = filter (λ c. row_passes q (row_at cells c)) cs
 
 abbrev pub is_value : SortTarget → Bool
 is_value Value = true
@@ -34,7 +32,3 @@ needs_values keys_only target = not keys_only || is_value target
 -- the row as it is read
 abbrev pub read : RangeReq → KeyValue → KeyValue
 read q row = if needs_values q.keys_only q.sort_target then row else without_value row
-
--- what a range is answered at a revision, where its interval has these rows
-abbrev pub range_answer : RangeReq → ℕ → List KeyValue → OpReply
-range_answer q revision all = let f = found q all in Range (pos revision) f.count f.kvs f.more

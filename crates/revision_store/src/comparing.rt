@@ -16,17 +16,15 @@ use crate::store::Store;
 use etcd_types::{CellNo, Compare, CompareResult, Operand};
 use std::cmp::Ordering;
 
-impl Store {
-    /// Whether a compare holds: each live row of its interval meets it. Where there is none, no value meets it, and each
-    /// number counts as 0. It builds no row and takes no memory.
-    pub fn holds(&self, compare: &Compare) -> bool
-        ensures { result ≡ holds (reads self.now) compare.now }
-    {
-        let heads = self
-            .log
-            .heads_in(compare.key.as_slice(), compare.range_end.as_slice());
-        self.log.holds_of(heads, compare, self.current())
-    }
+/// Whether a compare holds: each live row of its interval meets it. Where there is none, no value meets it,
+/// and each number counts as 0. It builds no row and takes no memory.
+pub fn holds(store: &Store, compare: &Compare) -> bool
+    ensures { result ≡ holds (reads store.now) compare.now }
+{
+    let heads = store
+        .log
+        .heads_in(compare.key.as_slice(), compare.range_end.as_slice());
+    store.log.holds_of(heads, compare, store.current())
 }
 
 impl Log {

@@ -21,6 +21,7 @@ mod space;
 mod store;
 mod walking;
 
+pub use comparing::holds;
 pub use pending::Pending;
 pub use plan::Plan;
 pub use planning::PlannedOp;

@@ -3,10 +3,10 @@ ghost use Rattle.std.specs.Prelude.{◌≡◌, ◌+◌, ◌<◌, ◌^◌, [], fa
 ghost use Rattle.etcd_types.specs.declared.reply.OpReply.TheVariants.{Put as PutReply, Delete as DeleteReply};
 ghost use Rattle.etcd_types.specs.declared.txn.Op.TheVariants.{Range as RangeOp, Put as PutOp, Delete as DeleteOp};
 ghost use Rattle.etcd_model.specs.Changes.{version_of};
-ghost use Rattle.etcd_model.specs.Operations.{and_changes, op_reply};
+ghost use Rattle.etcd_model.specs.Operations.{and_changes, op_reply, row_put, value_put};
 ghost use Rattle.etcd_model.specs.Reads.{revision_read, unreadable};
 ghost use Rattle.revision_store.specs.Stored.{IsPlanFor, cells, changes_of, look, reads, row_at};
-ghost use Rattle.revision_store.specs.Pending.{changes_key, pending_reads, present, puts_inside, puts_within, row_put, value_put};
+ghost use Rattle.revision_store.specs.Pending.{changes_key, pending_reads, present, puts_inside, puts_within};
 ghost use Rattle.std.specs.Option.{option_copied};
 
 use crate::pending_deletes::{left_cells, push_deletes};

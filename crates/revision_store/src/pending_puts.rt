@@ -10,9 +10,9 @@ ghost use Rattle.revision_store.specs.Pending.{is_row_in, put_at, rows_at};
 
 use crate::plan::Write;
 use etcd_types::{CopyOf, KeyValue, Mem};
-use request_checks::is_in;
 use std::alloc::Global;
 use std::cmp::Ordering;
+use store_words::is_in;
 
 /// The row of a put that stands at a place.
 fn put_at(writes: &[Write], place: usize) -> Option<&KeyValue>

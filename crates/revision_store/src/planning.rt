@@ -1,10 +1,10 @@
 //! Plans of one operation.
 ghost use Rattle.std.specs.Prelude.{◌≡◌, ◌+◌, ◌<◌, ◌^◌, true, None, Some, IfOk, IsOk, MatchResult, is_some, option_map};
 ghost use Rattle.etcd_types.specs.declared.txn.Op.TheVariants.{Put as PutOp, Delete as DeleteOp};
-ghost use Rattle.etcd_model.specs.Operations.{changes, op_reply};
+ghost use Rattle.etcd_model.specs.Operations.{changes, op_reply, put_refusal};
 ghost use Rattle.etcd_model.specs.Ranges.{without_value};
 ghost use Rattle.revision_store.specs.Stored.{look, reads};
-ghost use Rattle.revision_store.specs.Pending.{IsPlanOf, IsSound, put_refusal};
+ghost use Rattle.revision_store.specs.Pending.{IsPlanOf, IsSound};
 
 use crate::pending::Pending;
 use crate::plan::Plan;

@@ -4,12 +4,12 @@ ghost use Rattle.std.specs.List.Sorted.{IsStrictlySortedBy};
 ghost use Rattle.etcd_types.specs.declared.reply.OpReply.TheVariants.{Range as RangeReply};
 ghost use Rattle.etcd_types.specs.declared.txn.Op.TheVariants.{Range as RangeOp};
 ghost use Rattle.etcd_model.specs.Operations.{op_reply};
-ghost use Rattle.etcd_model.specs.Ranges.{is_wanted};
+ghost use Rattle.etcd_model.specs.Ranges.{is_wanted, range_reply};
 ghost use Rattle.etcd_model.specs.Reads.{revision_read, unreadable};
 ghost use Rattle.etcd_model.specs.Order.{by_key};
 ghost use Rattle.revision_store.specs.Answering.{given};
 ghost use Rattle.revision_store.specs.Pending.{AreRows};
-ghost use Rattle.revision_store.specs.Ranging.{needs_values, passes, range_answer, read, rows_of, wanted_cells};
+ghost use Rattle.revision_store.specs.Ranging.{needs_values, row_passes, read, rows_of, wanted_cells};
 ghost use Rattle.revision_store.specs.Recorded.{cells_of};
 ghost use Rattle.revision_store.specs.Stored.{reads, row_at};
 
@@ -87,7 +87,7 @@ pub(crate) fn range_reply(
     requires rows { AreRows (cells_of log.now.records) cells.items }
     requires ascend { IsStrictlySortedBy by_key (rows_of (cells_of log.now.records) cells.items) }
     requires revision { revision < 2 ^ 63 }
-    ensures { IfOk result (λ reply. reply ≡ range_answer request.now revision (rows_of (cells_of log.now.records) cells.items)) }
+    ensures { IfOk result (λ reply. reply ≡ range_reply revision request.now (rows_of (cells_of log.now.records) cells.items)) }
 {
     let count = cells.len() as u64;
     if request.count_only {
@@ -108,7 +108,7 @@ pub(crate) fn rows_reply(
 ) -> Mem<OpReply>
     requires ascend { IsStrictlySortedBy by_key rows.items }
     requires revision { revision < 2 ^ 63 }
-    ensures { IfOk result (λ reply. reply ≡ range_answer request.now revision rows.items) }
+    ensures { IfOk result (λ reply. reply ≡ range_reply revision request.now rows.items) }
 {
     let count = rows.len() as u64;
     if request.count_only {
@@ -177,7 +177,7 @@ fn passing(alloc: Global, log: &Log, request: &RangeReq, cells: &[CellNo]) -> Me
 /// The row under a cell passes the filters. None of its bytes is read.
 fn passes(log: &Log, request: &RangeReq, cell: CellNo) -> bool
     requires { IsSome (row_at (cells_of log.now.records) cell) }
-    ensures { result ≡ passes request.now (row_at (cells_of log.now.records) cell) }
+    ensures { result ≡ row_passes request.now (row_at (cells_of log.now.records) cell) }
 {
     let (create_revision, mod_revision) = log.revisions(cell);
     is_wanted(request, create_revision, mod_revision)

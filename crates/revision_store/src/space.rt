@@ -1,6 +1,6 @@
 //! How many cells are in use, and how many a plan takes.
 ghost use Rattle.std.specs.Prelude.{◌≡◌, ◌+◌, ◌-◌, ◌≤◌, ◌^◌, ◌↔◌, min, IsTrue};
-ghost use Rattle.etcd_model.specs.Store.{after, cells as counted, record_cells};
+ghost use Rattle.etcd_model.specs.Store.{after, counted_cells, record_cells};
 ghost use Rattle.revision_store.specs.Stored.{cells, changes_of, Follows, HasSpace, IsPlanFor};
 ghost use Rattle.revision_store.specs.Plans.{cost_in, growth_of};
 ghost use Rattle.revision_store.specs.Pending.{IsSound};
@@ -9,7 +9,7 @@ use crate::log::Log;
 use crate::plan::{Plan, Write};
 use crate::store::Store;
 use etcd_types::limits::CELL_BYTES;
-use quota_alarm::{cost_delete, cost_put};
+use store_words::{cost_delete, cost_put};
 
 impl Store {
     /// How many cells are free.
@@ -46,8 +46,8 @@ impl Store {
     /// and room for a delete of its key where that was not live; a delete takes the room that was held for it.
     pub fn growth(&self, plan: &Plan) -> u64
         requires { IsPlanFor self.now plan.now }
-        ensures exact { result ≡ min (counted (after self.now.kept (changes_of self.now plan.now)) - counted self.now.kept) (2 ^ 64 - 1) }
-        ensures grows { counted self.now.kept ≤ counted (after self.now.kept (changes_of self.now plan.now)) }
+        ensures exact { result ≡ min (counted_cells (after self.now.kept (changes_of self.now plan.now)) - counted_cells self.now.kept) (2 ^ 64 - 1) }
+        ensures grows { counted_cells self.now.kept ≤ counted_cells (after self.now.kept (changes_of self.now plan.now)) }
         ensures sound { IsSound self.now }
     {
         self.keep_sound();

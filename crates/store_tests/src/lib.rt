@@ -1,5 +1,5 @@
-//! Tests of stores of many versions: the plain one, which is the definition written down, and the one over cells answer
-//! the same steps alike, whichever segments the latter draws.
+//! Tests of stores of many versions: the plain one, which is the definition written down, and the one over
+//! cells answer the same steps alike, whichever segments the latter draws.
 #![tactic(auto)]
 
 #[cfg(test)]

@@ -5,7 +5,7 @@ use Rattle.etcd_types.specs.declared.key_value.KeyValue.{KeyValue}
 use Rattle.etcd_model.specs.Interval.{every_key}
 use Rattle.etcd_model.specs.Kept.{cost_delete}
 use Rattle.etcd_model.specs.Changes.{kept}
-use Rattle.etcd_model.specs.Store.{Store, IsStore, cells, compact, record_cells, reserved_cells}
+use Rattle.etcd_model.specs.Store.{Store, IsStore, counted_cells, compact, record_cells, reserved_cells}
 use Rattle.model_laws.proofs.HistoryKeptLaws.{rows_kept}
 use Rattle.model_laws.proofs.SpaceLaws.{compaction_takes_none}
 use Rattle.revision_store.specs.declared.plan.Write.{Write}
@@ -25,7 +25,7 @@ pub fewer_records : (s : Store) (r : ℕ) → s.compacted ≤ r → r ≤ s.curr
 fewer_records s r above within is = omega (arith, compaction_takes_none s r is above within, reserved_stays s r within is)
 
 -- the cells in use fall by those of the records that go
-used_after : (s : Store) (r : ℕ) → r ≤ s.current → IsStore s → cells (compact s r) + record_cells s.changes ≡ cells s + record_cells (kept r s.changes)
+used_after : (s : Store) (r : ℕ) → r ≤ s.current → IsStore s → counted_cells (compact s r) + record_cells s.changes ≡ counted_cells s + record_cells (kept r s.changes)
 used_after s r within is = omega (arith, reserved_stays s r within is)
 
 -- ---- a machine after a commit
@@ -34,7 +34,7 @@ used_after s r within is = omega (arith, reserved_stays s r within is)
 pub machine_after_write : (store new : StoreState) (quota : Quota) (writes : List Write) (used : ℕ) → IsMachine store quota → FitsWrite store writes used
     → new.kept ≡ written store writes → new.lease_cells ≡ store.lease_cells → new.share.reserved ≡ store.share.reserved → IsMachine new (record quota { used = used })
 machine_after_write store new quota writes used is fits kept leases reserved = record {
-  used = fits.counted ∙ ap cells (sym kept);
+  used = fits.counted ∙ ap counted_cells (sym kept);
   leases = leases ∙ is.leases;
   within = omega (arith, fits.within, reserved);
   allowed = omega (arith, is.allowed, reserved);
@@ -47,7 +47,7 @@ pub machine_after_compaction : (store new : StoreState) (quota : Quota) (revisio
     → used + record_cells store.kept.changes ≡ quota.used + record_cells new.kept.changes → IsMachine new (record quota { used = used })
 machine_after_compaction store new quota revision used is sound fits kept leases reserved falls =
     let records = ap (λ (s : Store). record_cells s.changes) kept in
-    let counted = ap cells kept in
+    let counted = ap counted_cells kept in
     let taken = used_after store.kept revision fits.within sound in
     let fewer : record_cells new.kept.changes ≤ record_cells store.kept.changes = omega (arith, records, fewer_records store.kept revision (omega (arith, fits.above)) fits.within sound) in
     record {

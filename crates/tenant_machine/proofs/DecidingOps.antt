@@ -14,13 +14,13 @@ use Rattle.etcd_types.specs.declared.reply.Reply.{Reply}
 use Rattle.etcd_types.specs.declared.reply.Reply.TheVariants.{Refused}
 use Rattle.etcd_model.specs.declared.state.Change.{Change}
 use Rattle.etcd_model.specs.declared.state.State.{State}
-use Rattle.etcd_model.specs.Operations.{changes, op_refusal, op_reply}
+use Rattle.etcd_model.specs.Operations.{changes, op_refusal, op_reply, put_refusal}
 use Rattle.etcd_model.specs.Reads.{Reads}
 use Rattle.etcd_model.specs.Stepping.{look_up, outcome, single, with_header, within_quota}
-use Rattle.etcd_model.specs.Store.{IsStore, Store, after, cells, kept_store}
+use Rattle.etcd_model.specs.Store.{IsStore, Store, after, counted_cells, kept_store}
 use Rattle.etcd_model.specs.Tenant.{Outcome, used}
 use Rattle.model_laws.proofs.SpaceLaws.{delete_takes_none}
-use Rattle.revision_store.specs.Pending.{IsPlanOf, put_refusal}
+use Rattle.revision_store.specs.Pending.{IsPlanOf}
 use Rattle.revision_store.specs.Stored.{StoreState, changes_of, look, reads}
 use Rattle.revision_store.specs.declared.plan.Write.{Write}
 use Rattle.revision_store.specs.declared.planning.PlannedOp.{PlannedOp}
@@ -67,17 +67,17 @@ put_passes t q o past =
 
 pub put_does : (m : MachineState) (q : PutReq) (writes : List Write) (reply : Reply) (p : Plan)
     → look_up kept_store (tenant m) (Put q) ≡ None → IsPlanOf m.store (PutOp q) writes → reply ≡ answer m (op_reply (reads m.store) (m.store.kept.current + 1) (PutOp q))
-    → (cells (written m.store writes) ≤ m.quota → p ≡ record { effect = WriteEffect writes (cells (written m.store writes)); reply = reply })
-    → (m.quota < cells (written m.store writes) → p ≡ record { effect = Alarm true; reply = Refused NoSpace })
+    → (counted_cells (written m.store writes) ≤ m.quota → p ≡ record { effect = WriteEffect writes (counted_cells (written m.store writes)); reply = reply })
+    → (m.quota < counted_cells (written m.store writes) → p ≡ record { effect = Alarm true; reply = Refused NoSpace })
     → Does m p (past_gate (tenant m) (Put q))
 put_does m q writes reply p none plan told admitted refused =
     let t = tenant m in
     let o = outcome kept_store t (Put q) in
-    let same : used kept_store o.state ≡ cells (written m.store writes) = omega (arith, ap (λ (cs : List Change). cells (after m.store.kept cs)) plan.changes) in
-    elim (cases_lt m.quota (cells (written m.store writes))) [
+    let same : used kept_store o.state ≡ counted_cells (written m.store writes) = omega (arith, ap (λ (cs : List Change). counted_cells (after m.store.kept cs)) plan.changes) in
+    elim (cases_lt m.quota (counted_cells (written m.store writes))) [
       | inr within ↦
           subst (Does m p) (sym (done_past_gate t (Put q) none ∙ put_is_kept t q o (omega arith)))
-          (does_as m p _ o (admitted within) (op_does m (PutOp q) writes (cells (written m.store writes)) reply plan.changes told))
+          (does_as m p _ o (admitted within) (op_does m (PutOp q) writes (counted_cells (written m.store writes)) reply plan.changes told))
       | inl past ↦
           subst (Does m p) (sym (done_past_gate t (Put q) none ∙ put_passes t q o (omega arith)))
           (does_as m p _ _ (refused past) (record { reply = refl; state = refl }))
@@ -97,8 +97,8 @@ module _ (m : MachineState) (store : StoreState) (q : PutReq) (answered : Result
   said_as a is = subst (IsPutAnswer m.store q) is (subst (λ (s : StoreState). IsPutAnswer s q answered) same says)
 
   pub put_planned_does : (planned : PlannedOp) (reply : Reply) (p : Plan) → answered ≡ Ok planned → reply ≡ answer m planned.reply
-      → (cells (written m.store planned.plan) ≤ m.quota → p ≡ record { effect = WriteEffect planned.plan (cells (written m.store planned.plan)); reply = reply })
-      → (m.quota < cells (written m.store planned.plan) → p ≡ record { effect = Alarm true; reply = Refused NoSpace })
+      → (counted_cells (written m.store planned.plan) ≤ m.quota → p ≡ record { effect = WriteEffect planned.plan (counted_cells (written m.store planned.plan)); reply = reply })
+      → (m.quota < counted_cells (written m.store planned.plan) → p ≡ record { effect = Alarm true; reply = Refused NoSpace })
       → Does m p (past_gate (tenant m) (Put q))
   put_planned_does planned reply p is told admitted refused =
       let said = said_as (Ok planned) is in
@@ -110,8 +110,8 @@ module _ (m : MachineState) (store : StoreState) (q : PutReq) (answered : Result
 -- ---- a delete
 
 -- as many cells are in use then as before
-pub delete_keeps : (store : StoreState) (d : DeleteReq) (writes : List Write) → IsStore store.kept → IsPlanOf store (DeleteOp d) writes → cells store.kept ≡ cells (written store writes)
-delete_keeps store d writes sound plan = sym (ap (λ (cs : List Change). cells (after store.kept cs)) plan.changes ∙ delete_takes_none store.kept [] d sound)
+pub delete_keeps : (store : StoreState) (d : DeleteReq) (writes : List Write) → IsStore store.kept → IsPlanOf store (DeleteOp d) writes → counted_cells store.kept ≡ counted_cells (written store writes)
+delete_keeps store d writes sound plan = sym (ap (λ (cs : List Change). counted_cells (after store.kept cs)) plan.changes ∙ delete_takes_none store.kept [] d sound)
 
 pub delete_does : (m : MachineState) (store : StoreState) (d : DeleteReq) (planned : PlannedOp) (cells_then : ℕ) (reply : Reply) (p : Plan) → store ≡ m.store → IsPlanOf store (DeleteOp d) planned.plan
     → planned.reply ≡ op_reply (reads store) (look store (changes (reads store) (DeleteOp d))).current (DeleteOp d)

@@ -18,7 +18,7 @@ use Rattle.etcd_model.specs.Fields.{is_empty}
 use Rattle.etcd_model.specs.Operations.{adds_any, branch, ops_refusal, pending_after}
 use Rattle.etcd_model.specs.Reads.{Reads}
 use Rattle.etcd_model.specs.Stepping.{transaction, within_quota, writes, writes_op}
-use Rattle.etcd_model.specs.Store.{IsStore, after, cells, kept_store}
+use Rattle.etcd_model.specs.Store.{IsStore, after, counted_cells, kept_store}
 use Rattle.etcd_model.specs.Tenant.{used}
 use Rattle.model_laws.proofs.RevisionLaws.{nothing_pending}
 use Rattle.model_laws.proofs.SpaceLaws.{no_put_takes_none}
@@ -68,8 +68,8 @@ module _ (store : StoreState) (q : TxnReq) (planned : PlannedTxn) (is : IsTxn st
   ]
 
   -- without a put as many cells are in use then as before
-  pub without_put_keeps : IsStore store.kept → planned.adds ≡ false → cells (written store planned.plan) ≡ cells store.kept
-  without_put_keeps sound none = ap (λ (cs : List Change). cells (after store.kept cs)) is.changes ∙ no_put_takes_none store.kept (branch (reads store) q) sound (sym is.adds ∙ none)
+  pub without_put_keeps : IsStore store.kept → planned.adds ≡ false → counted_cells (written store planned.plan) ≡ counted_cells store.kept
+  without_put_keeps sound none = ap (λ (cs : List Change). counted_cells (after store.kept cs)) is.changes ∙ no_put_takes_none store.kept (branch (reads store) q) sound (sym is.adds ∙ none)
 
 -- ---- what comes of it
 

@@ -57,6 +57,10 @@ module _ (t : State Store) (step : Step) where
   offered_is_built : is_offered step ≡ true → built kept_store t step ≡ machine kept_store t step
   offered_is_built offered = ap (λ (b : Bool). if b then machine kept_store t step else stays kept_store t (Refused NotOffered)) offered
 
+  -- what is not offered is refused
+  unoffered_is_refused : is_offered step ≡ false → built kept_store t step ≡ stays kept_store t (Refused NotOffered)
+  unoffered_is_refused unbuilt = ap (λ (b : Bool). if b then machine kept_store t step else stays kept_store t (Refused NotOffered)) unbuilt
+
   -- ---- past the gate
 
   pub refused_past_gate : (r : Refusal) → look_up kept_store t step ≡ Some r → past_gate t step ≡ stays kept_store t (Refused r)
@@ -70,6 +74,13 @@ pub refused_is_built : (m : MachineState) (step : Step) (r : Refusal) (p : Plan)
 refused_is_built m step r p offered is planned =
     subst (λ (q : Plan). Does m q (built kept_store (tenant m) step)) (sym planned)
     (subst (Does m (record { effect = Nothing; reply = Refused r })) (sym (offered_is_built (tenant m) step offered ∙ refused_by_gate (tenant m) step r is)) (record { reply = refl; state = refl }))
+
+pub unoffered_is_built : (m : MachineState) (step : Step) (p : Plan) → is_offered step ≡ false
+    → p ≡ record { effect = Nothing; reply = Refused NotOffered } → Does m p (built kept_store (tenant m) step)
+unoffered_is_built m step p unbuilt planned =
+    subst (λ (q : Plan). Does m q (built kept_store (tenant m) step)) (sym planned)
+    (subst (Does m (record { effect = Nothing; reply = Refused NotOffered }))
+    (sym (unoffered_is_refused (tenant m) step unbuilt)) (record { reply = refl; state = refl }))
 
 pub let_through_is_built : {E : Type 0} (m : MachineState) (step : Step) (result : Result Plan E) → is_offered step ≡ true → gate (tenant m) step ≡ None
     → IfOk result (λ p. Does m p (past_gate (tenant m) step)) → IfOk result (λ p. Does m p (built kept_store (tenant m) step))

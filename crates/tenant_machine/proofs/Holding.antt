@@ -34,7 +34,7 @@ held_after_built : (S : State History) (m : State Store) (step : Step) → Holds
 held_after_built S m step held = either_held S m step (is_offered step) held
 
 -- a plan that does what is to come of a step is one of the step
-plans : (m : MachineState) (step : Step) (p : Plan) → Does m p (built kept_store (tenant m) step) → Plans m step p
+pub plans : (m : MachineState) (step : Step) (p : Plan) → Does m p (built kept_store (tenant m) step) → Plans m step p
 plans m step p does = record {
   spoken = λ refused. built_speaks kept_store (tenant m) step (sym does.reply ∙ refused);
   reply = λ S held. does.reply ∙ (held_after_built S (tenant m) step held).1;

@@ -25,7 +25,7 @@ use Rattle.etcd_model.specs.Fields.{fields, refused_if}
 use Rattle.etcd_model.specs.Operations.{branch, first_refusal, op_refusal, ops_refusal}
 use Rattle.etcd_model.specs.Tenant.{Asks, Outcome, header, reads}
 use Rattle.etcd_model.specs.Stepping.{alarm_of, before_space, decided, early, kept_alive, look_up, machine, outcome, time_left, unless_alarmed, within_quota}
-use Rattle.etcd_model.specs.Watches.{created, given, taken}
+use Rattle.etcd_model.specs.Watches.{created, events_given, taken}
 use Rattle.etcd_model.specs.Offered.{built, is_offered}
 
 -- a refusal, if there is one, is not for want of memory
@@ -120,7 +120,7 @@ module _ {X : Type 0} (asks : Asks X) where
   created_speaks t q None = λ e. cc
   created_speaks t q (Some i) = λ e. cc
 
-  given_speaks : (t : State X) (i : ℕ) (w : WatchState) (es : List Entry) (events : List Event) → Speaks (given asks t i w es events).reply
+  given_speaks : (t : State X) (i : ℕ) (w : WatchState) (es : List Entry) (events : List Event) → Speaks (events_given asks t i w es events).reply
   given_speaks t i w es [] = λ e. cc
   given_speaks t i w es (event ∷ events) = λ e. cc
 

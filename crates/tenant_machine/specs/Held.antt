@@ -3,7 +3,7 @@ use Rattle.std.specs.Prelude.{◌≡◌, ℕ, ◌+◌, ◌*◌, ◌≤◌, ◌^�
 use Rattle.std.specs.Coded.{Coded, code_by, coded×, coded_ℕ, coded_bool}
 use Rattle.etcd_types.specs.Limits.{watch_slots}
 use Rattle.etcd_model.specs.declared.state.State.{State}
-use Rattle.etcd_model.specs.Store.{Store, cells}
+use Rattle.etcd_model.specs.Store.{Store, counted_cells}
 use Rattle.quota_alarm.specs.declared.quota.Quota.{Quota}
 use Rattle.revision_store.specs.Stored.{StoreState, store_code}
 
@@ -46,7 +46,7 @@ tenant m = record {
 -- The cells in use are counted, and they and the quota are within the segments that are reserved.
 -- That the store is sound it promises itself.
 pub record IsMachine (store : StoreState) (quota : Quota) : Type 0 where
-  pub used : quota.used ≡ cells store.kept
+  pub used : quota.used ≡ counted_cells store.kept
   pub leases : store.lease_cells ≡ 0
   pub within : quota.used ≤ 64 * store.share.reserved
   pub allowed : quota.cells ≤ 64 * store.share.reserved

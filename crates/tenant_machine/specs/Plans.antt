@@ -39,7 +39,7 @@ after_effect m (effect.Compact revision) = record (tenant m) { store = kept.comp
 -- some writes that can be committed; so many cells are in use then
 pub record FitsWrite (store : StoreState) (writes : List Write) (used : ℕ) : Type 0 where
   pub can : CanCommit store writes
-  pub counted : used ≡ kept.cells (written store writes)
+  pub counted : used ≡ kept.counted_cells (written store writes)
   pub within : used ≤ 64 * store.share.reserved
 
 -- a compaction that is one

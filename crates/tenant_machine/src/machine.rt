@@ -1,5 +1,5 @@
 //! One tenant's machine.
-ghost use Rattle.std.specs.Prelude.{◌≡◌, ◌≢◌, ◌+◌, ◌-◌, ◌≤◌, ◌≤ℤ◌, ℕ, pos, true, false, IfOk, IsOk};
+ghost use Rattle.std.specs.Prelude.{◌≡◌, ◌≢◌, ◌+◌, ◌-◌, ◌≤◌, ◌≤ℤ◌, ℕ, pos, true, false, IfOk};
 ghost use Rattle.etcd_types.specs.Limits.{last_revision, max_quota, min_quota};
 ghost use Rattle.etcd_types.specs.declared.reply.Reply.TheVariants.{Refused};
 ghost use Rattle.etcd_types.specs.declared.refusal.Refusal.TheVariants.{Memory};
@@ -10,7 +10,7 @@ ghost use Rattle.etcd_model.specs.Store.{kept_store, reserved_cells};
 ghost use Rattle.etcd_model.specs.Tenant.{used};
 ghost use Rattle.tenant_machine.specs.Deciding.{is_stopped};
 ghost use Rattle.tenant_machine.specs.Held.{tenant};
-ghost use Rattle.tenant_machine.specs.Plans.{Fits, FitsCompaction, FitsWrite, IsAfter, Plans, Steps};
+ghost use Rattle.tenant_machine.specs.Plans.{Fits, FitsCompaction, FitsWrite, IsAfter, Steps};
 ghost use Rattle.tenant_machine.specs.Plans.{takes_memory, written};
 
 use crate::planned::{Effect, Planned};
@@ -67,17 +67,6 @@ impl Machine {
             store: Store::new(alloc, cells, first as u64)?,
             quota: Quota::new(quota),
         })
-    }
-
-    /// Decides a step. Where it finds no memory, nothing is decided. Compactions, alarms, ticks and
-    /// others need none, and no step does that is refused before the quota is asked.
-    pub fn plan(&self, alloc: Global, step: &Step) -> Mem<Planned>
-        ensures plans { IfOk result (λ p. Plans self.now step.now p) }
-        ensures fits { IfOk result (λ p. Fits self.now p) }
-        ensures sure { takes_memory step.now ≡ false → IsOk result }
-        ensures stopped { is_stopped (tenant self.now) step.now ≡ true → IsOk result }
-    {
-        self.plan_built(alloc, step)
     }
 
     /// Makes what was planned, of the machine as it was then. It is lent the segments that the

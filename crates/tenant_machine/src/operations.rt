@@ -98,8 +98,8 @@ impl Machine {
         requires plan { IsPlanFor self.now.store planned.plan }
         requires adds { planned.adds ≡ true → self.now.store.kept.current < last_revision }
         requires writes { is_empty planned.plan ≡ false → self.now.store.kept.current < last_revision }
-        requires keeps { planned.adds ≡ false → kept.cells (written self.now.store planned.plan)
-            ≡ kept.cells self.now.store.kept }
+        requires keeps { planned.adds ≡ false → kept.counted_cells (written self.now.store planned.plan)
+            ≡ kept.counted_cells self.now.store.kept }
         ensures does { Does self.now result (txn_outcome self.now planned) }
         ensures fits { Fits self.now result }
     {
@@ -129,12 +129,12 @@ impl Machine {
     fn within_quota(&self, plan: Plan, reply: Reply) -> Planned
         requires plan { IsPlanFor self.now.store plan }
         requires revisions { self.now.store.kept.current < last_revision }
-        ensures admitted { kept.cells (written self.now.store plan) ≤ self.now.quota
+        ensures admitted { kept.counted_cells (written self.now.store plan) ≤ self.now.quota
             → result ≡ record {
-              effect = Effect.Write plan (kept.cells (written self.now.store plan));
+              effect = Effect.Write plan (kept.counted_cells (written self.now.store plan));
               reply = reply;
             } }
-        ensures refused { self.now.quota < kept.cells (written self.now.store plan)
+        ensures refused { self.now.quota < kept.counted_cells (written self.now.store plan)
             → result ≡ record { effect = Effect.Alarm true; reply = Refused NoSpace } }
         ensures fits { Fits self.now result }
     {
@@ -154,7 +154,7 @@ impl Machine {
     fn writing(&self, plan: Plan, reply: Reply, used: u64) -> Planned
         requires plan { IsPlanFor self.now.store plan }
         requires revisions { self.now.store.kept.current < last_revision }
-        requires used { used ≡ kept.cells (written self.now.store plan) }
+        requires used { used ≡ kept.counted_cells (written self.now.store plan) }
         requires within { used ≤ 64 * self.now.store.share.reserved }
         ensures planned { result ≡ record { effect = Effect.Write plan used; reply = reply } }
         ensures fits { Fits self.now result }

@@ -1,11 +1,11 @@
 //! How a step is decided.
 ghost use Rattle.std.specs.Prelude.{◌≡◌, ◌<◌, None, true, false, is_some, IfOk, IsOk};
-ghost use Rattle.etcd_model.specs.Offered.{built, is_offered};
+ghost use Rattle.etcd_model.specs.Offered.{is_offered};
 ghost use Rattle.etcd_model.specs.Store.{kept_store};
 ghost use Rattle.etcd_model.specs.Stepping.{look_up, may_add, writes};
 ghost use Rattle.tenant_machine.specs.Deciding.{Does, gate, is_stopped, past_gate};
 ghost use Rattle.tenant_machine.specs.Held.{tenant};
-ghost use Rattle.tenant_machine.specs.Plans.{Fits, takes_memory};
+ghost use Rattle.tenant_machine.specs.Plans.{Fits, Plans, takes_memory};
 
 use crate::machine::Machine;
 use crate::planned::Planned;
@@ -16,9 +16,10 @@ use std::alloc::Global;
 use txn_plan::{adds_any, writes_any};
 
 impl Machine {
-    /// What is offered is decided, and nothing else.
-    pub(crate) fn plan_built(&self, alloc: Global, step: &Step) -> Mem<Planned>
-        ensures does { IfOk result (λ p. Does self.now p (built kept_store (tenant self.now) step.now)) }
+    /// Decides a step. Where it finds no memory, nothing is decided. Compactions, alarms, ticks and others
+    /// need none, and no step does that is refused before the quota is asked.
+    pub fn plan(&self, alloc: Global, step: &Step) -> Mem<Planned>
+        ensures plans { IfOk result (λ p. Plans self.now step.now p) }
         ensures fits { IfOk result (λ p. Fits self.now p) }
         ensures sure { takes_memory step.now ≡ false → IsOk result }
         ensures stopped { is_stopped (tenant self.now) step.now ≡ true → IsOk result }

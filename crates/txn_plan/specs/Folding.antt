@@ -14,8 +14,10 @@ use Rattle.txn_plan.specs.Planned.{IsApart}
 abbrev pub AllApart : List Change → List Op → Type 0
 AllApart pending ops = AllByRecursion (λ op. IsApart op pending) ops
 
--- with what is pending and what is answered, the operations that are left make the whole, and each of them can be done
-pub record GoesOn (store : StoreState) (ops left : List Op) (pending : List Change) (told : List OpReply) : Type 0 where
+-- with what is pending and what is answered, the operations that are left make the whole, and each of them
+-- can be done
+pub record GoesOn
+    (store : StoreState) (ops left : List Op) (pending : List Change) (told : List OpReply) : Type 0 where
   pub changes : pending_after (look store) pending left ≡ pending_after (look store) [] ops
   pub replies : told ++ replies (look store) pending left ≡ replies (look store) [] ops
   pub apart : AllApart pending left

@@ -7,15 +7,7 @@ ghost use Rattle.etcd_model.specs.Stepping.{writes_op};
 ghost use Rattle.revision_store.specs.Stored.{reads};
 
 use etcd_types::{Compare, Op, TxnReq};
-use revision_store::Store;
-
-/// Whether a compare holds: each live row of its interval meets it. Where there is none, no value meets it, and each
-/// number counts as 0. It builds no row and takes no memory.
-pub fn holds(store: &Store, compare: &Compare) -> bool
-    ensures { result ≡ model.holds (reads store.now) compare.now }
-{
-    store.holds(compare)
-}
+use revision_store::{Store, holds};
 
 /// Whether all compares of a transaction hold.
 pub(crate) fn all_hold(store: &Store, compares: &[Compare]) -> bool

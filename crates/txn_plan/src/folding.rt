@@ -2,7 +2,8 @@
 ghost use Rattle.std.specs.Prelude.{◌≡◌, ◌+◌, ◌<◌, ◌^◌, [], true, false, None, IfOk, OnOk};
 ghost use Rattle.std.specs.List.{list_any};
 ghost use Rattle.etcd_model.specs.Fields.{has_duplicate, is_nested};
-ghost use Rattle.etcd_model.specs.Operations.{and_changes, op_refusal, op_reply, ops_refusal, pending_after, replies};
+ghost use Rattle.etcd_model.specs.Operations.{and_changes, op_refusal, op_reply, ops_refusal, pending_after};
+ghost use Rattle.etcd_model.specs.Operations.{replies};
 ghost use Rattle.etcd_model.specs.Stepping.{writes_op};
 ghost use Rattle.revision_store.specs.Stored.{look, reads};
 ghost use Rattle.txn_plan.specs.Planned.{IsApart};
@@ -24,7 +25,8 @@ pub(crate) fn fold<'a>(alloc: Global, store: &'a Store, ops: &'a [Op]) -> Mem<Fo
     requires offered { list_any is_nested ops.now ≡ false }
     requires readable { ops_refusal [] (reads store.now) ops.now ≡ None }
     requires revisions { list_any writes_op ops.now ≡ true → store.now.kept.current + 1 < 2 ^ 63 }
-    ensures changes { IfOk result (λ folded. folded.pending ≡ record { store = store.now; changes = pending_after (look store.now) [] ops.now }) }
+    ensures changes { IfOk result (λ folded. folded.pending ≡
+        record { store = store.now; changes = pending_after (look store.now) [] ops.now }) }
     ensures replies { IfOk result (λ folded. folded.replies ≡ replies (look store.now) [] ops.now) }
 {
     // The store tells with its revision that it is sound.
@@ -43,8 +45,14 @@ fn add<'a>(alloc: Global, pending: &mut Pending<'a>, op: &'a Op) -> Mem<OpReply>
     requires offered { is_nested op.now ≡ false }
     requires readable { op_refusal [] (reads pending.old.store) op.now ≡ None }
     requires revisions { writes_op op.now ≡ true → pending.old.store.kept.current + 1 < 2 ^ 63 }
-    ensures changes { OnOk result (pending.new ≡ record { store = pending.old.store; changes = and_changes (look pending.old.store) pending.old.changes op.now }) }
-    ensures reply { IfOk result (λ reply. reply ≡ op_reply (look pending.old.store pending.old.changes) (look pending.old.store (and_changes (look pending.old.store) pending.old.changes op.now)).current op.now) }
+    ensures changes { OnOk result (pending.new ≡ record {
+      store = pending.old.store;
+      changes = and_changes (look pending.old.store) pending.old.changes op.now;
+    }) }
+    ensures reply { IfOk result (λ reply. reply ≡ op_reply
+        (look pending.old.store pending.old.changes)
+        (look pending.old.store (and_changes (look pending.old.store) pending.old.changes op.now)).current
+        op.now) }
 {
     match op {
         Op::Range(request) => pending.range(alloc, request),

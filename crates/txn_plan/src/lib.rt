@@ -1,5 +1,5 @@
-//! A transaction over a store: its compares, the branch that they take, and the operations of that one after another,
-//! each of which reads what the ones before it change.
+//! A transaction over a store: its compares, the branch that they take, and the operations of that one after
+//! another, each of which reads what the ones before it change.
 #![tactic(auto)]
 
 mod branch;
@@ -9,6 +9,8 @@ mod refusal;
 #[cfg(test)]
 mod tests;
 
-pub use branch::{adds_any, holds, writes_any};
+pub use branch::{adds_any, writes_any};
 pub use planning::{PlannedTxn, plan};
-pub use refusal::{check, lease_refusal};
+pub use refusal::lease_refusal;
+pub use request_checks::check_txn as check;
+pub use revision_store::holds;

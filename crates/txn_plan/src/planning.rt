@@ -1,5 +1,6 @@
 //! Plans of transactions.
-ghost use Rattle.std.specs.Prelude.{◌≡◌, ◌+◌, ◌<◌, ◌^◌, ◌++◌, [], true, None, Some, is_some, IfOk, IsOk, MatchResult};
+ghost use Rattle.std.specs.Prelude.{◌≡◌, ◌+◌, ◌<◌, ◌^◌, ◌++◌, [], true, None, Some, is_some, IfOk, IsOk};
+ghost use Rattle.std.specs.Prelude.{MatchResult};
 ghost use Rattle.std.specs.List.{list_any};
 ghost use Rattle.etcd_model.specs.Fields.{txn_fields};
 ghost use Rattle.etcd_model.specs.Operations.{branch, ops_refusal};
@@ -29,13 +30,18 @@ pub struct PlannedTxn {
     pub responses: List<OpReply>,
 }
 
-/// Decides a transaction that its fields don't refuse. It is refused by the first operation of the branch that is taken
-/// which the store refuses as it is before all of them, and that takes no memory. Nothing changes.
+/// Decides a transaction that its fields don't refuse. It is refused by the first operation of the branch
+/// that is taken which the store refuses as it is before all of them, and that takes no memory. Nothing
+/// changes.
 pub fn plan(alloc: Global, store: &Store, request: &TxnReq) -> Mem<Result<PlannedTxn, Refusal>>
     requires fields { txn_fields request.now ≡ None }
-    requires revisions { list_any writes_op (request.now.success ++ request.now.failure) ≡ true → store.now.kept.current + 1 < 2 ^ 63 }
-    ensures refusal { IfOk result (λ answer. MatchResult answer (λ planned. ops_refusal [] (reads store.now) (branch (reads store.now) request.now) ≡ None) (λ refusal. ops_refusal [] (reads store.now) (branch (reads store.now) request.now) ≡ Some refusal)) }
-    ensures sure { is_some (ops_refusal [] (reads store.now) (branch (reads store.now) request.now)) ≡ true → IsOk result }
+    requires revisions { list_any writes_op (request.now.success ++ request.now.failure) ≡ true
+        → store.now.kept.current + 1 < 2 ^ 63 }
+    ensures refusal { IfOk result (λ answer. MatchResult answer
+        (λ planned. ops_refusal [] (reads store.now) (branch (reads store.now) request.now) ≡ None)
+        (λ refusal. ops_refusal [] (reads store.now) (branch (reads store.now) request.now) ≡ Some refusal)) }
+    ensures sure { is_some (ops_refusal [] (reads store.now) (branch (reads store.now) request.now)) ≡ true
+        → IsOk result }
     ensures planned { IfOk result (λ answer. IfOk answer (λ planned. IsTxn store.now request.now planned)) }
 {
     let succeeded = all_hold(store, request.compare.as_slice());

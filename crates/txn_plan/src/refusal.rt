@@ -1,25 +1,13 @@
-//! What a transaction is refused for.
-ghost use Rattle.std.specs.Prelude.{◌≡◌, ◌≢◌, [], pos, None, Some, MatchResult};
+//! What the operations of a transaction are refused for.
+ghost use Rattle.std.specs.Prelude.{◌≡◌, ◌≢◌, [], pos};
 ghost use Rattle.std.specs.Option.{MatchOption};
-ghost use Rattle.etcd_model.specs.Fields.{txn_fields};
 ghost use Rattle.etcd_model.specs.Operations.{op_refusal, ops_refusal};
 ghost use Rattle.revision_store.specs.Stored.{reads};
 ghost use Rattle.etcd_types.specs.declared.refusal.Refusal.TheVariants.{LeaseNotFound};
 ghost use Rattle.etcd_types.specs.declared.txn.Op.TheVariants.{Put as PutOp};
 
-use etcd_types::{Op, PutReq, Refusal, TxnReq};
-use request_checks::txn_fields;
+use etcd_types::{Op, PutReq, Refusal};
 use revision_store::Store;
-
-/// What the fields of a transaction refuse, those of its compares and of both its branches.
-pub fn check(request: &TxnReq) -> Result<(), Refusal>
-    ensures { MatchResult result (λ _. txn_fields request.now ≡ None) (λ refusal. txn_fields request.now ≡ Some refusal) }
-{
-    match txn_fields(request) {
-        None => Ok(()),
-        Some(refusal) => Err(refusal),
-    }
-}
 
 /// The first refusal of some operations, each of which is looked up in the store before any of them.
 pub(crate) fn ops_refusal(store: &Store, ops: &[Op]) -> Option<Refusal>

@@ -1,6 +1,7 @@
-//! Each request to an alarm: a get lists the active alarm of any kind or of the quota, an activate of the quota's alarm
-//! makes it active and lists it, a deactivate takes it off and lists it if it was active. An activate of the alarm of
-//! corruption is not offered, whatever the member. Every other lists nothing and changes nothing.
+//! Each request to an alarm: a get lists the active alarm of any kind or of the quota, an activate of the
+//! quota's alarm makes it active and lists it, a deactivate takes it off and lists it if it was active. An
+//! activate of the alarm of corruption is not offered, whatever the member. Every other lists nothing and
+//! changes nothing.
 use etcd_types::{AlarmAction, AlarmKind};
 
 /// A request, with what is told of it and then of a put, if the alarm was off and if it was on before.

@@ -1,5 +1,5 @@
-//! Scripts: what is asked of a new tenant with what it answers, in the words of `told`. They are plain values: a
-//! function that holds many steps is long to prove.
+//! Scripts: what is asked of a new tenant with what it answers, in the words of `told`. They are plain
+//! values: a function that holds many steps is long to prove.
 use etcd_types::{AlarmAction, AlarmKind};
 
 /// What is asked, and the text of its answer.
@@ -200,7 +200,8 @@ pub(super) const BRANCHES_UNDER_THE_ALARM: [Line; 6] = [
     (ALARMS, "3: no space"),
 ];
 
-/// A full quota refuses a put in the branch that is taken. It refuses neither one in the other branch nor a delete.
+/// A full quota refuses a put in the branch that is taken. It refuses neither one in the other branch nor a
+/// delete.
 pub(super) const BRANCHES_AT_A_FULL_QUOTA: [Line; 11] = [
     (PUT_45_BYTES, "2"),
     (Ask::IfLive(Branch::Nothing, Branch::Put), "2: success 0"),

@@ -2,8 +2,8 @@
 use etcd_types::{Header, Mem, Reply};
 use std::alloc::Global;
 
-/// The revision, and then what the answer says: how many keys, which branch is taken and how many answers it has, whether
-/// the alarm is listed, or the bytes of the quota and those in use. A refusal is its name.
+/// The revision, and then what the answer says: how many keys, which branch is taken and how many answers it
+/// has, whether the alarm is listed, or the bytes of the quota and those in use. A refusal is its name.
 pub(super) fn text_of(alloc: Global, reply: &Reply) -> Mem<String> {
     match reply {
         Reply::Range { header, count, .. } => numbered(alloc, header, *count),

@@ -1,4 +1,5 @@
-//! Scripts: what a store is asked, with what it answers, in the words of `told`. They can be run over any store.
+//! Scripts: what a store is asked, with what it answers, in the words of `told`. They can be run over any
+//! store.
 use crate::tests::asked::Ask::{self, All, At, Compact, Delete, Put, PutBy, Range};
 use crate::tests::asked::NO_END;
 use crate::tests::asked::PutSetting::{IgnoreLease, IgnoreValue, Lease, PrevKv};
@@ -112,8 +113,9 @@ pub(super) const SORTED_RANGES: [Line; 11] = [
     ),
 ];
 
-/// Orders, filters, limits and keys alone, of rows of which `a` was put at 2 and 5, `b` at 3 and `c` at 4. Those that
-/// pass the filters are sorted, and then cut: there are more only where rows were cut. A limit or a bound of 0 is none.
+/// Orders, filters, limits and keys alone, of rows of which `a` was put at 2 and 5, `b` at 3 and `c` at 4.
+/// Those that pass the filters are sorted, and then cut: there are more only where rows were cut. A limit or
+/// a bound of 0 is none.
 pub(super) const THREE_ROWS: [Line; 30] = [
     (Put("a", "w"), "2"),
     (Put("b", "y"), "3"),

@@ -23,8 +23,8 @@ impl From<Result<OpReply, Refusal>> for Told {
     }
 }
 
-/// The revision, the number of keys where there is one, and then each row: its key, its value, the revisions at which it
-/// was created and changed, its version, and its lease if it has one.
+/// The revision, the number of keys where there is one, and then each row: its key, its value, the revisions
+/// at which it was created and changed, its version, and its lease if it has one.
 pub(super) fn text_of(alloc: Global, told: &Told) -> Mem<String> {
     let mut text = String::new(alloc);
     write_told(&mut text, told)?;

@@ -8,7 +8,7 @@ use Rattle.revision_store.specs.Recorded.{cells_of}
 use Rattle.revision_store.specs.Stored.{row_at}
 use Rattle.revision_store.specs.Pending.{AreRows}
 use Rattle.revision_store.specs.Answering.{given}
-use Rattle.revision_store.specs.Ranging.{passes, rows_of, wanted_cells}
+use Rattle.revision_store.specs.Ranging.{row_passes, rows_of, wanted_cells}
 use Rattle.revision_store.proofs.RangingCells.{all_kept, length-filter_map, wanted_rows}
 use Rattle.revision_store.proofs.RangingAnswers.{answer_counted, answer_given}
 use Rattle.revision_store.proofs.ranging.range_reply.Goals as goal
@@ -22,7 +22,7 @@ returns-then-request c =
 pub rows_given-requires-clause-rows : goal.rows_given-requires-clause-rows
 rows_given-requires-clause-rows c =
     let cells = cells_of c.args.log.now.records in
-    subst (AreRows cells) (sym c.in_ok-wanted.ensures) (all_kept (λ k. IsSome (row_at cells k)) (λ k. passes c.args.request.now (row_at cells k)) c.args.cells.items c.requires.rows)
+    subst (AreRows cells) (sym c.in_ok-wanted.ensures) (all_kept (λ k. IsSome (row_at cells k)) (λ k. row_passes c.args.request.now (row_at cells k)) c.args.cells.items c.requires.rows)
 
 pub rows_given-requires-clause-ascend : goal.rows_given-requires-clause-ascend
 rows_given-requires-clause-ascend c =
@@ -37,7 +37,7 @@ returns c =
     let cells = cells_of c.args.log.now.records in
     let wanted = c.in_ok-wanted.wanted.items in
     let is = ap (rows_of cells) c.in_ok-wanted.ensures ∙ wanted_rows (row_at cells) q c.args.cells.items in
-    let all = all_kept (λ k. IsSome (row_at cells k)) (λ k. passes q (row_at cells k)) c.args.cells.items c.requires.rows in
+    let all = all_kept (λ k. IsSome (row_at cells k)) (λ k. row_passes q (row_at cells k)) c.args.cells.items c.requires.rows in
     let counted = length-filter_map (row_at cells) c.args.cells.items c.requires.rows in
     let some : length (filter (is_wanted q) (rows_of cells c.args.cells.items)) ≡ length wanted = ap length (sym (wanted_rows (row_at cells) q c.args.cells.items)) ∙ length-filter_map (row_at cells) (wanted_cells cells q c.args.cells.items) all ∙ ap length (sym c.in_ok-wanted.ensures) in
     let size : length (filter (is_wanted q) (rows_of cells c.args.cells.items)) ≡ c.len.result = omega (arith, some, c.len.ensures) in

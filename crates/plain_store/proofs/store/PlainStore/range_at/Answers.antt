@@ -3,9 +3,9 @@ use Rattle.std.specs.Prelude.{IfOk}
 use Rattle.etcd_types.specs.declared.key_value.KeyValue.{KeyValue}
 use Rattle.etcd_types.specs.declared.txn.Op.TheVariants.{Range}
 use Rattle.etcd_model.specs.Operations.{op_reply}
+use Rattle.etcd_model.specs.Ranges.{range_reply}
 use Rattle.etcd_model.specs.Reads.{rows_read, revision_read, unreadable}
 use Rattle.etcd_model.specs.Store.{Store, reads_of}
-use Rattle.plain_store.specs.Answers.{range_reply}
 use Rattle.plain_store.proofs.Stores.{rows_shown}
 use Rattle.plain_store.proofs.store.PlainStore.range_at.Goals as goal
 

@@ -5,7 +5,8 @@ use Rattle.etcd_types.specs.declared.reply.OpReply.TheVariants.{Put as PutReply}
 use Rattle.etcd_types.specs.declared.key_value.KeyValue.{KeyValue}
 use Rattle.etcd_model.specs.Changes.{live, version_of}
 use Rattle.revision_store.specs.Stored.{changes_of, look, reads}
-use Rattle.revision_store.specs.Pending.{changes_key, row_put}
+use Rattle.etcd_model.specs.Operations.{row_put}
+use Rattle.revision_store.specs.Pending.{changes_key}
 use Rattle.revision_store.proofs.PendingReads.{row_untouched}
 use Rattle.revision_store.proofs.PendingPuts.{asked_present, put_changes, put_follows, put_is_pending, put_key, row_put_present, same_pending, version_present}
 use Rattle.revision_store.proofs.PendingStores.{version_within}

@@ -8,12 +8,13 @@ use Rattle.etcd_types.specs.declared.kv.RangeReq.{RangeReq}
 use Rattle.etcd_types.specs.declared.reply.OpReply.{OpReply}
 use Rattle.etcd_types.specs.declared.txn.Op.TheVariants.{Range as RangeOp}
 use Rattle.etcd_model.specs.Operations.{op_reply}
+use Rattle.etcd_model.specs.Ranges.{range_reply}
 use Rattle.etcd_model.specs.Reads.{Reads, rows_read}
 use Rattle.etcd_model.specs.Store.{IsStore}
 use Rattle.etcd_model.specs.Order.{by_key}
 use Rattle.revision_store.specs.Stored.{StoreState, cells, changes_of, look, reads, row_at}
 use Rattle.revision_store.specs.Pending.{PendingState, is_row_in, pending_reads}
-use Rattle.revision_store.specs.Ranging.{range_answer, rows_of}
+use Rattle.revision_store.specs.Ranging.{rows_of}
 use Rattle.revision_store.proofs.RangingCells.{all_show, filter_map-is}
 use Rattle.revision_store.proofs.PendingStores.{puts_are}
 use Rattle.revision_store.proofs.PendingRanges.{rows_ascend, rows_named, rows_newest}
@@ -21,10 +22,10 @@ use Rattle.revision_store.proofs.pending.Pending.range.Goals as goal
 
 -- where no revision is named, the newest rows are answered
 newest : {E : Type 0} (R : Reads) (q : RangeReq) (result : Result OpReply E) (n : ℕ) (rows : List KeyValue) → int_lt (pos 0) q.revision ≡ false → n ≡ R.current → rows ≡ R.rows q.key q.range_end
-    → IfOk result (λ reply. reply ≡ range_answer q n rows) → IfOk result (λ reply. reply ≡ op_reply R R.current (RangeOp q))
+    → IfOk result (λ reply. reply ≡ range_reply n q rows) → IfOk result (λ reply. reply ≡ op_reply R R.current (RangeOp q))
 newest R q result n rows none current are =
-    IfOk-weaker result (λ reply. reply ≡ range_answer q n rows) (λ reply. reply ≡ op_reply R R.current (RangeOp q))
-    (λ reply h. h ∙ ap (λ m. range_answer q m rows) current ∙ ap (range_answer q R.current) (are ∙ sym (rows_newest R q.key q.range_end q.revision none)))
+    IfOk-weaker result (λ reply. reply ≡ range_reply n q rows) (λ reply. reply ≡ op_reply R R.current (RangeOp q))
+    (λ reply h. h ∙ ap (λ m. range_reply m q rows) current ∙ ap (range_reply R.current q) (are ∙ sym (rows_newest R q.key q.range_end q.revision none)))
 
 -- a revision is named
 pub returns-then-request-gt0 : goal.returns-then-request-gt0
@@ -38,7 +39,7 @@ returns-then-request-gt0 c =
     let same : rows_read R q.key q.range_end q.revision ≡ rows_read (reads p.store) q.key q.range_end q.revision = rows_named p.store.kept p.changes q.key q.range_end q.revision is (ap (int_lt (pos 0)) (sym bits) ∙ c.if-request-gt0.true) c.requires in
     let stored : rows_read (reads store) q.key q.range_end q.revision ≡ rows_read R q.key q.range_end q.revision = ap (λ (s : PendingState). rows_read (reads s.store) q.key q.range_end q.revision) c.self.view_is ∙ sym same in
     IfOk-weaker c.range_at.result (λ reply. reply ≡ op_reply (reads store) c.current.result (RangeOp q)) (λ reply. reply ≡ op_reply R R.current (RangeOp q))
-    (λ reply h. h ∙ ap (λ n. range_answer q n (rows_read (reads store) q.key q.range_end q.revision)) c.current.ensures.current ∙ ap (range_answer q R.current) stored)
+    (λ reply h. h ∙ ap (λ n. range_reply n q (rows_read (reads store) q.key q.range_end q.revision)) c.current.ensures.current ∙ ap (range_reply R.current q) stored)
     c.range_at.ensures
 
 -- something of the interval is put

@@ -5,12 +5,13 @@ use Rattle.etcd_types.specs.declared.txn.Op.TheVariants.{Range as RangeOp}
 use Rattle.etcd_model.specs.Changes.{rows}
 use Rattle.etcd_model.specs.Interval.{is_in}
 use Rattle.etcd_model.specs.Operations.{op_reply}
+use Rattle.etcd_model.specs.Ranges.{range_reply}
 use Rattle.etcd_model.specs.Reads.{revision_read, rows_read}
 use Rattle.etcd_model.specs.Order.{by_key}
 use Rattle.model_laws.proofs.RowLaws.{rows_rise}
 use Rattle.revision_store.specs.Recorded.{cells_of}
 use Rattle.revision_store.specs.Stored.{StoreState, reads, row_at}
-use Rattle.revision_store.specs.Ranging.{range_answer, rows_of}
+use Rattle.revision_store.specs.Ranging.{rows_of}
 use Rattle.revision_store.proofs.RangingCells.{all_show, filter_map-is}
 use Rattle.revision_store.proofs.RangingReads.{rows_live}
 use Rattle.revision_store.proofs.store.Store.range_at.Goals as goal
@@ -40,6 +41,6 @@ returns c =
     let read : rows_of cells cs ≡ rows_read (reads store) q.key q.range_end q.revision =
     sym found ∙ ap (rows (is_in c.as_slice.result.now c.as_slice-2.result.now) c.revision_read.result) changes
     ∙ rows_live store.kept q.key q.range_end c.as_slice.result.now c.as_slice-2.result.now q.revision c.revision_read.result c.as_slice.ensures c.as_slice-2.ensures (c.revision_read.ensures ∙ ap (revision_read (reads store)) bits) c.requires.readable in
-    IfOk-weaker c.range_reply.result (λ reply. reply ≡ range_answer q c.args.current (rows_of cells cs)) (λ reply. reply ≡ op_reply (reads store) c.args.current (RangeOp q))
-    (λ reply h. h ∙ ap (range_answer q c.args.current) read)
+    IfOk-weaker c.range_reply.result (λ reply. reply ≡ range_reply c.args.current q (rows_of cells cs)) (λ reply. reply ≡ op_reply (reads store) c.args.current (RangeOp q))
+    (λ reply h. h ∙ ap (range_reply c.args.current q) read)
     c.range_reply.ensures
