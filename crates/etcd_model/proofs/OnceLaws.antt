@@ -25,7 +25,7 @@ use Rattle.etcd_types.specs.declared.refusal.Refusal.TheVariants.{NoKey, ValueGi
 use Rattle.etcd_types.specs.declared.txn.Compare.{Compare}
 use Rattle.etcd_types.specs.Limits.{max_ops, last_moment}
 use Rattle.etcd_model.specs.declared.state.Lease.{Lease}
-use Rattle.etcd_model.specs.Order.{key_cmp}
+use Rattle.etcd_model.specs.Order.{key_cmp, by_key}
 use Rattle.etcd_model.specs.History.{History, Change, Del, key_of, current, history_after, kv, history_keys, history_rows}
 use Rattle.etcd_model.specs.Interval.{is_in, every_key}
 use Rattle.etcd_model.specs.Reads.{Reads, Look}
@@ -36,7 +36,6 @@ use Rattle.etcd_model.specs.Tenant.{reads}
 use Rattle.etcd_model.specs.Leases.{attached, finish, run_out}
 use Rattle.etcd_model.specs.Stepping.{outcome, pending}
 use Rattle.etcd_model.specs.Machine.{State, history, machine, opening, state_after, history_reads}
-use Rattle.etcd_model.specs.Order.{by_key}
 use Rattle.etcd_model.proofs.RowLaws.{filter-none, later_key, all_rows}
 use Rattle.etcd_model.proofs.HistoryLaws.{changes_of, next_row, kv-current_after, kv-key}
 use Rattle.etcd_model.proofs.PutLaws.{rows_ascend, rows-interval, ChangesOnce, one_change}

@@ -12,12 +12,11 @@ use Rattle.std.specs.List.{All, list_any}
 use Rattle.std.specs.List.Sorted.{IsStrictlySortedBy}
 use Rattle.std.specs.Cmp.Lexicographic.{bytes_decides}
 use Rattle.etcd_types.specs.declared.key_value.KeyValue.{KeyValue}
-use Rattle.etcd_model.specs.Order.{put_in, in_order, key_cmp}
+use Rattle.etcd_model.specs.Order.{put_in, in_order, key_cmp, by_key}
 use Rattle.etcd_model.specs.History.{History, Change, Set, Del, Entry, key_of, current, entries, entries_after, history_after, generation, shown_by, kv, history_keys, history_rows}
 pub use Rattle.etcd_model.specs.Changes.{ChangesOnce}
 use Rattle.etcd_model.specs.Interval.{is_in, every_key}
 use Rattle.etcd_model.proofs.OrderLaws.{keys_in_order, any-keys_in_order}
-use Rattle.etcd_model.specs.Order.{by_key}
 use Rattle.etcd_model.proofs.RowLaws.{all_rows, sorted-rows, filter-rows, rows_of_one, find-rows, rows-put_in}
 use Rattle.etcd_model.proofs.HistoryLaws.{entry_at, is_past, changes_of, entries-after, kv-after, kv-key, kv-mod_revision, version-past, version_of, created_at, next_row}
 

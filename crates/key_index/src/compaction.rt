@@ -35,7 +35,7 @@ pub(crate) fn cut_chains<R: RecordsMut>(
     ensures chained { IsChained (R.cells records.new) }
     ensures compacted { IsCompacted (R.cells records.old) (R.cells records.new) revision }
     ensures free { GivesBack R.cost (R.cells records.old) (R.cells records.new)
-      (R.free records.old) (R.free records.new) }
+        (R.free records.old) (R.free records.new) }
     ensures rest { R.same_rest records.old records.new }
 {
     let mut left = 0;
@@ -57,11 +57,11 @@ pub(crate) fn cut_chain<R: RecordsMut>(head: CellNo, records: &mut R, revision: 
 
     ensures chained { IsChained (R.cells records.new) }
     ensures compacted { (e : Linked) → R.cells records.old head ≡ Some e
-      → IsCompactedAt (R.cells records.old) (R.cells records.new) revision e.change.key }
+        → IsCompactedAt (R.cells records.old) (R.cells records.new) revision e.change.key }
     ensures remains { (e : Linked) → R.cells records.old head ≡ Some e
-      → Remains (R.cells records.new) e.change.key head result }
+        → Remains (R.cells records.new) e.change.key head result }
     ensures free { GivesBack R.cost (R.cells records.old) (R.cells records.new)
-      (R.free records.old) (R.free records.new) }
+        (R.free records.old) (R.free records.new) }
     ensures rest { R.same_rest records.old records.new }
 {
     let place = cut_place(head, records, revision);
@@ -86,9 +86,9 @@ fn drop_chain<R: RecordsMut>(first: CellNo, records: &mut R)
     requires chained { IsChained (R.cells records.old) }
     requires first { IsSome (R.cells records.old first) }
     ensures drops { (e : Linked) → R.cells records.old first ≡ Some e
-      → DropsUpTo (R.cells records.old) (R.cells records.new) e.change.key e.change.revision }
+        → DropsUpTo (R.cells records.old) (R.cells records.new) e.change.key e.change.revision }
     ensures free { GivesBack R.cost (R.cells records.old) (R.cells records.new)
-      (R.free records.old) (R.free records.new) }
+        (R.free records.old) (R.free records.new) }
     ensures rest { R.same_rest records.old records.new }
 {
     let mut next = Some(first);
@@ -103,7 +103,7 @@ fn cut_place<R: Records>(head: CellNo, records: &R, revision: u64) -> CutPlace
     requires chained { IsChained (R.cells records.now) }
     requires newest { IsNewest (R.cells records.now) head }
     ensures { (e : Linked) → R.cells records.now head ≡ Some e
-      → CutsAt (R.cells records.now) e.change.key revision head result.last result.first }
+        → CutsAt (R.cells records.now) e.change.key revision head result.last result.first }
 {
     let mut last = None;
     let mut next = Some(head);
@@ -121,11 +121,11 @@ fn cut_place<R: Records>(head: CellNo, records: &R, revision: u64) -> CutPlace
 fn cut_at<R: Records>(cell: CellNo, last: Option<CellNo>, records: &R, revision: u64) -> CutPlace
     requires { IsSome (R.cells records.now cell) }
     ensures stays { (e : Linked) → R.cells records.now cell ≡ Some e
-      → (e.change.revision ≡ revision) ⊎ (is_some e.change.row ≡ true)
-      → (result.last ≡ Some cell) × (result.first ≡ e.older) }
+        → (e.change.revision ≡ revision) ⊎ (is_some e.change.row ≡ true)
+        → (result.last ≡ Some cell) × (result.first ≡ e.older) }
     ensures goes { (e : Linked) → R.cells records.now cell ≡ Some e
-      → (e.change.revision ≡ revision → ⊥) → is_some e.change.row ≡ false
-      → (result.last ≡ last) × (result.first ≡ Some cell) }
+        → (e.change.revision ≡ revision → ⊥) → is_some e.change.row ≡ false
+        → (result.last ≡ last) × (result.first ≡ Some cell) }
 {
     if records.revision(cell) == revision || records.is_put(cell) {
         CutPlace {

@@ -47,7 +47,7 @@ impl KeyIndex {
     pub fn find<R: Records>(&self, records: &R, key: &[u8]) -> Result<usize, usize>
         requires { IsSpread (R.cells records.now) self.now.cells }
         ensures { MatchResult result (IsAt (R.cells records.now) self.now.cells key.now)
-          (IsGapFor (R.cells records.now) self.now.cells key.now) }
+            (IsGapFor (R.cells records.now) self.now.cells key.now) }
     {
         search(&self.heads, records, &Sought::Key(key))
     }
@@ -103,7 +103,7 @@ impl KeyIndex {
         requires index { IsIndexOf (R.cells records.now) self.now.cells }
         requires chained { IsChained (R.cells records.now) }
         ensures { MatchOption result (NoneUpTo (R.cells records.now) key.now revision)
-          (IsLast (R.cells records.now) key.now revision) }
+            (IsLast (R.cells records.now) key.now revision) }
     {
         match self.find(records, key) {
             Ok(place) => last_up_to(self.heads[place], records, revision),
@@ -152,7 +152,7 @@ impl KeyIndex {
         ensures capacity { self.new.capacity ≡ self.old.capacity }
         ensures length { length self.new.cells ≤ length self.old.cells }
         ensures free { GivesBack R.cost (R.cells records.old) (R.cells records.new)
-          (R.free records.old) (R.free records.new) }
+            (R.free records.old) (R.free records.new) }
         ensures rest { R.same_rest records.old records.new }
     {
         let left = cut_chains(&mut self.heads, records, revision);

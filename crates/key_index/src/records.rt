@@ -23,7 +23,7 @@ pub trait Records {
         requires cell { IsSome (cells self.now cell) }
         requires other { IsSome (cells self.now other) }
         ensures { IfSome (cells self.now cell) (λ e. IfSome (cells self.now other)
-          (λ f. result ≡ cmp_of_keys e.change.key f.change.key)) };
+            (λ f. result ≡ cmp_of_keys e.change.key f.change.key)) };
 
     /// The revision of the change.
     fn revision(&self, cell: CellNo) -> u64

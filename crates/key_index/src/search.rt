@@ -22,7 +22,7 @@ fn stands<R: Records>(head: CellNo, records: &R, sought: &Sought<'_>) -> Orderin
     requires head { IsSome (R.cells records.now head) }
     requires sought { IsThere (R.cells records.now) sought.now }
     ensures { IfSome (R.cells records.now head)
-      (λ e. result ≡ cmp_of_keys e.change.key (sought_key (R.cells records.now) sought.now)) }
+        (λ e. result ≡ cmp_of_keys e.change.key (sought_key (R.cells records.now) sought.now)) }
 {
     match *sought {
         Sought::Key(key) => records.key_cmp(head, key),
@@ -39,8 +39,8 @@ pub(crate) fn search<R: Records>(
     requires spread { IsSpread (R.cells records.now) heads.now }
     requires sought { IsThere (R.cells records.now) sought.now }
     ensures { MatchResult result
-      (IsAt (R.cells records.now) heads.now (sought_key (R.cells records.now) sought.now))
-      (IsGapFor (R.cells records.now) heads.now (sought_key (R.cells records.now) sought.now)) }
+        (IsAt (R.cells records.now) heads.now (sought_key (R.cells records.now) sought.now))
+        (IsGapFor (R.cells records.now) heads.now (sought_key (R.cells records.now) sought.now)) }
 {
     let mut low = 0;
     let mut high = heads.len();
@@ -60,8 +60,8 @@ pub fn last_up_to<R: Records>(head: CellNo, records: &R, revision: u64) -> Optio
     requires chained { IsChained (R.cells records.now) }
     requires newest { IsNewest (R.cells records.now) head }
     ensures { (key : List ℕ) → IsOfKey (R.cells records.now) key head
-      → MatchOption result (NoneUpTo (R.cells records.now) key revision)
-      (IsLast (R.cells records.now) key revision) }
+        → MatchOption result (NoneUpTo (R.cells records.now) key revision)
+        (IsLast (R.cells records.now) key revision) }
 {
     let mut cell = head;
     while records.revision(cell) > revision {

@@ -12,14 +12,13 @@ use Rattle.std.specs.Option.{option_to_list}
 use Rattle.etcd_types.specs.declared.key_value.KeyValue.{KeyValue}
 use Rattle.etcd_model.specs.declared.state.Change.{Change}
 use Rattle.etcd_model.specs.declared.state.Change.TheVariants.{Put as Set, Delete as Del}
-use Rattle.etcd_model.specs.Order.{key_cmp, put_in, in_order}
+use Rattle.etcd_model.specs.Order.{key_cmp, put_in, in_order, by_key}
 use Rattle.etcd_model.specs.History.{key_of}
 use Rattle.etcd_model.specs.Interval.{every_key, is_in}
 use Rattle.etcd_model.specs.Changes.{Recorded, entry_at, next_row, live, keys, rows, recorded, OwnRow}
 use Rattle.etcd_model.specs.Store.{Store, after, IsStore, reads_of}
 use Rattle.etcd_model.proofs.RowLaws.{rows_of_one, rows-put_in}
 use Rattle.etcd_model.proofs.PutLaws.{every_one}
-use Rattle.etcd_model.specs.Order.{by_key}
 use Rattle.model_laws.proofs.RowLaws.{live-key, absent, keys_ascend, rows_by_their_keys, rows_rise, row_found}
 use Rattle.model_laws.proofs.RecordedLaws.{live_push_up_to}
 use Rattle.model_laws.proofs.SpaceLaws.{pend, own_pend, pend_push, row_pending, rows_pending, find_without}

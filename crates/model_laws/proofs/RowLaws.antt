@@ -13,13 +13,12 @@ use Rattle.std.proofs.lemmas.Cmp.{on_total}
 use Rattle.std.proofs.lemmas.Option.{none-some, same_Some}
 use Rattle.std.proofs.lemmas.List.Kept.{IsStrictlySortedBy-filter}
 use Rattle.etcd_types.specs.declared.key_value.KeyValue.{KeyValue}
-use Rattle.etcd_model.specs.Order.{key_cmp}
+use Rattle.etcd_model.specs.Order.{key_cmp, by_key}
 use Rattle.etcd_model.specs.Interval.{every_key}
 use Rattle.etcd_model.specs.Changes.{Recorded, OwnRow, is_up_to, last, live, keys, rows}
 use Rattle.etcd_model.proofs.OrderLaws.{below_less, tied_keys, keys_in_order, any-keys_in_order}
 use Rattle.etcd_model.proofs.RowLaws.{later_key, sorted-rows, filter-rows, find-rows}
 use Rattle.etcd_model.proofs.PutLaws.{every_one}
-use Rattle.etcd_model.specs.Order.{by_key}
 use Rattle.model_laws.proofs.LastLaws.{last_passes, any_none, all_last}
 
 -- the test for the row of a key

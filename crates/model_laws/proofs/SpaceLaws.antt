@@ -22,7 +22,7 @@ use Rattle.etcd_model.specs.declared.state.History.{History}
 use Rattle.etcd_model.specs.Tenant.{used}
 use Rattle.etcd_model.specs.declared.state.Change.TheVariants.{Put as Set, Delete as Del}
 use Rattle.etcd_model.specs.History.{key_of, current}
-use Rattle.etcd_model.specs.Order.{key_cmp}
+use Rattle.etcd_model.specs.Order.{key_cmp, by_key}
 use Rattle.etcd_model.specs.Interval.{is_in, every_key}
 use Rattle.etcd_model.specs.Kept.{cost, cost_delete, cost_put}
 use Rattle.etcd_model.specs.Operations.{kept_value, kept_lease, and_changes, pending_after, adds_any}
@@ -32,7 +32,6 @@ use Rattle.etcd_model.specs.Store.{Store, IsStore, after, reads_of, record_cells
 use Rattle.etcd_model.specs.Held.{keep, IsHistory}
 use Rattle.etcd_model.proofs.OrderLaws.{bytes_eq-key_cmp}
 use Rattle.etcd_model.proofs.OnceLaws.{deletes_of}
-use Rattle.etcd_model.specs.Order.{by_key}
 use Rattle.model_laws.specs.Space.{if_row, room, given_by, taken_by}
 use Rattle.model_laws.proofs.KeptLaws.{all_kept, kept_rises, kept_true, kept_false}
 use Rattle.model_laws.proofs.RowLaws.{has_key, rows_by_their_keys, not_found, row_found, rows_rise, same_rows, live-key}
@@ -306,7 +305,8 @@ finish_takes_keys s id is =
 
 -- ---- compaction
 
-fewer_records : (c : ℕ) (xs : List Recorded) → record_cells (kept c xs) ≤ record_cells xs
+-- records are none the more
+pub fewer_records : (c : ℕ) (xs : List Recorded) → record_cells (kept c xs) ≤ record_cells xs
 fewer_records c [] = omega arith
 fewer_records c (x ∷ xs) =
     let f : Recorded → ℕ = λ y. cost (change_of y) in

@@ -10,9 +10,8 @@ use Rattle.std.proofs.lemmas.List.{length-take, map-id, take-take}
 use Rattle.std.proofs.lemmas.List.Kept.{IsStrictlySortedBy-filter}
 use Rattle.etcd_types.specs.declared.key_value.KeyValue.{KeyValue}
 use Rattle.etcd_types.specs.declared.kv.RangeReq.{RangeReq}
-use Rattle.etcd_model.specs.Order.{in_order}
+use Rattle.etcd_model.specs.Order.{in_order, by_key}
 use Rattle.etcd_model.specs.Ranges.{is_wanted, row_cmp, limited, without_value, found}
-use Rattle.etcd_model.specs.Order.{by_key}
 use Rattle.revision_store.specs.Answering.{IsLimit, SaysMore, given, is_by_key, shown}
 use Rattle.revision_store.proofs.SortingRows.{length_rows, rows_in_order}
 

@@ -11,19 +11,17 @@ use Rattle.std.proofs.lemmas.Bool.{true≢false}
 use Rattle.std.proofs.lemmas.List.Kept.{IsStrictlySortedBy-filter}
 use Rattle.etcd_types.specs.declared.key_value.KeyValue.{KeyValue}
 use Rattle.etcd_types.specs.declared.kv.DeleteReq.{DeleteReq}
-use Rattle.etcd_model.specs.Order.{beside, key_cmp, put_in}
+use Rattle.etcd_model.specs.Order.{beside, key_cmp, put_in, by_key}
 use Rattle.etcd_model.specs.Interval.{is_in}
 use Rattle.etcd_model.specs.Changes.{live, or_before, rows}
 use Rattle.etcd_model.specs.Store.{after}
 use Rattle.etcd_model.proofs.OrderLaws.{sorted-put_in, tied_keys, bytes_eq-key_cmp}
-use Rattle.etcd_model.specs.Order.{by_key}
 use Rattle.model_laws.proofs.LastLaws.{or_before-none}
-use Rattle.model_laws.proofs.RowLaws.{has_key, rows_by_their_keys, rows_rise}
+use Rattle.model_laws.proofs.RowLaws.{by_key_total, has_key, rows_by_their_keys, rows_rise}
 use Rattle.model_laws.proofs.SpaceLaws.{after_is_store}
 use Rattle.revision_store.specs.Stored.{StoreState, cells, changes_of, look, row_at}
 use Rattle.revision_store.specs.Pending.{IsPending, is_erased, left_cells, row_put_to, rows_at}
 use Rattle.revision_store.specs.declared.plan.Write.{Write}
-use Rattle.revision_store.proofs.SortingRows.{by_key_total}
 use Rattle.revision_store.proofs.PendingReads.{find_filtered, found_inside}
 use Rattle.revision_store.proofs.PendingDeletes.{Under, same_somes, under_left}
 

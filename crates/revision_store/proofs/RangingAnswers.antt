@@ -14,9 +14,8 @@ use Rattle.etcd_types.specs.declared.kv.SortOrder.TheVariants.{Unsorted, Ascend,
 use Rattle.etcd_types.specs.declared.kv.SortTarget.{SortTarget}
 use Rattle.etcd_types.specs.declared.kv.SortTarget.TheVariants.{Key, Version, Create, Mod, Value}
 use Rattle.etcd_types.specs.declared.reply.OpReply.TheVariants.{Range}
-use Rattle.etcd_model.specs.Order.{beside, put_in, in_order, key_cmp}
+use Rattle.etcd_model.specs.Order.{beside, put_in, in_order, key_cmp, by_key}
 use Rattle.etcd_model.specs.Ranges.{Found, is_wanted, row_cmp, target_cmp, limited, without_value, found, range_reply}
-use Rattle.etcd_model.specs.Order.{by_key}
 use Rattle.revision_store.specs.Answering.{SaysMore, given}
 use Rattle.revision_store.specs.Ranging.{is_value, needs_values, read}
 use Rattle.revision_store.proofs.AnsweringLaws.{found_counted, found_kvs}

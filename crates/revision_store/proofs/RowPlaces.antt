@@ -7,10 +7,9 @@ use Rattle.std.specs.Ordering.{ordering_reverse}
 use Rattle.std.specs.Cmp.Lexicographic.{nat_list_cmp_total}
 use Rattle.std.specs.declared.cmp.Ordering.TheVariants.{Less, Equal, Greater}
 use Rattle.etcd_types.specs.declared.key_value.KeyValue.{KeyValue}
-use Rattle.etcd_model.specs.Order.{beside, key_cmp, put_in}
+use Rattle.etcd_model.specs.Order.{beside, key_cmp, put_in, by_key}
 use Rattle.etcd_model.proofs.OrderLaws.{sorted-put_in, tied_keys}
-use Rattle.etcd_model.specs.Order.{by_key}
-use Rattle.revision_store.proofs.SortingRows.{by_key_total}
+use Rattle.model_laws.proofs.RowLaws.{by_key_total}
 
 -- rows that ascend still do with one more in its place
 pub sorted_with : (row : KeyValue) (rows : List KeyValue) → IsStrictlySortedBy by_key rows → IsStrictlySortedBy by_key (put_in by_key rows row)

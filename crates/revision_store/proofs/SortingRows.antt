@@ -12,17 +12,14 @@ use Rattle.etcd_types.specs.declared.kv.SortOrder.{SortOrder}
 use Rattle.etcd_types.specs.declared.kv.SortOrder.TheVariants.{Unsorted, Ascend, Descend}
 use Rattle.etcd_types.specs.declared.kv.SortTarget.{SortTarget}
 use Rattle.etcd_types.specs.declared.kv.SortTarget.TheVariants.{Key, Version, Create, Mod, Value}
-use Rattle.etcd_model.specs.Order.{in_order}
+use Rattle.etcd_model.specs.Order.{in_order, by_key}
 use Rattle.etcd_model.specs.Ranges.{row_cmp, target_cmp}
-use Rattle.etcd_model.specs.Order.{by_key}
 use Rattle.model_laws.proofs.RecordedLaws.{all_weaker}
+use Rattle.model_laws.proofs.RowLaws.{by_key_total}
 use Rattle.revision_store.specs.Answering.{ascends_by_key}
 use Rattle.revision_store.proofs.SortingLaws.{sorted_is, length-in_order, already_in_order}
 
 -- ---- total orders
-
-pub by_key_total : IsTotalOrder by_key
-by_key_total = on_total (λ (row : KeyValue). row.key) nat_list_cmp_total
 
 target_total : (target : SortTarget) → IsTotalOrder (target_cmp target)
 target_total Key = by_key_total

@@ -8,9 +8,8 @@ use Rattle.etcd_types.specs.declared.kv.SortOrder.{SortOrder}
 use Rattle.etcd_types.specs.declared.kv.SortOrder.TheVariants.{Unsorted, Ascend}
 use Rattle.etcd_types.specs.declared.kv.SortTarget.{SortTarget}
 use Rattle.etcd_types.specs.declared.kv.SortTarget.TheVariants.{Key}
-use Rattle.etcd_model.specs.Order.{in_order}
+use Rattle.etcd_model.specs.Order.{in_order, by_key}
 use Rattle.etcd_model.specs.Ranges.{is_wanted, row_cmp, limited, without_value, found}
-use Rattle.etcd_model.specs.Order.{by_key}
 
 -- b says whether a row of these revisions passes the filters
 abbrev pub SaysWanted : RangeReq → ℕ → ℕ → Bool → Type 0

@@ -4,8 +4,7 @@ ghost use Rattle.std.specs.List.{insert, list_any};
 ghost use Rattle.std.specs.List.Sorted.{IsStrictlySortedBy};
 ghost use Rattle.std.specs.Option.{option_copied};
 ghost use Rattle.etcd_model.specs.Interval.{is_in};
-ghost use Rattle.etcd_model.specs.Order.{put_in};
-ghost use Rattle.etcd_model.specs.Order.{by_key};
+ghost use Rattle.etcd_model.specs.Order.{put_in, by_key};
 ghost use Rattle.revision_store.specs.Pending.{is_row_in, put_at, rows_at};
 
 use crate::plan::Write;

@@ -1,9 +1,8 @@
 //! The order that a range is asked in.
 ghost use Rattle.std.specs.Prelude.{◌≡◌};
 ghost use Rattle.std.specs.List.Sorted.{IsStrictlySortedBy};
-ghost use Rattle.etcd_model.specs.Order.{in_order};
+ghost use Rattle.etcd_model.specs.Order.{in_order, by_key};
 ghost use Rattle.etcd_model.specs.Ranges.{row_cmp, target_cmp};
-ghost use Rattle.etcd_model.specs.Order.{by_key};
 
 use etcd_types::{KeyValue, SortOrder, SortTarget};
 use std::cmp::Ordering;

@@ -7,7 +7,7 @@ use Rattle.etcd_model.specs.Kept.{cost_delete}
 use Rattle.etcd_model.specs.Changes.{kept}
 use Rattle.etcd_model.specs.Store.{Store, IsStore, counted_cells, compact, record_cells, reserved_cells}
 use Rattle.model_laws.proofs.HistoryKeptLaws.{rows_kept}
-use Rattle.model_laws.proofs.SpaceLaws.{compaction_takes_none}
+use Rattle.model_laws.proofs.SpaceLaws.{fewer_records}
 use Rattle.revision_store.specs.declared.plan.Write.{Write}
 use Rattle.revision_store.specs.Stored.{StoreState}
 use Rattle.quota_alarm.specs.declared.quota.Quota.{Quota}
@@ -19,10 +19,6 @@ use Rattle.tenant_machine.specs.Plans.{FitsCompaction, FitsWrite, written}
 -- what is held for deletes stays
 reserved_stays : (s : Store) (r : ℕ) → r ≤ s.current → IsStore s → reserved_cells s.current (kept r s.changes) ≡ reserved_cells s.current s.changes
 reserved_stays s r within is = ap (sum_by (λ (row : KeyValue). cost_delete row.key)) (rows_kept every_key r s.current s.changes within is.rises is.own)
-
--- records are none the more
-pub fewer_records : (s : Store) (r : ℕ) → s.compacted ≤ r → r ≤ s.current → IsStore s → record_cells (kept r s.changes) ≤ record_cells s.changes
-fewer_records s r above within is = omega (arith, compaction_takes_none s r is above within, reserved_stays s r within is)
 
 -- the cells in use fall by those of the records that go
 used_after : (s : Store) (r : ℕ) → r ≤ s.current → IsStore s → counted_cells (compact s r) + record_cells s.changes ≡ counted_cells s + record_cells (kept r s.changes)
@@ -49,7 +45,7 @@ machine_after_compaction store new quota revision used is sound fits kept leases
     let records = ap (λ (s : Store). record_cells s.changes) kept in
     let counted = ap counted_cells kept in
     let taken = used_after store.kept revision fits.within sound in
-    let fewer : record_cells new.kept.changes ≤ record_cells store.kept.changes = omega (arith, records, fewer_records store.kept revision (omega (arith, fits.above)) fits.within sound) in
+    let fewer : record_cells new.kept.changes ≤ record_cells store.kept.changes = omega (arith, records, fewer_records revision store.kept.changes) in
     record {
       used = omega (arith, falls, is.used, taken, records, counted);
       leases = leases ∙ is.leases;

@@ -1,6 +1,5 @@
 use Rattle.std.proofs.Common.{◌≡◌, ◌≤◌, ◌-◌, ◌∷◌, ◌++◌, drop, take, length}
-use Rattle.etcd_model.specs.Order.{put_in}
-use Rattle.etcd_model.specs.Order.{by_key}
+use Rattle.etcd_model.specs.Order.{put_in, by_key}
 use Rattle.revision_store.proofs.pending_puts.place_of.Given as goal
 
 abbrev pub invariant-loop-low : goal.invariant-loop-low

@@ -1,8 +1,7 @@
 use Rattle.std.proofs.Common.{◌≡◌, ◌∙◌, set, subst, sym}
 use Rattle.std.specs.List.{insert}
 use Rattle.std.specs.List.Sorted.{IsStrictlySortedBy}
-use Rattle.etcd_model.specs.Order.{put_in}
-use Rattle.etcd_model.specs.Order.{by_key}
+use Rattle.etcd_model.specs.Order.{put_in, by_key}
 use Rattle.revision_store.proofs.RowPlaces.{sorted_with}
 use Rattle.revision_store.proofs.pending_puts.put_in.Goals as goal
 

@@ -2,8 +2,7 @@ use Rattle.std.proofs.Common.{◌≡◌, drop}
 use Rattle.std.specs.Prelude.{filter, fold}
 use Rattle.std.specs.List.Sorted.{IsStrictlySortedBy}
 use Rattle.etcd_model.specs.Interval.{is_in}
-use Rattle.etcd_model.specs.Order.{put_in}
-use Rattle.etcd_model.specs.Order.{by_key}
+use Rattle.etcd_model.specs.Order.{put_in, by_key}
 use Rattle.revision_store.specs.Pending.{rows_at}
 use Rattle.revision_store.proofs.pending_puts.put_rows.Given as goal
 

@@ -1,9 +1,8 @@
 use Rattle.std.proofs.Common.{◌≡◌, ◌∙◌, ap, map}
 use Rattle.std.specs.Prelude.{Some, filter, fold}
 use Rattle.etcd_model.specs.Interval.{is_in}
-use Rattle.etcd_model.specs.Order.{put_in}
+use Rattle.etcd_model.specs.Order.{put_in, by_key}
 use Rattle.etcd_model.specs.Changes.{rows}
-use Rattle.etcd_model.specs.Order.{by_key}
 use Rattle.revision_store.specs.Recorded.{cells_of}
 use Rattle.revision_store.specs.Stored.{StoreState, cells, row_at}
 use Rattle.revision_store.specs.Pending.{left_cells, rows_at}

@@ -1,20 +1,20 @@
 use Rattle.std.proofs.Common.{ap, subst, sym, arith}
 use Rattle.etcd_model.specs.Store.{Store, record_cells}
+use Rattle.model_laws.proofs.SpaceLaws.{fewer_records}
 use Rattle.tenant_machine.specs.Plans.{FitsCompaction}
-use Rattle.tenant_machine.proofs.Counting.{fewer_records, machine_after_compaction}
+use Rattle.tenant_machine.proofs.Counting.{machine_after_compaction}
 use Rattle.tenant_machine.proofs.machine.Machine.compact.Goals as goal
 
 pub overflow_sub-freed : goal.overflow_sub-freed
 overflow_sub-freed g c =
     let store = c.self.inside.store in
-    let fits = subst (λ m. FitsCompaction m.store c.args.revision) (sym c.self.view_is) c.requires.fits in
-    let fewer = fewer_records store.kept c.args.revision (omega (arith, fits.above)) fits.within c.current.ensures.sound.kept in
+    let fewer = fewer_records c.args.revision store.kept.changes in
     omega (arith, fewer, ap (λ (s : Store). record_cells s.changes) c.compact.ensures.kept, c.compact.ensures.lease_cells, c.used_cells.ensures, c.used_cells-before.ensures)
 
 pub invariant_of-self : goal.invariant_of-self
 invariant_of-self g c =
     let store = c.self.inside.store in
     let fits = subst (λ m. FitsCompaction m.store c.args.revision) (sym c.self.view_is) c.requires.fits in
-    let fewer = fewer_records store.kept c.args.revision (omega (arith, fits.above)) fits.within c.current.ensures.sound.kept in
+    let fewer = fewer_records c.args.revision store.kept.changes in
     machine_after_compaction store c.compact.new.self c.self.inside.quota c.args.revision _ c.self.invariant c.current.ensures.sound.kept fits c.compact.ensures.kept c.compact.ensures.lease_cells c.compact.ensures.settles.reserved
     (omega (arith, fewer, c.self.invariant.used, ap (λ (s : Store). record_cells s.changes) c.compact.ensures.kept, c.compact.ensures.lease_cells, c.used_cells.ensures, c.used_cells-before.ensures, c.from.ensures))
