@@ -2,7 +2,7 @@
 use Rattle.std.proofs.Common.{◌≡◌, ℕ, List, ◌++◌, length, take, refl, sym, ap, ◌∙◌}
 use Rattle.std.proofs.lemmas.List.{append_assoc, append_cancel_left, take_at}
 use Rattle.std.specs.Prelude.{Result, Ok, Err, OnOk, OnErr}
-use Rattle.cell_arena.specs.Held.{IsFrontOf}
+use Rattle.cell_arena.specs.Region.{IsFrontOf}
 
 -- what was given before the rest is a front of all
 pub front_of : (start now given rest all : List ℕ) → now ≡ start ++ given → now ++ rest ≡ start ++ all → IsFrontOf all start now

@@ -16,7 +16,7 @@ use Rattle.cell_arena.specs.Loan.{Loan, IsLent, Settles, KeepsShare}
 use Rattle.cell_arena.specs.Table.{IsTable, table_at, share_of, slot_cells, hidden}
 use Rattle.cell_arena.specs.Chain.{is_head, cell_at, IsChain, chain_bytes, IsLinked, head_pieces, record_with, record_of, record_at, Record, SameRecordsBut, cost_at}
 use Rattle.cell_arena.proofs.Chains.{bytes_next}
-use Rattle.cell_arena.specs.Held.{entries_below, entry_before, records_of, Held, held_of, cost}
+use Rattle.cell_arena.specs.Region.{entries_below, entry_before, records_of, RegionState, region_of, cost}
 
 tied : (q n : ℕ) → q ≡ n → eq_by_cmp nat_cmp q n ≡ true
 tied q n e = unsigned_tied q n ∙ eq-eqb q n e
@@ -83,16 +83,16 @@ pub past_none : (t : Table) (n : ℕ) → 64 * length t.slots.items ≤ n → re
 past_none t n past =
     ap (λ xs. record_of (table_at t) (hidden (cell_at xs (n % 64)))) (get_or_past (list_map slot_cells t.slots.items) (n / 64) [] (omega (arith, length-map t.slots.items slot_cells)))
 
-pub get_held : (t : Table) (q : ℕ) → get (held_of t).records q ≡ record_at (table_at t) q
+pub get_held : (t : Table) (q : ℕ) → get (region_of t).records q ≡ record_at (table_at t) q
 get_held t q = get-records_of (table_at t) (64 * length t.slots.items) (past_none t) q
 
-pub held_insert : (old new : Table) (k : ℕ) (r : Record) → record_at (table_at new) k ≡ Some r → SameRecordsBut k (table_at old) (table_at new) → (held_of new).records ≡ insert (held_of old).records k r
+pub held_insert : (old new : Table) (k : ℕ) (r : Record) → record_at (table_at new) k ≡ Some r → SameRecordsBut k (table_at old) (table_at new) → (region_of new).records ≡ insert (region_of old).records k r
 held_insert old new k r here others =
-    insert_is (held_of old).records (held_of new).records k r (get_held new k ∙ here) (λ q other. get_held new q ∙ others q other ∙ sym (get_held old q))
+    insert_is (region_of old).records (region_of new).records k r (get_held new k ∙ here) (λ q other. get_held new q ∙ others q other ∙ sym (get_held old q))
 
-pub held_remove : (old new : Table) (k : ℕ) → record_at (table_at new) k ≡ None → SameRecordsBut k (table_at old) (table_at new) → (held_of new).records ≡ remove (held_of old).records k
+pub held_remove : (old new : Table) (k : ℕ) → record_at (table_at new) k ≡ None → SameRecordsBut k (table_at old) (table_at new) → (region_of new).records ≡ remove (region_of old).records k
 held_remove old new k here others =
-    remove_is (held_of old).records (held_of new).records k (get_held new k ∙ here) (λ q other. get_held new q ∙ others q other ∙ sym (get_held old q))
+    remove_is (region_of old).records (region_of new).records k (get_held new k ∙ here) (λ q other. get_held new q ∙ others q other ∙ sym (get_held old q))
 
 -- a chain holds 48 bytes a cell
 pub length-chain_bytes : (at : ℕ → Cell) (m : ℕ) (link : Option ℕ) → IsChain at m link → length (chain_bytes at m link) ≡ m * 48
@@ -127,7 +127,7 @@ is_head_from at (Head kind head) some = refl
 is_head_from at (Rest bytes next) some = absurd (cc)
 
 -- a number with a record is a head's
-pub held_head : (t : Table) (k : ℕ) → IsSome (get (held_of t).records k) → is_head (table_at t k) ≡ true
+pub held_head : (t : Table) (k : ℕ) → IsSome (get (region_of t).records k) → is_head (table_at t k) ≡ true
 held_head t k some = is_head_from (table_at t) (table_at t k) (subst IsSome (get_held t k) some)
 
 is_head_some : (at : ℕ → Cell) (c : Cell) → is_head c ≡ is_some (record_of at c)
@@ -135,59 +135,59 @@ is_head_some at (Free next) = refl
 is_head_some at (Head kind head) = refl
 is_head_some at (Rest bytes next) = refl
 
-pub held_cost : (t : Table) (k n : ℕ) → IsLinked (table_at t) → n ≡ (held_of t).free + cost_at (table_at t k) → is_head (table_at t k) ≡ true → IfSome (get (held_of t).records k) (λ r. n ≡ (held_of t).free + cost r)
-held_cost t k n linked more is = subst (λ o. IfSome o (λ r. n ≡ (held_of t).free + cost r)) (sym (get_held t k)) (by_cell (table_at t k) refl is)
+pub held_cost : (t : Table) (k n : ℕ) → IsLinked (table_at t) → n ≡ (region_of t).free + cost_at (table_at t k) → is_head (table_at t k) ≡ true → IfSome (get (region_of t).records k) (λ r. n ≡ (region_of t).free + cost r)
+held_cost t k n linked more is = subst (λ o. IfSome o (λ r. n ≡ (region_of t).free + cost r)) (sym (get_held t k)) (by_cell (table_at t k) refl is)
   where
-    by_cell : (c : Cell) → table_at t k ≡ c → is_head c ≡ true → IfSome (record_of (table_at t) (table_at t k)) (λ r. n ≡ (held_of t).free + cost r)
+    by_cell : (c : Cell) → table_at t k ≡ c → is_head c ≡ true → IfSome (record_of (table_at t) (table_at t k)) (λ r. n ≡ (region_of t).free + cost r)
     by_cell (Free next) e is = absurd (cc)
-    by_cell (Head kind head) e is = subst (λ x. IfSome (record_of (table_at t) x) (λ r. n ≡ (held_of t).free + cost r)) (sym e) (more ∙ ap (λ x. (held_of t).free + cost_at x) e ∙ ap (λ c. (held_of t).free + c) (sym (cost_is (table_at t) k kind head linked e)))
+    by_cell (Head kind head) e is = subst (λ x. IfSome (record_of (table_at t) x) (λ r. n ≡ (region_of t).free + cost r)) (sym e) (more ∙ ap (λ x. (region_of t).free + cost_at x) e ∙ ap (λ c. (region_of t).free + c) (sym (cost_is (table_at t) k kind head linked e)))
     by_cell (Rest bytes next) e is = absurd (cc)
 
 -- what the map has at a head
-pub held_some : (t : Table) (k : ℕ) (kind : Kind) (head : HeadCell) → table_at t k ≡ Head kind head → get (held_of t).records k ≡ Some (record_with kind head (chain_bytes (table_at t) (head_pieces head) head.first))
+pub held_some : (t : Table) (k : ℕ) (kind : Kind) (head : HeadCell) → table_at t k ≡ Head kind head → get (region_of t).records k ≡ Some (record_with kind head (chain_bytes (table_at t) (head_pieces head) head.first))
 held_some t k kind head read = get_held t k ∙ ap (record_of (table_at t)) read
 
 -- the same of the value that a region is seen as
-pub seen_insert : (old new : Table) (seen : Held) (k : ℕ) (r : Record) → held_of old ≡ seen → record_at (table_at new) k ≡ Some r → SameRecordsBut k (table_at old) (table_at new) → (held_of new).records ≡ insert seen.records k r
-seen_insert old new seen k r is here others = held_insert old new k r here others ∙ ap (λ (h : Held). insert h.records k r) is
+pub seen_insert : (old new : Table) (seen : RegionState) (k : ℕ) (r : Record) → region_of old ≡ seen → record_at (table_at new) k ≡ Some r → SameRecordsBut k (table_at old) (table_at new) → (region_of new).records ≡ insert seen.records k r
+seen_insert old new seen k r is here others = held_insert old new k r here others ∙ ap (λ (h : RegionState). insert h.records k r) is
 
-pub seen_remove : (old new : Table) (seen : Held) (k : ℕ) → held_of old ≡ seen → record_at (table_at new) k ≡ None → SameRecordsBut k (table_at old) (table_at new) → (held_of new).records ≡ remove seen.records k
-seen_remove old new seen k is here others = held_remove old new k here others ∙ ap (λ (h : Held). remove h.records k) is
+pub seen_remove : (old new : Table) (seen : RegionState) (k : ℕ) → region_of old ≡ seen → record_at (table_at new) k ≡ None → SameRecordsBut k (table_at old) (table_at new) → (region_of new).records ≡ remove seen.records k
+seen_remove old new seen k is here others = held_remove old new k here others ∙ ap (λ (h : RegionState). remove h.records k) is
 
-pub seen_get : (t : Table) (seen : Held) (q : ℕ) → held_of t ≡ seen → get seen.records q ≡ record_at (table_at t) q
-seen_get t seen q is = ap (λ (h : Held). get h.records q) (sym is) ∙ get_held t q
+pub seen_get : (t : Table) (seen : RegionState) (q : ℕ) → region_of t ≡ seen → get seen.records q ≡ record_at (table_at t) q
+seen_get t seen q is = ap (λ (h : RegionState). get h.records q) (sym is) ∙ get_held t q
 
-pub seen_head : (t : Table) (seen : Held) (k : ℕ) → held_of t ≡ seen → IsSome (get seen.records k) → is_head (table_at t k) ≡ true
-seen_head t seen k is some = held_head t k (subst (λ (h : Held). IsSome (get h.records k)) (sym is) some)
+pub seen_head : (t : Table) (seen : RegionState) (k : ℕ) → region_of t ≡ seen → IsSome (get seen.records k) → is_head (table_at t k) ≡ true
+seen_head t seen k is some = held_head t k (subst (λ (h : RegionState). IsSome (get h.records k)) (sym is) some)
 
-pub seen_has : (t : Table) (seen : Held) (k : ℕ) → held_of t ≡ seen → is_head (table_at t k) ≡ is_some (get seen.records k)
+pub seen_has : (t : Table) (seen : RegionState) (k : ℕ) → region_of t ≡ seen → is_head (table_at t k) ≡ is_some (get seen.records k)
 seen_has t seen k is = is_head_some (table_at t) (table_at t k) ∙ sym (ap is_some (seen_get t seen k is))
 
-pub seen_cost : (t : Table) (seen : Held) (k n : ℕ) → held_of t ≡ seen → IsLinked (table_at t) → n ≡ (held_of t).free + cost_at (table_at t k) → is_head (table_at t k) ≡ true → IfSome (get seen.records k) (λ r. n ≡ seen.free + cost r)
-seen_cost t seen k n is linked more head = subst (λ (h : Held). IfSome (get h.records k) (λ r. n ≡ h.free + cost r)) is (held_cost t k n linked more head)
+pub seen_cost : (t : Table) (seen : RegionState) (k n : ℕ) → region_of t ≡ seen → IsLinked (table_at t) → n ≡ (region_of t).free + cost_at (table_at t k) → is_head (table_at t k) ≡ true → IfSome (get seen.records k) (λ r. n ≡ seen.free + cost r)
+seen_cost t seen k n is linked more head = subst (λ (h : RegionState). IfSome (get h.records k) (λ r. n ≡ h.free + cost r)) is (held_cost t k n linked more head)
 
 -- the numbers that a region is seen with
-pub seen_free : (t : Table) (seen : Held) → held_of t ≡ seen → seen.free ≡ 64 * t.reserved - t.used
-seen_free t seen is = sym (ap (λ (h : Held). h.free) is)
+pub seen_free : (t : Table) (seen : RegionState) → region_of t ≡ seen → seen.free ≡ 64 * t.reserved - t.used
+seen_free t seen is = sym (ap (λ (h : RegionState). h.free) is)
 
 -- what is seen of the segments is what the table has of them
-pub seen_share : (t : Table) (seen : Held) → IsTable t → held_of t ≡ seen → KeepsShare (share_of t) seen.share
+pub seen_share : (t : Table) (seen : RegionState) → IsTable t → region_of t ≡ seen → KeepsShare (share_of t) seen.share
 seen_share t seen table is = record {
-  reserved = sym (ap (λ (h : Held). h.share.reserved) is);
-  drawn = sym (ap (λ (h : Held). h.share.drawn) is) ∙ sym table.busy;
+  reserved = sym (ap (λ (h : RegionState). h.share.reserved) is);
+  drawn = sym (ap (λ (h : RegionState). h.share.drawn) is) ∙ sym table.busy;
 }
 
-pub share_seen : (t : Table) → IsTable t → KeepsShare (share_of t) (held_of t).share
+pub share_seen : (t : Table) → IsTable t → KeepsShare (share_of t) (region_of t).share
 share_seen t table = record { reserved = refl; drawn = sym table.busy }
 
 -- a loan is lent and settled as it is seen
-pub seen_lent : (t : Table) (seen : Held) (l : Loan) → IsTable t → held_of t ≡ seen → IsLent seen.share l → IsLent (share_of t) l
+pub seen_lent : (t : Table) (seen : RegionState) (l : Loan) → IsTable t → region_of t ≡ seen → IsLent seen.share l → IsLent (share_of t) l
 seen_lent t seen l table is lent = let e = seen_share t seen table is in record {
   left = omega (arith, lent.left, e.reserved, e.drawn);
   room = omega (arith, lent.room, e.drawn);
 }
 
-pub seen_settles : (t u : Table) (seen : Held) (k l : Loan) → IsTable t → IsTable u → held_of t ≡ seen → Settles (share_of t) k (share_of u) l → Settles seen.share k (held_of u).share l
+pub seen_settles : (t u : Table) (seen : RegionState) (k l : Loan) → IsTable t → IsTable u → region_of t ≡ seen → Settles (share_of t) k (share_of u) l → Settles seen.share k (region_of u).share l
 seen_settles t u seen k l table after is settles = let e = seen_share t seen table is in let f = share_seen u after in record {
   reserved = omega (arith, settles.reserved, e.reserved);
   left = omega (arith, settles.left, e.drawn, f.drawn);
@@ -199,14 +199,14 @@ seen_settles t u seen k l table after is settles = let e = seen_share t seen tab
 pub at_some : (at : ℕ → Cell) (k : ℕ) (kind : Kind) (head : HeadCell) (P : Record → Type 0) → at k ≡ Head kind head → P (record_with kind head (chain_bytes at (head_pieces head) head.first)) → IfSome (record_at at k) P
 at_some at k kind head P read p = subst (λ c. IfSome (record_of at c) P) (sym read) p
 
-pub seen_some : (t : Table) (seen : Held) (k : ℕ) (kind : Kind) (head : HeadCell) (P : Record → Type 0) → held_of t ≡ seen → table_at t k ≡ Head kind head → P (record_with kind head (chain_bytes (table_at t) (head_pieces head) head.first)) → IfSome (get seen.records k) P
+pub seen_some : (t : Table) (seen : RegionState) (k : ℕ) (kind : Kind) (head : HeadCell) (P : Record → Type 0) → region_of t ≡ seen → table_at t k ≡ Head kind head → P (record_with kind head (chain_bytes (table_at t) (head_pieces head) head.first)) → IfSome (get seen.records k) P
 seen_some t seen k kind head P is read p = subst (λ o. IfSome o P) (sym (seen_get t seen k is)) (at_some (table_at t) k kind head P read p)
 
 if_some : (o : Option Record) (P Q : Record → Type 0) → ((r : Record) → P r → Q r) → IfSome o P → IfSome o Q
 if_some None P Q f p = p
 if_some (Some r) P Q f p = f r p
 
-pub seen_if : (t : Table) (seen : Held) (k : ℕ) (P Q : Record → Type 0) → held_of t ≡ seen → ((r : Record) → P r → Q r) → IfSome (record_at (table_at t) k) P → IfSome (get seen.records k) Q
+pub seen_if : (t : Table) (seen : RegionState) (k : ℕ) (P Q : Record → Type 0) → region_of t ≡ seen → ((r : Record) → P r → Q r) → IfSome (record_at (table_at t) k) P → IfSome (get seen.records k) Q
 seen_if t seen k P Q is f p = subst (λ o. IfSome o Q) (sym (seen_get t seen k is)) (if_some (record_at (table_at t) k) P Q f p)
 
 -- the cells in use fit in the reserved segments
@@ -217,5 +217,5 @@ pub some_at : (at : ℕ → Cell) (k : ℕ) (kind : Kind) (head : HeadCell) (P :
 some_at at k kind head P read p = subst (λ c. IfSome (record_of at c) P) read p
 
 -- the other way: what holds of a record that is seen
-pub if_seen : (t : Table) (seen : Held) (k : ℕ) (P Q : Record → Type 0) → held_of t ≡ seen → ((r : Record) → P r → Q r) → IfSome (get seen.records k) P → IfSome (record_at (table_at t) k) Q
+pub if_seen : (t : Table) (seen : RegionState) (k : ℕ) (P Q : Record → Type 0) → region_of t ≡ seen → ((r : Record) → P r → Q r) → IfSome (get seen.records k) P → IfSome (record_at (table_at t) k) Q
 if_seen t seen k P Q is f p = if_some (record_at (table_at t) k) P Q f (subst (λ o. IfSome o P) (seen_get t seen k is) p)

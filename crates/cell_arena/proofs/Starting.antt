@@ -11,7 +11,7 @@ use Rattle.cell_arena.specs.declared.order.Order.{Order}
 use Rattle.cell_arena.specs.declared.slot.Slot.{Slot}
 use Rattle.cell_arena.specs.declared.table.Table.{Table}
 use Rattle.cell_arena.specs.Chain.{IsBare, AllBare, cell_at, link_of, record_of}
-use Rattle.cell_arena.specs.Held.{held_of, no_records, IsSound}
+use Rattle.cell_arena.specs.Region.{region_of, no_records, IsRegion}
 use Rattle.cell_arena.specs.Order.{IsOrder, count_of}
 use Rattle.cell_arena.specs.Table.{IsTable, IsSlot, slot_cells, hidden, table_at, free_of, used_of, busy_of}
 use Rattle.cell_arena.proofs.Records.{empty_is, get_held}
@@ -99,7 +99,7 @@ bare_table t all few order size ready drawn used reserved =
 pub bare_cell : (t : Table) → AllBare t.slots.items → (n : ℕ) → table_at t n ≡ Free None
 bare_cell t all n = ap (λ cells. hidden (cell_at cells (n % 64))) (bare_cells t.slots.items all (n / 64))
 
-pub bare_sound : (t : Table) → IsTable t → AllBare t.slots.items → IsSound t
+pub bare_sound : (t : Table) → IsTable t → AllBare t.slots.items → IsRegion t
 bare_sound t table all = record {
   table = table;
   linked = record {
@@ -116,9 +116,9 @@ bare_sound t table all = record {
     no_link : (i n : ℕ) → link_of (table_at t i) ≡ Some n → ⊥
     no_link i n names = let none = ap link_of (bare_cell t all i) in cc
 
-pub bare_held : (t : Table) (cells : ℕ) → IsTable t → AllBare t.slots.items → t.reserved ≡ cells / 64 → t.drawn ≡ 0 → t.used ≡ 0 → cells % 64 ≡ 0 → held_of t ≡ no_records cells
+pub bare_held : (t : Table) (cells : ℕ) → IsTable t → AllBare t.slots.items → t.reserved ≡ cells / 64 → t.drawn ≡ 0 → t.used ≡ 0 → cells % 64 ≡ 0 → region_of t ≡ no_records cells
 bare_held t cells table all reserved drawn used whole =
-    let records : (held_of t).records ≡ empty = empty_is (held_of t).records (λ q. get_held t q ∙ ap (record_of (table_at t)) (bare_cell t all q)) in
+    let records : (region_of t).records ≡ empty = empty_is (region_of t).records (λ q. get_held t q ∙ ap (record_of (table_at t)) (bare_cell t all q)) in
     let free : 64 * t.reserved - t.used ≡ cells = omega (arith, reserved, used, whole) in
     let none : sum_by busy_of t.slots.items ≡ 0 = sym table.busy ∙ drawn in
     λ i. record { records = records i; free = free i; share = record { reserved = reserved i; drawn = none i } }

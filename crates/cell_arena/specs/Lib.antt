@@ -5,4 +5,4 @@ pub mod Order
 pub mod Loan
 pub mod Table
 pub mod Storing
-pub mod Held
+pub mod Region

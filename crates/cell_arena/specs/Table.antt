@@ -59,8 +59,8 @@ pub record IsTable (t : Table) : Type 0 where
   pub used : t.used + sum_by free_of t.slots.items ≡ 64 * t.drawn
 
 -- so many more cells fit
-abbrev pub HasSpace : Table → ℕ → Type 0
-HasSpace t cells = t.used + cells ≤ 64 * t.reserved
+abbrev pub HasCells : Table → ℕ → Type 0
+HasCells t cells = t.used + cells ≤ 64 * t.reserved
 
 -- how many segments are reserved and drawn
 abbrev pub share_of : Table → Share

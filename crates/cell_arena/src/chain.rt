@@ -4,7 +4,7 @@ ghost use Rattle.std.specs.Prelude.{IfSome};
 ghost use Rattle.cell_arena.specs.Chain.{is_head, IsLinked, IsChain, IsLoose, SameRecords, SameRecordsBut};
 ghost use Rattle.cell_arena.specs.Chain.{chain_bytes, pieces as cells_for, record_at, cost_at};
 ghost use Rattle.cell_arena.specs.Loan.{IsLent, Settles, KeepsShare, DrawsFor, DrawsNone};
-ghost use Rattle.cell_arena.specs.Table.{IsTable, table_at, HasSpace, share_of};
+ghost use Rattle.cell_arena.specs.Table.{IsTable, table_at, HasCells, share_of};
 ghost use Rattle.cell_arena.specs.Storing.{IsStored};
 ghost use Rattle.cell_arena.specs.Part.{IsPart, part_bytes};
 
@@ -106,7 +106,7 @@ pub(crate) fn release<S: Segments>(table: &mut Table, segments: &mut S, at: Cell
 fn store_bytes<S: Segments>(table: &mut Table, segments: &mut S, key: &[u8], value: &[u8]) -> Link
     requires table { IsTable table.old }
     requires linked { IsLinked (table_at table.old) }
-    requires space { HasSpace table.old (cells_for (length key.now + length value.now)) }
+    requires space { HasCells table.old (cells_for (length key.now + length value.now)) }
     requires lent { IsLent (share_of table.old) (S.loan segments.old) }
     ensures stored { IsStored table.old table.new result (cells_for (length key.now + length value.now))
         (key.now ++ value.now) }
@@ -135,7 +135,7 @@ pub(crate) fn place<S: Segments>(
 ) -> CellNo
     requires table { IsTable table.old }
     requires linked { IsLinked (table_at table.old) }
-    requires space { HasSpace table.old (1 + cells_for (length key.now + length value.now)) }
+    requires space { HasCells table.old (1 + cells_for (length key.now + length value.now)) }
     requires lent { IsLent (share_of table.old) (S.loan segments.old) }
     ensures table { IsTable table.new }
     ensures linked { IsLinked (table_at table.new) }

@@ -4,7 +4,7 @@ ghost use Rattle.cell_arena.specs.declared.cell.Kind.{Kind};
 ghost use Rattle.cell_arena.specs.Chain.{is_head, IsLinked, IsChain, IsLoose, SameRecords, SameRecordsBut};
 ghost use Rattle.cell_arena.specs.Chain.{chain_bytes, turned_bytes, pieces as cells_for, record_at};
 ghost use Rattle.cell_arena.specs.Loan.{IsLent, Settles, KeepsShare, DrawsFor};
-ghost use Rattle.cell_arena.specs.Table.{IsTable, table_at, HasSpace, share_of};
+ghost use Rattle.cell_arena.specs.Table.{IsTable, table_at, HasCells, share_of};
 
 use crate::cell::{Cell, Fields, HeadCell, Kind};
 use crate::chain::{head_at, rest_at};
@@ -26,7 +26,7 @@ fn copy_cells<S: Segments>(
     requires linked { IsLinked (table_at table.old) }
     requires chain { IsChain (table_at table.old) cells first }
     requires fits { count ≤ cells }
-    requires space { HasSpace table.old count }
+    requires space { HasCells table.old count }
     requires lent { IsLent (share_of table.old) (S.loan segments.old) }
     ensures table { IsTable table.new }
     ensures linked { IsLinked (table_at table.new) }
@@ -92,7 +92,7 @@ pub(crate) fn place_delete<S: Segments>(
     requires linked { IsLinked (table_at table.old) }
     requires head { is_head (table_at table.old of) ≡ true }
     requires space { IfSome (record_at (table_at table.old) of)
-        (λ r. HasSpace table.old (1 + cells_for (length r.key))) }
+        (λ r. HasCells table.old (1 + cells_for (length r.key))) }
     requires lent { IsLent (share_of table.old) (S.loan segments.old) }
     ensures table { IsTable table.new }
     ensures linked { IsLinked (table_at table.new) }

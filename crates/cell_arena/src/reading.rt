@@ -4,7 +4,7 @@ ghost use Rattle.std.specs.Ordering.{nat_cmp};
 ghost use Rattle.std.specs.Cmp.Lexicographic.{slice_cmp};
 ghost use Rattle.cell_arena.specs.Part.{IsPart, part_bytes};
 ghost use Rattle.cell_arena.specs.Table.{table_at};
-ghost use Rattle.cell_arena.specs.Held.{IsFrontOf};
+ghost use Rattle.cell_arena.specs.Region.{IsFrontOf};
 
 use crate::cell::CELL_BYTES;
 use crate::chain::rest_at;

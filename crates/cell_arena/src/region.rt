@@ -7,7 +7,7 @@ ghost use Rattle.std.specs.FinMap as map;
 ghost use Rattle.cell_arena.specs.declared.cell.Kind.{Kind};
 ghost use Rattle.cell_arena.specs.Chain.{pieces as cells_for};
 ghost use Rattle.cell_arena.specs.Loan.{IsLent, Settles, KeepsShare, DrawsFor, DrawsNone, IsBusy};
-ghost use Rattle.cell_arena.specs.Held.{cost, no_records, used_cells, IsFrontOf};
+ghost use Rattle.cell_arena.specs.Region.{cost, no_records, used_cells, IsFrontOf};
 
 use crate::cell::{Fields, Kind};
 use crate::link::Link;
@@ -30,15 +30,15 @@ pub struct Region {
 }
 
 impl Model for Region {
-    ghost use Rattle.cell_arena.specs.Held.{Held, held_code, held_of, IsSound};
+    ghost use Rattle.cell_arena.specs.Region.{RegionState, region_code, region_of, IsRegion};
 
-    ghost Value = { Held };
+    ghost Value = { RegionState };
 
-    ghost coded = { held_code };
+    ghost coded = { region_code };
 
-    ghost view = { λ r. held_of r.table };
+    ghost view = { λ r. region_of r.table };
 
-    ghost invariant = { λ r. IsSound r.table };
+    ghost invariant = { λ r. IsRegion r.table };
 }
 
 impl Region {

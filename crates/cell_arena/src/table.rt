@@ -4,7 +4,7 @@ ghost use Rattle.std.specs.Prelude.{◌==◌, ◌≢◌, slice_index_or, None, M
 ghost use Rattle.cell_arena.specs.declared.slot.Slot.{Slot};
 ghost use Rattle.cell_arena.specs.Chain.{is_free, Writes, AllBare};
 ghost use Rattle.cell_arena.specs.Loan.{IsLent, Settles, KeepsShare, DrawsFor, DrawsNone, Draws};
-ghost use Rattle.cell_arena.specs.Table.{IsTable, hidden, table_at, HasSpace, share_of, DrawsOne};
+ghost use Rattle.cell_arena.specs.Table.{IsTable, hidden, table_at, HasCells, share_of, DrawsOne};
 
 use crate::cell::Cell;
 use crate::order::{self, Order};
@@ -121,7 +121,7 @@ fn put_drawn<S: Segments>(table: &mut Table, segments: &mut S, cell: Cell) -> Ce
 /// Writes a free cell. A segment is drawn only where no cell of the drawn ones is free.
 pub(crate) fn put<S: Segments>(table: &mut Table, segments: &mut S, cell: Cell) -> CellNo
     requires table { IsTable table.old }
-    requires space { HasSpace table.old 1 }
+    requires space { HasCells table.old 1 }
     requires lent { IsLent (share_of table.old) (S.loan segments.old) }
     requires used { is_free cell ≡ false }
     ensures table { IsTable table.new }

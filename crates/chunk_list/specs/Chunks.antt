@@ -1,5 +1,6 @@
 -- Chunks in order, each as the list of its items.
-use Rattle.std.specs.Prelude.{◌≡◌, ℕ, ◌+◌, ◌/◌, ◌<◌, ◌≤◌, List, [], ◌∷◌, ◌++◌, length, slice_index_or, take, drop, Bool, Vec, vec_capacity}
+use Rattle.std.specs.Prelude.{◌≡◌, ℕ, ◌+◌, ◌/◌, ◌<◌, ◌≤◌, List, [], ◌∷◌, ◌++◌, length, slice_index_or, take}
+use Rattle.std.specs.Prelude.{drop, Bool, Vec, vec_capacity}
 use Rattle.std.specs.List.{AllByRecursion, flat_map}
 use Rattle.chunk_list.specs.Chunked.{TurnsAt}
 use Rattle.chunk_list.specs.declared.chunk.TheConstants.{LEAST, MOST}
@@ -19,7 +20,8 @@ replaced chunks i count others = take i chunks ++ (others ++ drop (i + count) ch
 
 -- the chunks with one cut in two, of which the first has so many items
 abbrev pub cut_in_two : {T : Type 0} → List (List T) → ℕ → ℕ → List (List T)
-cut_in_two chunks i keep = replaced chunks i 1 (take keep (chunk_at chunks i) ∷ drop keep (chunk_at chunks i) ∷ [])
+cut_in_two chunks i keep = replaced chunks i 1 (take keep (chunk_at chunks i)
+    ∷ drop keep (chunk_at chunks i) ∷ [])
 
 -- the chunks with one and the next as a single one
 abbrev pub joined : {T : Type 0} → List (List T) → ℕ → List (List T)
@@ -69,10 +71,13 @@ pub record KeepsChunks {T A : Type 0} (old new old_spare new_spare : Vec (List T
 pub record IsTurnIn {T : Type 0} (test : T → Bool) (chunks : List (List T)) (at : ℕ) : Type 0 where
   pub in_range : at < length chunks
   pub from : (k : ℕ) → TurnsAt test (items_of chunks) k → length (items_of (take at chunks)) ≤ k
-  pub to : (k : ℕ) → TurnsAt test (items_of chunks) k → at + 1 < length chunks → k < length (items_of (take (at + 1) chunks))
+  pub to : (k : ℕ) → TurnsAt test (items_of chunks) k → at + 1 < length chunks
+      → k < length (items_of (take (at + 1) chunks))
 
--- what always holds of a list: its chunks, those that are spare, both with room for all, the count and the room
-pub record IsSound {T : Type 0} (chunks : List (List T)) (most spares most_spare count room : ℕ) : Type 0 where
+-- what always holds of a list: its chunks, those that are spare, both with room for all, the count
+-- and the room
+pub record IsSound {T : Type 0} (chunks : List (List T)) (most spares most_spare count room : ℕ) :
+    Type 0 where
   pub some : 0 < length chunks
   pub dense : IsDense chunks
   pub total : room / LEAST + 2 ≤ length chunks + spares

@@ -1,5 +1,6 @@
 //! One chunk, and how long chunks are.
-ghost use Rattle.std.specs.Prelude.{◌≡◌, ℕ, ◌+◌, ◌-◌, ◌<◌, ◌≤◌, ◌++◌, ◌∷◌, [], List, length, take, drop, slice_index_or, slice_set, IfOk, vec_capacity};
+ghost use Rattle.std.specs.Prelude.{◌≡◌, ℕ, ◌+◌, ◌-◌, ◌<◌, ◌≤◌, ◌++◌, ◌∷◌, [], List, length, take, drop};
+ghost use Rattle.std.specs.Prelude.{slice_index_or, slice_set, IfOk, vec_capacity};
 ghost use Rattle.std.specs.List.{insert, remove};
 
 use std::alloc::{AllocError, Global};
@@ -8,8 +9,8 @@ use std::marker::Model;
 /// How many items a chunk has at most.
 pub(crate) const MOST: usize = 512;
 
-/// How many each chunk of a list but the last has at least. It is less than half of `MOST`, so that a chunk that was
-/// cut in two has to lose some items before it is joined again.
+/// How many each chunk of a list but the last has at least. It is less than half of `MOST`, so that
+/// a chunk that was cut in two has to lose some items before it is joined again.
 pub(crate) const LEAST: usize = 240;
 
 /// Some items, at most `MOST`, in memory that is taken once.

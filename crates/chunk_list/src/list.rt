@@ -1,5 +1,6 @@
 //! A list in chunks.
-ghost use Rattle.std.specs.Prelude.{◌≡◌, ℕ, ◌+◌, ◌<◌, ◌≤◌, ◌++◌, ◌∷◌, [], List, length, slice_index_or, slice_set, take, filter, IfOk, IsTrue, ◌↔◌};
+ghost use Rattle.std.specs.Prelude.{◌≡◌, ℕ, ◌+◌, ◌<◌, ◌≤◌, ◌++◌, ◌∷◌, [], List, length, slice_index_or};
+ghost use Rattle.std.specs.Prelude.{slice_set, take, filter, IfOk, IsTrue, ◌↔◌};
 ghost use Rattle.std.specs.List.{All, insert, remove};
 ghost use Rattle.chunk_list.specs.Chunked.{TurnsAt, HasItem, IsPlace, IsPlaceAt, position_of};
 

@@ -1,6 +1,7 @@
 //! How chunks are cut in two, joined and evened out.
 ghost use Rattle.std.specs.Prelude.{◌≡◌, ◌+◌, ◌<◌, ◌≤◌, List, length, take, vec_capacity};
-ghost use Rattle.chunk_list.specs.Chunks.{IsDense, IsOpened, KeepsChunks, LacksOne, chunk_at, cut_in_two, items_of, joined, shifted, size_of_two};
+ghost use Rattle.chunk_list.specs.Chunks.{IsDense, IsOpened, KeepsChunks, LacksOne, chunk_at, cut_in_two};
+ghost use Rattle.chunk_list.specs.Chunks.{items_of, joined, shifted, size_of_two};
 
 use crate::chunk::{Chunk, LEAST, MOST};
 use crate::place::Place;

@@ -11,7 +11,7 @@ use Rattle.etcd_model.specs.Machine.{opening}
 use Rattle.etcd_model.specs.ReplyText.{Answer}
 use Rattle.etcd_model.specs.Alone.{Event, Called, Turn, is_of, is_own, is_unanswered, own, asked, told, alone, alone_after, read_event, answer_to, after_read}
 use Rattle.etcd_model.specs.Held.{Holds}
-use Rattle.tenant_machine.specs.Held.{tenant}
+use Rattle.tenant_machine.specs.Tenants.{tenant}
 use Rattle.etcd_replay.specs.declared.answer.AddFault.{AddFault}
 use Rattle.etcd_replay.specs.declared.answer.AddFault.TheVariants.{Name, Limits}
 use Rattle.etcd_replay.specs.declared.answer.LineAnswer.{LineAnswer}

@@ -10,7 +10,7 @@ use Rattle.etcd_model.specs.Calls.{Target, read_posted, target_of}
 use Rattle.etcd_model.specs.Held.{Holds}
 use Rattle.etcd_model.specs.ReplyText.{Answer, reply_body, reply_status, text}
 use Rattle.gateway_text.proofs.AnswerLaws.{status_of_memory}
-use Rattle.tenant_machine.specs.Held.{MachineState, tenant}
+use Rattle.tenant_machine.specs.Tenants.{MachineState, tenant}
 use Rattle.tenant_machine.specs.Plans.{Plan, Plans, IsAfter}
 use Rattle.etcd_replay.specs.Replaying.{TenantState, Serves, IsCalled}
 

@@ -19,7 +19,7 @@ use Rattle.etcd_model.specs.ReplyText.{Answer, memory_answer, text}
 use Rattle.etcd_model.specs.Alone.{Event, Called, Stepped, Turn, is_of, is_unanswered, own, asked, told}
 use Rattle.etcd_model.specs.Alone.{alone, alone_after, read_event, answer_to, after_read}
 use Rattle.etcd_model.specs.Held.{Holds}
-use Rattle.tenant_machine.specs.Held.{MachineState, machine_code, tenant}
+use Rattle.tenant_machine.specs.Tenants.{MachineState, machine_code, tenant}
 use Rattle.etcd_replay.specs.declared.answer.AddFault.{AddFault}
 use Rattle.etcd_replay.specs.declared.answer.AddFault.TheVariants.{Name, Limits, Memory}
 use Rattle.etcd_replay.specs.declared.answer.LineAnswer.{LineAnswer}

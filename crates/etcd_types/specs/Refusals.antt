@@ -31,8 +31,8 @@ refusal_number TooManyWatches = 19
 refusal_number UsedUp = 20
 refusal_number Memory = 21
 
--- invalid argument 3, not found 5, resource exhausted 8, failed precondition 9, out of range 11, unimplemented 12,
--- unavailable 14
+-- invalid argument 3, not found 5, resource exhausted 8, failed precondition 9, out of range 11,
+-- unimplemented 12, unavailable 14
 abbrev pub refusal_code : Refusal → ℕ
 refusal_code NoKey = 3
 refusal_code ValueGiven = 3

@@ -111,7 +111,8 @@ fn row(alloc: Global) -> Option<KeyValue> {
     })
 }
 
-/// The life of a key that the head of the crate tells, beside another key: what is last, and what compactions leave.
+/// The life of a key that the head of the crate tells, beside another key: what is last, and what
+/// compactions leave.
 #[test]
 fn lives_as_told(rt: HostRuntime) -> Result<(), Fail> {
     let mut changes = Changes::new(rt.alloc(), 8)?;
@@ -124,7 +125,11 @@ fn lives_as_told(rt: HostRuntime) -> Result<(), Fail> {
     changes.append(&rt, rt.alloc(), b"a", None)?;
     changes.append(&rt, rt.alloc(), b"b", row(rt.alloc()))?;
     let (put_at_2, put_at_3, delete_at_4) = (CellNo::at(0, 0), CellNo::at(0, 1), CellNo::at(0, 2));
-    let (put_at_6, delete_at_8, other_at_9) = (CellNo::at(0, 4), CellNo::at(0, 6), CellNo::at(0, 7));
+    let (put_at_6, delete_at_8, other_at_9) = (
+        CellNo::at(0, 4),
+        CellNo::at(0, 6),
+        CellNo::at(0, 7),
+    );
     assert_eq!(rt; changes.heads(), [delete_at_8, other_at_9].as_slice());
     assert_eq!(rt; changes.last(b"a", 1), None);
     assert_eq!(rt; changes.last(b"a", 2), Some(put_at_2));

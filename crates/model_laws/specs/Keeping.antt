@@ -4,7 +4,8 @@ use Rattle.std.specs.List.{AllByRecursion}
 use Rattle.etcd_model.specs.declared.state.History.{History}
 use Rattle.etcd_model.specs.declared.state.Entry.{Entry}
 use Rattle.etcd_model.specs.Kept as over_history
-use Rattle.etcd_model.specs.Changes.{Recorded, OwnRow, ChangesOnce, Rises, entry_of, recorded_changes, recorded}
+use Rattle.etcd_model.specs.Changes.{Recorded, OwnRow, ChangesOnce, Rises, entry_of, recorded_changes}
+use Rattle.etcd_model.specs.Changes.{recorded}
 use Rattle.etcd_model.specs.Changes.{live, rows, since, kept}
 
 pub record KeepingLaws : Type 0 where

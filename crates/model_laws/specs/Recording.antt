@@ -25,10 +25,12 @@ pub record RecordingLaws : Type 0 where
   pub changes_are_entries : (H : History) → map entry_of (recorded_changes H) ≡ entries H
   -- one more revision is recorded after those before it
   pub changes_after : (H : History) (c : Change) (cs : List Change)
-      → recorded_changes (history.history_after H (c ∷ cs)) ≡ record_revision (current H + 1) (recorded_changes H) (c ∷ cs)
+      → recorded_changes (history.history_after H (c ∷ cs))
+      ≡ record_revision (current H + 1) (recorded_changes H) (c ∷ cs)
   -- they stand in order of their revisions, none above the current one, and each row is of its change's key
   pub changes_rise : (H : History) → Rises (recorded_changes H)
-  pub changes_up_to_current : (H : History) → AllByRecursion (λ x. x.revision ≤ current H) (recorded_changes H)
+  pub changes_up_to_current : (H : History)
+      → AllByRecursion (λ x. x.revision ≤ current H) (recorded_changes H)
   pub changes_own_their_rows : (H : History) → AllByRecursion OwnRow (recorded_changes H)
   -- the last of a key up to a revision is its last change
   pub last_of_changes : (H : History) (key : List ℕ) (r : ℕ)

@@ -37,7 +37,8 @@ cells_after s cs = counted_cells (after s cs)
 abbrev pub room_after : Store → List Change → List ℕ → ℕ
 room_after s cs key = room ((reads_of (after s cs)).row key)
 
--- An operation of a transaction reads what is pending: what it takes of the counted_cells, and what it gives back.
+-- An operation of a transaction reads what is pending: what it takes of the counted_cells, and what
+-- it gives back.
 abbrev pub taken_by : Reads → Op → ℕ
 taken_by R (PutOp p) =
     cost_put p.key (if p.ignore_value then kept_value (R.row p.key) else p.value) + cost_delete p.key

@@ -21,7 +21,7 @@ use Rattle.revision_store.specs.declared.plan.Write.{Write}
 use Rattle.revision_store.specs.declared.plan.Write.TheVariants.{Put, Delete}
 use Rattle.revision_store.specs.Logged.{LogState}
 use Rattle.revision_store.specs.Plans.{AreFresh, IsOf, change_in, deletes, recorded_in}
-use Rattle.revision_store.specs.Stored.{CanCommit, Follows, IsKept, IsPlanFor, StoreState, cells, changes_of, store_of}
+use Rattle.revision_store.specs.Stored.{CanCommit, Follows, IsKeptUpTo, IsPlanFor, StoreState, cells, changes_of, store_of}
 use Rattle.revision_store.specs.Appending.{CanAppend}
 use Rattle.revision_store.specs.Recorded.{cells_of}
 
@@ -109,7 +109,7 @@ can_inside inside store writes plan same is h = subst (CanCommit inside) (sym is
 
 -- what a log is after the plan's revision
 pub kept_after : (store : StoreState) (new : LogState) (compacted : ℕ) (writes : List Write) → IsPlanFor store writes → AllByRecursion (λ x. x.revision ≤ store.kept.current) store.kept.changes → AllByRecursion HasNumbers store.kept.changes
-    → compacted ≤ store.kept.current → store.kept.current + 1 < 2 ^ 63 → new.changes ≡ store.kept.changes ++ map (recorded_in (cells store) (store.kept.current + 1)) writes → IsKept new (store.kept.current + 1) compacted
+    → compacted ≤ store.kept.current → store.kept.current + 1 < 2 ^ 63 → new.changes ≡ store.kept.changes ++ map (recorded_in (cells store) (store.kept.current + 1)) writes → IsKeptUpTo new (store.kept.current + 1) compacted
 kept_after store new compacted writes plan up numbers within short is = record {
   up = subst (AllByRecursion (λ x. x.revision ≤ store.kept.current + 1)) (sym is) (all_append (λ x. x.revision ≤ store.kept.current + 1) store.kept.changes (map (recorded_in (cells store) (store.kept.current + 1)) writes) (all_weaker _ _ (λ x le. omega (arith, le)) store.kept.changes up) (at_revision writes));
   numbers = subst (AllByRecursion HasNumbers) (revision_is store writes up plan ∙ sym is) (recorded_have_numbers (store.kept.current + 1) store.kept.changes (changes_of store writes) (omega arith) numbers (all_weaker _ _ (λ x le. omega (arith, le)) store.kept.changes up) plan.once);
@@ -139,7 +139,7 @@ follows_of store (Delete c) follows = some_cell (cells store c) follows.1
     some_cell (Some e) is = refl
 
 -- a plan for a store can be appended to its log
-pub can_append : (log : LogState) (current compacted : ℕ) (writes : List Write) → IsKept log current compacted → CanCommit (store_of log current compacted) writes → CanAppend log (current + 1) writes
+pub can_append : (log : LogState) (current compacted : ℕ) (writes : List Write) → IsKeptUpTo log current compacted → CanCommit (store_of log current compacted) writes → CanAppend log (current + 1) writes
 can_append log current compacted writes kept can = record {
   of = all_weaker _ _ (follows_of (store_of log current compacted)) writes can.plan.follow;
   later = all_weaker _ _ (λ x le. omega (arith, le)) log.changes kept.up;

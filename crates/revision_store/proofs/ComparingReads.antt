@@ -6,7 +6,7 @@ use Rattle.std.specs.FinMap.{FinMap}
 use Rattle.std.specs.List.{AllByRecursion, cons_option, list_all}
 use Rattle.std.proofs.lemmas.List.{get_or_default}
 use Rattle.cell_arena.specs.Chain.{Record}
-use Rattle.cell_arena.specs.Held.{Held}
+use Rattle.cell_arena.specs.Region.{RegionState}
 use Rattle.etcd_types.specs.declared.key_value.KeyValue.{KeyValue}
 use Rattle.etcd_types.specs.declared.txn.Compare.{Compare}
 use Rattle.etcd_model.specs.Compares.{holds_of}
@@ -41,7 +41,7 @@ shown_by_their_keys cells r changes [] = refl
 shown_by_their_keys cells r changes (c ∷ cs) = ap (cons_option (live (key_at cells c) r changes)) (shown_by_their_keys cells r changes cs)
 
 -- what the heads of a span show are the rows of its interval, in a log
-pub log_shows : (region : Held) (heads : Heads) (order : List ℕ) (places leases : ℕ) (records : FinMap nat_cmp Record) (changes : List Recorded) (key end : List ℕ) (r from to : ℕ) (hs : List ℕ) → IsLog region heads order places leases → region.records ≡ records → changes_in (cells_of region.records) order ≡ changes → hs ≡ heads.cells
+pub log_shows : (region : RegionState) (heads : Heads) (order : List ℕ) (places leases : ℕ) (records : FinMap nat_cmp Record) (changes : List Recorded) (key end : List ℕ) (r from to : ℕ) (hs : List ℕ) → IsLog region heads order places leases → region.records ≡ records → changes_in (cells_of region.records) order ≡ changes → hs ≡ heads.cells
     → IsSpan (cells_of records) heads.cells key end from to → rows_shown (cells_of records) r changes (slice_range hs from to) ≡ rows (is_in key end) r changes
 log_shows region heads order places leases records changes key end r from to hs log same is heads_are span =
     shown_by_their_keys (cells_of records) r changes (slice_range hs from to)

@@ -9,7 +9,7 @@ use Rattle.std.proofs.lemmas.Bool.{cases_eq}
 use Rattle.std.proofs.lemmas.List.Elements.{All-head, All-tail}
 use Rattle.std.proofs.lemmas.List.Sums.{sum_by-cons, sum_by_push}
 use Rattle.cell_arena.specs.Chain.{Record}
-use Rattle.cell_arena.specs.Held.{Held, no_records}
+use Rattle.cell_arena.specs.Region.{RegionState, no_records}
 use Rattle.etcd_types.specs.declared.key_value.KeyValue.{KeyValue}
 use Rattle.etcd_model.specs.Changes.{Recorded, Rises, change_by, change_of}
 use Rattle.etcd_model.specs.Kept.{cost}
@@ -99,7 +99,7 @@ order_few cells (c ∷ cs) some =
     let split = sum_by-cons (λ (x : Recorded). cost (change_of x)) at.0.change (changes_in cells cs) in
     omega (arith, all, split, some_cells at.0.change, rest)
 
-module _ {r0 : Held} (r1 : Held) {heads0 : Heads} {order : List ℕ} {places leases : ℕ} (c revision : ℕ) (write : Write) (log : IsLog r0 heads0 order places leases) (fresh : get r0.records c ≡ None) (placed : cells_of r1.records ≡ with_record (cells_of r0.records) c (record { change = recorded_in (cells_of r0.records) revision write; older = None })) (free : r1.free + cost_in (cells_of r0.records) write ≡ r0.free) where
+module _ {r0 : RegionState} (r1 : RegionState) {heads0 : Heads} {order : List ℕ} {places leases : ℕ} (c revision : ℕ) (write : Write) (log : IsLog r0 heads0 order places leases) (fresh : get r0.records c ≡ None) (placed : cells_of r1.records ≡ with_record (cells_of r0.records) c (record { change = recorded_in (cells_of r0.records) revision write; older = None })) (free : r1.free + cost_in (cells_of r0.records) write ≡ r0.free) where
   abbrev new_change : Recorded
   new_change = recorded_in (cells_of r0.records) revision write
 
@@ -135,7 +135,7 @@ module _ {r0 : Held} (r1 : Held) {heads0 : Heads} {order : List ℕ} {places lea
       subst (λ (m : Cells). IsPlaced m c) (sym placed) (placed_record (cells_of r0.records) c new_linked fresh_cell
       (each_record (λ x. x.key ≡ new_change.key → x.revision < new_change.revision) (cells_of r0.records) order log.all later))
 
-  module _ (r2 : Held) (same : SameChanges (cells_of r1.records) (cells_of r2.records)) where
+  module _ (r2 : RegionState) (same : SameChanges (cells_of r1.records) (cells_of r2.records)) where
     same_changes : SameChanges (with_record (cells_of r0.records) c new_linked) (cells_of r2.records)
     same_changes = subst (λ (m : Cells). SameChanges m (cells_of r2.records)) placed same
 
@@ -174,7 +174,7 @@ module _ {r0 : Held} (r1 : Held) {heads0 : Heads} {order : List ℕ} {places lea
 
 -- ---- one lease more or fewer
 
-module _ {r0 : Held} (r1 : Held) {heads : Heads} {order : List ℕ} {places leases : ℕ} (c : ℕ) (log : IsLog r0 heads order places leases) (cells : cells_of r1.records ≡ cells_of r0.records) (plain : ArePlain r1.records) (reserved : r1.share.reserved ≡ r0.share.reserved) where
+module _ {r0 : RegionState} (r1 : RegionState) {heads : Heads} {order : List ℕ} {places leases : ℕ} (c : ℕ) (log : IsLog r0 heads order places leases) (cells : cells_of r1.records ≡ cells_of r0.records) (plain : ArePlain r1.records) (reserved : r1.share.reserved ≡ r0.share.reserved) where
   with_counted : (now : ℕ) → AreCounted (leases_of r1.records) now → r1.free + now ≡ r0.free + leases → IsLog r1 heads order places now
   with_counted now counted space =
       let same : record_cells (changes_in (cells_of r1.records) order) ≡ record_cells (changes_in (cells_of r0.records) order) = ap (λ (m : Cells). record_cells (changes_in m order)) cells in

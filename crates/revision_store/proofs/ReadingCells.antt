@@ -6,7 +6,7 @@ use Rattle.std.specs.FinMap.{FinMap, get}
 use Rattle.cell_arena.specs.Chain.{Record}
 use Rattle.cell_arena.specs.declared.cell.Kind.{Kind}
 use Rattle.cell_arena.specs.declared.cell.Kind.TheVariants.{Put, Delete, Lease}
-use Rattle.cell_arena.specs.Held.{Held}
+use Rattle.cell_arena.specs.Region.{RegionState}
 use Rattle.etcd_model.specs.Changes.{Recorded, OwnRow, last}
 use Rattle.key_index.specs.Links.{Cells, Linked, change_at, IsChained, IsLast, NoneUpTo}
 use Rattle.key_index.specs.Index.{Heads}
@@ -39,7 +39,7 @@ last_told cells order key r (Some c) chained all rises h =
     change_some cells c h.of_key.0 h.of_key.1 ∙ sym (last_in_order cells order key r c h.of_key.0 chained all rises h h.of_key.1)
 
 -- the same of a log, whose records and changes are seen as these
-pub log_last : (region : Held) (heads : Heads) (order : List ℕ) (places leases : ℕ) (records : FinMap nat_cmp Record) (changes : List Recorded) (key : List ℕ) (r : ℕ) (found : Option ℕ) → IsLog region heads order places leases → region.records ≡ records → changes_in (cells_of region.records) order ≡ changes
+pub log_last : (region : RegionState) (heads : Heads) (order : List ℕ) (places leases : ℕ) (records : FinMap nat_cmp Record) (changes : List Recorded) (key : List ℕ) (r : ℕ) (found : Option ℕ) → IsLog region heads order places leases → region.records ≡ records → changes_in (cells_of region.records) order ≡ changes
     → MatchOption found (NoneUpTo (cells_of records) key r) (IsLast (cells_of records) key r) → option_and_then (change_at (cells_of records)) found ≡ last key r changes
 log_last region heads order places leases records changes key r found log same is h =
     subst (λ (m : FinMap nat_cmp Record). MatchOption found (NoneUpTo (cells_of m) key r) (IsLast (cells_of m) key r) → option_and_then (change_at (cells_of m)) found ≡ last key r (changes_in (cells_of region.records) order)) same

@@ -13,7 +13,7 @@ use Rattle.std.proofs.lemmas.Bool.{false_from_ne_true, or_parts}
 use Rattle.std.proofs.lemmas.List.{append-nil, get_or-drop, get_or-take, get_or_default, length-append, length-drop, length-take, map-append, take_all, take_more}
 use Rattle.std.proofs.lemmas.List.Elements.{filter_map-append}
 use Rattle.cell_arena.specs.Chain.{Record}
-use Rattle.cell_arena.specs.Held.{Held}
+use Rattle.cell_arena.specs.Region.{RegionState}
 use Rattle.etcd_types.specs.declared.key_value.KeyValue.{KeyValue}
 use Rattle.etcd_model.specs.Order.{key_cmp}
 use Rattle.etcd_model.specs.Interval.{is_in, every_key}
@@ -192,7 +192,7 @@ module _ (cells : Cells) (heads order : List ℕ) (index : IsIndexOf cells heads
       ∙ sym (rows_inside (changes_in cells order) owned r (is_in key end))
 
 -- the cells that are found of all heads of a span are those of the rows of its interval, in a log
-pub log_rows : (region : Held) (heads : Heads) (order : List ℕ) (places leases : ℕ) (records : FinMap nat_cmp Record) (changes : List Recorded) (key end : List ℕ) (r from to : ℕ) (hs found : List ℕ) (i : ℕ) → IsLog region heads order places leases → region.records ≡ records → changes_in (cells_of region.records) order ≡ changes → hs ≡ heads.cells
+pub log_rows : (region : RegionState) (heads : Heads) (order : List ℕ) (places leases : ℕ) (records : FinMap nat_cmp Record) (changes : List Recorded) (key end : List ℕ) (r from to : ℕ) (hs found : List ℕ) (i : ℕ) → IsLog region heads order places leases → region.records ≡ records → changes_in (cells_of region.records) order ≡ changes → hs ≡ heads.cells
     → IsSpan (cells_of records) heads.cells key end from to → length (slice_range hs from to) ≤ i → HasFound (λ k. live k r changes) (cells_of records) (take i (slice_range hs from to)) found → map (row_at (cells_of records)) found ≡ map Some (rows (is_in key end) r changes)
 log_rows region heads order places leases records changes key end r from to hs found i log same is heads_are span whole all =
     all.are ∙ ap (map Some) (ap (shown (λ k. live k r changes) (cells_of records)) (take_all i (slice_range hs from to) whole ∙ ap (λ (ys : List ℕ). slice_range ys from to) heads_are)

@@ -9,7 +9,7 @@ use Rattle.std.proofs.lemmas.Bool.{cases_eq}
 use Rattle.cell_arena.specs.declared.cell.Kind.{Kind}
 use Rattle.cell_arena.specs.declared.cell.Kind.TheVariants.{Put, Delete, Lease}
 use Rattle.cell_arena.specs.Chain.{Record}
-use Rattle.cell_arena.specs.Held.{cost}
+use Rattle.cell_arena.specs.Region.{cost}
 use Rattle.etcd_model.specs.Changes.{change_of}
 use Rattle.etcd_model.specs.Kept.{cost as cost_of_change}
 use Rattle.key_index.specs.Compaction.{cost_of}

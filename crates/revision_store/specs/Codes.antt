@@ -10,9 +10,17 @@ bytes_code = coded_list coded_ℕ
 
 abbrev pub row_code : Coded KeyValue
 row_code =
-    code_by ((List ℕ × ℕ) × ((ℕ × ℕ) × (List ℕ × ℤ))) (coded× (coded× bytes_code coded_ℕ) (coded× (coded× coded_ℕ coded_ℕ) (coded× bytes_code coded_ℤ)))
+    code_by ((List ℕ × ℕ) × ((ℕ × ℕ) × (List ℕ × ℤ)))
+    (coded× (coded× bytes_code coded_ℕ) (coded× (coded× coded_ℕ coded_ℕ) (coded× bytes_code coded_ℤ)))
     (λ r. ((r.key, r.create_revision), ((r.mod_revision, r.version), (r.value, r.lease))))
-    (λ p. record { key = p.0.0; create_revision = p.0.1; mod_revision = p.1.0.0; version = p.1.0.1; value = p.1.1.0; lease = p.1.1.1 })
+    (λ p. record {
+      key = p.0.0;
+      create_revision = p.0.1;
+      mod_revision = p.1.0.0;
+      version = p.1.0.1;
+      value = p.1.1.0;
+      lease = p.1.1.1;
+    })
     (λ _. refl)
 
 abbrev pub recorded_code : Coded Recorded

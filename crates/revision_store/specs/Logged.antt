@@ -5,7 +5,7 @@ use Rattle.std.specs.FinMap.{FinMap}
 use Rattle.std.specs.FinMap as map
 use Rattle.std.specs.Coded.{Coded, code_by, coded×, coded_ℕ}
 use Rattle.cell_arena.specs.Chain.{Record}
-use Rattle.cell_arena.specs.Held.{Held, no_records, record_code}
+use Rattle.cell_arena.specs.Region.{RegionState, no_records, record_code}
 use Rattle.cell_arena.specs.Loan.{Share, share_code}
 use Rattle.etcd_model.specs.Changes.{Recorded, Rises}
 use Rattle.etcd_model.specs.Store.{record_cells}
@@ -29,11 +29,17 @@ log_code =
     code_by (List Recorded × (FinMap nat_cmp Record × ((ℕ × ℕ) × Share)))
     (coded× changes_code (coded× (map.code coded_ℕ record_code) (coded× (coded× coded_ℕ coded_ℕ) share_code)))
     (λ l. (l.changes, (l.records, ((l.lease_cells, l.free), l.share))))
-    (λ p. record { changes = p.0; records = p.1.0; lease_cells = p.1.1.0.0; free = p.1.1.0.1; share = p.1.1.1 })
+    (λ p. record {
+      changes = p.0;
+      records = p.1.0;
+      lease_cells = p.1.1.0.0;
+      free = p.1.1.0.1;
+      share = p.1.1.1;
+    })
     (λ _. refl)
 
 -- the log of a region whose changes are in this order, and in which so many cells have a lease
-abbrev pub log_of : Held → List ℕ → ℕ → LogState
+abbrev pub log_of : RegionState → List ℕ → ℕ → LogState
 log_of region order lease_cells = record {
   changes = changes_in (cells_of region.records) order;
   records = region.records;
@@ -47,14 +53,16 @@ abbrev pub empty_log : ℕ → LogState
 empty_log cells = log_of (no_records cells) [] 0
 
 -- index, links, order and capacities agree with the records, and each cell in use is of a change or a lease
-pub record IsLog (region : Held) (heads : Heads) (order : List ℕ) (places lease_cells : ℕ) : Type 0 where
+pub record IsLog (region : RegionState) (heads : Heads) (order : List ℕ) (places lease_cells : ℕ) :
+    Type 0 where
   pub index : IsIndexOf (cells_of region.records) heads.cells
   pub chained : IsChained (cells_of region.records)
   pub all : AreAll (cells_of region.records) order
   pub rises : Rises (changes_in (cells_of region.records) order)
   pub plain : ArePlain region.records
   pub leases : AreCounted (leases_of region.records) lease_cells
-  pub space : region.free + record_cells (changes_in (cells_of region.records) order) + lease_cells ≡ 64 * region.share.reserved
+  pub space : region.free + record_cells (changes_in (cells_of region.records) order) + lease_cells
+      ≡ 64 * region.share.reserved
   pub most : 64 * region.share.reserved ≤ 2 ^ 20
   pub index_capacity : 64 * region.share.reserved ≤ heads.capacity
   pub order_capacity : 64 * region.share.reserved ≤ places

@@ -1,5 +1,7 @@
 -- Changes that are pending over a store, as reads find them: the last that touches a key says what it is.
-use Rattle.std.specs.Prelude.{◌≡◌, ℕ, ◌+◌, ◌*◌, ◌<◌, ◌^◌, ◌&&◌, ◌||◌, ◌⊎◌, ℤ, Bool, not, List, length, filter, filter_map, option_and_then, option_map, Option, Some, None, IsSome, slice_get, if◌then◌else◌, refl}
+use Rattle.std.specs.Prelude.{◌≡◌, ℕ, ◌+◌, ◌*◌, ◌<◌, ◌^◌, ◌&&◌, ◌||◌, ◌⊎◌, ℤ, Bool, not, List, length}
+use Rattle.std.specs.Prelude.{filter, filter_map, option_and_then, option_map, Option, Some, None, IsSome}
+use Rattle.std.specs.Prelude.{slice_get, if◌then◌else◌, refl}
 use mathlib.Core.Logic.{inl, inr}
 use Rattle.std.specs.List.{AllByRecursion, list_any}
 use Rattle.std.specs.Option.{option_or}
@@ -45,7 +47,8 @@ joined-parted (Set key value lease) = refl
 joined-parted (Del key) = refl
 
 abbrev pub change_code : Coded Change
-change_code = code_by ((List ℕ × (List ℕ × ℤ)) ⊎ List ℕ) (coded⊎ (coded× bytes_code (coded× bytes_code coded_ℤ)) bytes_code) parted joined joined-parted
+change_code = code_by ((List ℕ × (List ℕ × ℤ)) ⊎ List ℕ)
+    (coded⊎ (coded× bytes_code (coded× bytes_code coded_ℤ)) bytes_code) parted joined joined-parted
 
 abbrev pub pending_code : Coded PendingState
 pending_code =
@@ -97,7 +100,8 @@ is_erased deletes key = list_any (λ d. is_in d.key d.range_end key) deletes
 
 -- what of the store a key shows, where its interval wasn't deleted
 abbrev pub left_by : List DeleteReq → StoreState → List ℕ → Option KeyValue
-left_by deletes store key = if is_erased deletes key then None else live key store.kept.current store.kept.changes
+left_by deletes store key = if is_erased deletes key then None
+    else live key store.kept.current store.kept.changes
 
 abbrev pub row_seen : StoreState → List KeyValue → List DeleteReq → List ℕ → Option KeyValue
 row_seen store puts deletes key = option_or (row_put_to key puts) (left_by deletes store key)
@@ -112,22 +116,25 @@ left_cells cells deletes cs = filter (λ c. not (is_erased deletes (key_at cells
 
 -- ---- invariants
 
--- a store as appends and compactions make it, with numbers that are within its revisions, each cell of which is free
--- or of a change or a lease
+-- a store as appends and compactions make it, with numbers that are within its revisions, each cell
+-- of which is free or of a change or a lease
 pub record IsSound (store : StoreState) : Type 0 where
   pub kept : IsStore store.kept
   pub numbers : AllByRecursion HasNumbers store.kept.changes
   pub short : store.kept.current < 2 ^ 63
   pub space : store.free + record_cells store.kept.changes + store.lease_cells ≡ 64 * store.share.reserved
 
--- writes that can be the next revision of a store, within the revisions, and all that touches a key among them
-pub record IsPending (store : StoreState) (writes : List Write) (places : List ℕ) (deletes : List DeleteReq) : Type 0 where
+-- writes that can be the next revision of a store, within the revisions, and all that touches a key
+-- among them
+pub record IsPending (store : StoreState) (writes : List Write) (places : List ℕ)
+    (deletes : List DeleteReq) : Type 0 where
   pub sound : IsSound store
   pub plan : IsPlanFor store writes
   pub short : (look store (changes_of store writes)).current < 2 ^ 63
   pub within : AllByRecursion (λ place. place < length writes) places
   pub puts : rows_at writes places ≡ filter_map put_row writes
-  pub seen : (key : List ℕ) → row_seen store (rows_at writes places) deletes key ≡ (look store (changes_of store writes)).row key
+  pub seen : (key : List ℕ) → row_seen store (rows_at writes places) deletes key
+      ≡ (look store (changes_of store writes)).row key
 
 -- ---- a put
 

@@ -1,5 +1,6 @@
 -- What a plan writes.
-use Rattle.std.specs.Prelude.{◌≡◌, ℕ, ◌+◌, ◌<◌, ◌==◌, if◌then◌else◌, List, [], ◌∷◌, ◌++◌, map, sum_by, Some, None, IsSome, option_map, unwrap_or}
+use Rattle.std.specs.Prelude.{◌≡◌, ℕ, ◌+◌, ◌<◌, ◌==◌, if◌then◌else◌, List, [], ◌∷◌, ◌++◌, map, sum_by, Some}
+use Rattle.std.specs.Prelude.{None, IsSome, option_map, unwrap_or}
 use Rattle.std.specs.List.{AllByRecursion}
 use Rattle.etcd_model.specs.declared.state.Change.{Change}
 use Rattle.etcd_model.specs.declared.state.Change.TheVariants.{Put as Set, Delete as Del}
@@ -39,13 +40,16 @@ cost_in cells write = cost (change_in cells write)
 abbrev pub costs_in : Cells → List Write → ℕ
 costs_in cells writes = sum_by (cost_in cells) writes
 
--- By how many cells a write raises those that count: a put takes its record, and room for a delete of its key where it
--- creates that, and a delete takes the room that was held for it.
+-- By how many cells a write raises those that count: a put takes its record, and room for a delete
+-- of its key where it creates that, and a delete takes the room that was held for it.
 abbrev pub growth_of : Write → ℕ
-growth_of (Put row) = cost_put row.key row.value + (if row.create_revision == row.mod_revision then cost_delete row.key else 0)
+growth_of (Put row) = cost_put row.key row.value + (if row.create_revision == row.mod_revision
+    then cost_delete row.key else 0)
 growth_of (Delete cell) = 0
 
 -- each in turn is later than what its key has
 abbrev pub AreFresh : Cells → ℕ → List Recorded → List Write → Type 0
 AreFresh cells revision changes [] = Unit {0}
-AreFresh cells revision changes (write ∷ writes) = AllByRecursion (λ x. x.key ≡ (recorded_in cells revision write).key → x.revision < revision) changes × AreFresh cells revision (changes ++ recorded_in cells revision write ∷ []) writes
+AreFresh cells revision changes (write ∷ writes) = AllByRecursion
+    (λ x. x.key ≡ (recorded_in cells revision write).key → x.revision < revision) changes
+    × AreFresh cells revision (changes ++ recorded_in cells revision write ∷ []) writes

@@ -1,5 +1,6 @@
 -- The rows under some cells, and what of them a range reads.
-use Rattle.std.specs.Prelude.{ℕ, Bool, true, false, not, ◌||◌, List, filter, filter_map, Option, Some, None, if◌then◌else◌}
+use Rattle.std.specs.Prelude.{ℕ, Bool, true, false, not, ◌||◌, List, filter, filter_map, Option, Some, None}
+use Rattle.std.specs.Prelude.{if◌then◌else◌}
 use Rattle.etcd_types.specs.declared.key_value.KeyValue.{KeyValue}
 use Rattle.etcd_types.specs.declared.kv.RangeReq.{RangeReq}
 use Rattle.etcd_types.specs.declared.kv.SortTarget.{SortTarget}

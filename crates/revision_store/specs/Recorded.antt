@@ -1,5 +1,6 @@
 -- What the records of a region are to a store: changes of keys, and leases.
-use Rattle.std.specs.Prelude.{◌≡◌, ℕ, ℤ, List, [], length, Option, Some, None, IsSome, option_and_then, if◌then◌else◌, ◌==◌}
+use Rattle.std.specs.Prelude.{◌≡◌, ℕ, ℤ, List, [], length, Option, Some, None, IsSome, option_and_then}
+use Rattle.std.specs.Prelude.{if◌then◌else◌, ◌==◌}
 use Rattle.std.specs.Ordering.{nat_cmp}
 use Rattle.std.specs.FinMap.{FinMap, get}
 use Rattle.etcd_types.specs.declared.key_value.KeyValue.{KeyValue}
@@ -21,8 +22,13 @@ row_of r = record {
 
 -- a change of a key with its link, by the kind of the record
 abbrev pub linked_by : Kind → Record → Option Linked
-linked_by Put r = Some (record { change = record { key = r.key; revision = r.fields.revision; row = Some (row_of r) }; older = r.older })
-linked_by Delete r = Some (record { change = record { key = r.key; revision = r.fields.revision; row = None }; older = r.older })
+linked_by Put r = Some
+    (record {
+      change = record { key = r.key; revision = r.fields.revision; row = Some (row_of r) };
+      older = r.older;
+    })
+linked_by Delete r = Some
+    (record { change = record { key = r.key; revision = r.fields.revision; row = None }; older = r.older })
 linked_by Lease r = None
 
 abbrev pub linked_of : Record → Option Linked

@@ -6,7 +6,7 @@ use Rattle.std.specs.FinMap.{FinMap}
 use Rattle.std.specs.FinMap as map
 use Rattle.std.specs.Coded.{Coded, code_by, coded×, coded_ℕ}
 use Rattle.cell_arena.specs.Chain.{Record}
-use Rattle.cell_arena.specs.Held.{record_code}
+use Rattle.cell_arena.specs.Region.{record_code}
 use Rattle.cell_arena.specs.Loan.{Share, share_code}
 use Rattle.etcd_types.specs.declared.key_value.KeyValue.{KeyValue}
 use Rattle.etcd_model.specs.declared.state.Change.{Change}
@@ -76,10 +76,13 @@ changes_of store writes = map (change_in (cells store)) writes
 
 -- a put goes on from what its key is, and a delete is of a key that is live, under the cell of its row
 abbrev pub Follows : StoreState → Write → Type 0
-Follows store (Put row) = next_row (store.kept.current + 1) (live row.key store.kept.current store.kept.changes) (change_in (cells store) (Put row)) ≡ Some row
-Follows store (Delete cell) = (row : KeyValue) × (row_at (cells store) cell ≡ Some row) × (live row.key store.kept.current store.kept.changes ≡ Some row)
+Follows store (Put row) = next_row (store.kept.current + 1)
+    (live row.key store.kept.current store.kept.changes) (change_in (cells store) (Put row)) ≡ Some row
+Follows store (Delete cell) = (row : KeyValue) × (row_at (cells store) cell ≡ Some row)
+    × (live row.key store.kept.current store.kept.changes ≡ Some row)
 
--- some writes that can be the store's next revision: each goes on from what is there, and each key changes once
+-- some writes that can be the store's next revision: each goes on from what is there, and each key
+-- changes once
 pub record IsPlanFor (store : StoreState) (writes : List Write) : Type 0 where
   pub follow : AllByRecursion (Follows store) writes
   pub once : IsOnce (changes_of store writes)
@@ -94,8 +97,8 @@ pub record CanCommit (store : StoreState) (writes : List Write) : Type 0 where
   pub space : HasSpace store writes
   pub revisions : store.kept.current + 1 < 2 ^ 63
 
--- What they leave: what is kept has their changes as one more revision, the cells that they cost are taken, and
--- the leases are as they were.
+-- What they leave: what is kept has their changes as one more revision, the cells that they cost
+-- are taken, and the leases are as they were.
 pub record Commits (old new : StoreState) (writes : List Write) : Type 0 where
   pub kept : new.kept ≡ after old.kept (changes_of old writes)
   pub free : new.free + costs_in (cells old) writes ≡ old.free
@@ -103,7 +106,7 @@ pub record Commits (old new : StoreState) (writes : List Write) : Type 0 where
   pub lease_cells : new.lease_cells ≡ old.lease_cells
 
 -- a log of changes up to a revision, with numbers that are within it
-pub record IsKept (log : LogState) (current last_compaction : ℕ) : Type 0 where
+pub record IsKeptUpTo (log : LogState) (current last_compaction : ℕ) : Type 0 where
   pub up : AllByRecursion (λ x. x.revision ≤ current) log.changes
   pub numbers : AllByRecursion HasNumbers log.changes
   pub compacted : last_compaction ≤ current

@@ -31,7 +31,9 @@ impl Log {
     /// The newest changes of the keys of an interval.
     fn heads_in(&self, key: &[u8], range_end: &[u8]) -> &[CellNo]
         ensures newest { AllByRecursion (IsNewest (cells_of self.now.records)) result.now }
-        ensures rows { (revision : ℕ) → rows_shown (cells_of self.now.records) revision self.now.changes result.now ≡ rows (is_in key.now range_end.now) revision self.now.changes }
+        ensures rows { (revision : ℕ)
+            → rows_shown (cells_of self.now.records) revision self.now.changes result.now
+            ≡ rows (is_in key.now range_end.now) revision self.now.changes }
     {
         let span = self.index.span(&Reader::new(&self.region), key, range_end);
         &self.index.heads()[span.start..span.end]
@@ -40,7 +42,9 @@ impl Log {
     /// Whether a compare holds of the rows that some keys show at a revision, by the newest changes of those.
     fn holds_of(&self, heads: &[CellNo], compare: &Compare, revision: u64) -> bool
         requires { AllByRecursion (IsNewest (cells_of self.now.records)) heads.now }
-        ensures { result ≡ holds_of compare.now (rows_shown (cells_of self.now.records) revision self.now.changes heads.now) }
+        ensures { result
+            ≡ holds_of compare.now
+            (rows_shown (cells_of self.now.records) revision self.now.changes heads.now) }
     {
         let mut any = false;
         for head in heads {
@@ -65,7 +69,8 @@ impl Log {
     /// How the row under a cell stands to an operand.
     fn operand_cmp(&self, cell: CellNo, operand: &Operand) -> Ordering
         requires { IsSome (row_at (cells_of self.now.records) cell) }
-        ensures { IfSome (row_at (cells_of self.now.records) cell) (λ row. result ≡ operand_cmp row operand.now) }
+        ensures { IfSome (row_at (cells_of self.now.records) cell)
+            (λ row. result ≡ operand_cmp row operand.now) }
     {
         let fields = self.region.fields(cell);
         match operand {

@@ -29,7 +29,9 @@ pub(crate) fn cut<S: Segments>(
     ensures chained { IsChained (cells_of region.new.records) }
     ensures compacted { IsCompacted (cells_of region.old.records) (cells_of region.new.records) revision }
     ensures capacity { index.new.capacity ≡ index.old.capacity }
-    ensures free { GivesBack (λ x. cost (change_of x)) (cells_of region.old.records) (cells_of region.new.records) region.old.free region.new.free }
+    ensures free { GivesBack
+        (λ x. cost (change_of x)) (cells_of region.old.records) (cells_of region.new.records)
+        region.old.free region.new.free }
     ensures rest { KeepsRest region.old (S.loan segments.old) region.new (S.loan segments.new) }
     ensures plain { ArePlain region.new.records }
 {

@@ -118,7 +118,8 @@ impl Log {
     pub(crate) fn cut<S: Segments>(&mut self, segments: &mut S, revision: u64)
         requires lent { IsLent self.old.share (S.loan segments.old) }
         ensures changes { self.new.changes ≡ kept revision self.old.changes }
-        ensures free { self.new.free + record_cells self.new.changes ≡ self.old.free + record_cells self.old.changes }
+        ensures free { self.new.free + record_cells self.new.changes
+            ≡ self.old.free + record_cells self.old.changes }
         ensures leases { leases_of self.new.records ≡ leases_of self.old.records }
         ensures lease_cells { self.new.lease_cells ≡ self.old.lease_cells }
         ensures none_drawn { DrawsNone self.old.share self.new.share }
@@ -136,7 +137,8 @@ impl Log {
         ensures fresh { finite.get self.old.records result ≡ None }
         ensures changes { self.new.changes ≡ self.old.changes }
         ensures cells { cells_of self.new.records ≡ cells_of self.old.records }
-        ensures leases { leases_of self.new.records ≡ with_lease (leases_of self.old.records) result (record { id = id; ttl = ttl }) }
+        ensures leases { leases_of self.new.records
+            ≡ with_lease (leases_of self.old.records) result (record { id = id; ttl = ttl }) }
         ensures lease_cells { self.new.lease_cells ≡ self.old.lease_cells + 1 }
         ensures free { self.new.free + 1 ≡ self.old.free }
         ensures draws { DrawsFor (used_in self.new) self.old.share self.new.share }
@@ -170,7 +172,8 @@ impl Log {
     pub(crate) fn keep_in_order(&self)
         ensures rises { Rises self.now.changes }
         ensures own { AllByRecursion OwnRow self.now.changes }
-        ensures space { self.now.free + record_cells self.now.changes + self.now.lease_cells ≡ 64 * self.now.share.reserved }
+        ensures space { self.now.free + record_cells self.now.changes + self.now.lease_cells
+            ≡ 64 * self.now.share.reserved }
     {
         let _ = &self.order;
     }

@@ -1,7 +1,9 @@
 //! Changes that are pending.
-ghost use Rattle.std.specs.Prelude.{◌≡◌, ◌+◌, ◌<◌, ◌^◌, [], false, map, pos, Some, None, IfOk, OnOk, OnErr, if◌then◌else◌};
+ghost use Rattle.std.specs.Prelude.{◌≡◌, ◌+◌, ◌<◌, ◌^◌, [], false, map, pos, Some, None, IfOk, OnOk, OnErr};
+ghost use Rattle.std.specs.Prelude.{if◌then◌else◌};
 ghost use Rattle.etcd_types.specs.declared.reply.OpReply.TheVariants.{Put as PutReply, Delete as DeleteReply};
-ghost use Rattle.etcd_types.specs.declared.txn.Op.TheVariants.{Range as RangeOp, Put as PutOp, Delete as DeleteOp};
+ghost use Rattle.etcd_types.specs.declared.txn.Op.TheVariants.{Range as RangeOp, Put as PutOp};
+ghost use Rattle.etcd_types.specs.declared.txn.Op.TheVariants.{Delete as DeleteOp};
 ghost use Rattle.etcd_model.specs.Changes.{version_of};
 ghost use Rattle.etcd_model.specs.Operations.{and_changes, op_reply, row_put, value_put};
 ghost use Rattle.etcd_model.specs.Reads.{revision_read, unreadable};
@@ -41,7 +43,8 @@ impl<'a> Model for Pending<'a> {
 
     ghost view = { λ p. record { store = p.store.now; changes = changes_of p.store.now p.writes.items } };
 
-    ghost invariant = { λ p. IsPending p.store.now p.writes.items p.puts.items (map (λ d. d.now) p.deletes.items) };
+    ghost invariant = { λ p.
+        IsPending p.store.now p.writes.items p.puts.items (map (λ d. d.now) p.deletes.items) };
 }
 
 impl<'a> Pending<'a> {
@@ -84,10 +87,14 @@ impl<'a> Pending<'a> {
         Ok(rows)
     }
 
-    /// Reads an interval, the newest rows with what is pending among them, or at a revision above 0 the store's.
+    /// Reads an interval, the newest rows with what is pending among them, or at a revision above 0
+    /// the store's.
     pub fn range(&self, alloc: Global, request: &RangeReq) -> Mem<OpReply>
-        requires { unreadable (reads self.now.store) (revision_read (reads self.now.store) request.now.revision) ≡ None }
-        ensures { IfOk result (λ reply. reply ≡ op_reply (pending_reads self.now) (pending_reads self.now).current (RangeOp request.now)) }
+        requires { unreadable (reads self.now.store)
+            (revision_read (reads self.now.store) request.now.revision) ≡ None }
+        ensures { IfOk result
+            (λ reply. reply
+            ≡ op_reply (pending_reads self.now) (pending_reads self.now).current (RangeOp request.now)) }
     {
         let key = request.key.as_slice();
         let range_end = request.range_end.as_slice();
@@ -103,12 +110,19 @@ impl<'a> Pending<'a> {
         range_reply(alloc, &store.log, request, cells, self.current())
     }
 
-    /// Puts a key that nothing pending changes, and answers as if it was done. Without memory nothing changes.
+    /// Puts a key that nothing pending changes, and answers as if it was done. Without memory
+    /// nothing changes.
     pub fn add_put(&mut self, alloc: Global, request: &PutReq) -> Mem<OpReply>
         requires once { changes_key request.now.key self.old.changes ≡ false }
         requires revisions { self.old.store.kept.current + 1 < 2 ^ 63 }
-        ensures changes { OnOk result (self.new ≡ record { store = self.old.store; changes = and_changes (look self.old.store) self.old.changes (PutOp request.now) }) }
-        ensures reply { IfOk result (λ reply. reply ≡ op_reply (pending_reads self.old) (self.old.store.kept.current + 1) (PutOp request.now)) }
+        ensures changes { OnOk result (self.new
+            ≡ record {
+              store = self.old.store;
+              changes = and_changes (look self.old.store) self.old.changes (PutOp request.now);
+            }) }
+        ensures reply { IfOk result
+            (λ reply. reply
+            ≡ op_reply (pending_reads self.old) (self.old.store.kept.current + 1) (PutOp request.now)) }
         ensures memory { OnErr result (self.new ≡ self.old) }
     {
         let now = present(alloc, self.store, request)?;
@@ -121,13 +135,19 @@ impl<'a> Pending<'a> {
         Ok(put_reply(revision, row_asked(now, request.prev_kv)))
     }
 
-    /// Deletes the live keys of an interval that nothing pending puts, and answers as if it was done. Without memory
-    /// nothing changes.
+    /// Deletes the live keys of an interval that nothing pending puts, and answers as if it was
+    /// done. Without memory nothing changes.
     pub fn add_delete(&mut self, alloc: Global, request: &'a DeleteReq) -> Mem<OpReply>
         requires once { puts_inside request.now self.old.changes ≡ false }
         requires revisions { self.old.store.kept.current + 1 < 2 ^ 63 }
-        ensures changes { OnOk result (self.new ≡ record { store = self.old.store; changes = and_changes (look self.old.store) self.old.changes (DeleteOp request.now) }) }
-        ensures reply { IfOk result (λ reply. reply ≡ op_reply (pending_reads self.old) (pending_reads self.new).current (DeleteOp request.now)) }
+        ensures changes { OnOk result (self.new
+            ≡ record {
+              store = self.old.store;
+              changes = and_changes (look self.old.store) self.old.changes (DeleteOp request.now);
+            }) }
+        ensures reply { IfOk result
+            (λ reply. reply
+            ≡ op_reply (pending_reads self.old) (pending_reads self.new).current (DeleteOp request.now)) }
         ensures memory { OnErr result (self.new ≡ self.old) }
     {
         let cells = self.live_cells(alloc, request.key.as_slice(), request.range_end.as_slice())?;
@@ -142,7 +162,9 @@ impl<'a> Pending<'a> {
     /// The cells of the rows of an interval that nothing pending puts.
     fn live_cells(&self, alloc: Global, key: &[u8], range_end: &[u8]) -> Mem<Vec<CellNo>>
         requires { puts_within key.now range_end.now self.now.changes ≡ false }
-        ensures { IfOk result (λ found. map (row_at (cells self.now.store)) found.items ≡ map Some ((pending_reads self.now).rows key.now range_end.now)) }
+        ensures { IfOk result
+            (λ found. map (row_at (cells self.now.store)) found.items
+            ≡ map Some ((pending_reads self.now).rows key.now range_end.now)) }
     {
         let store = self.store;
         let live = store

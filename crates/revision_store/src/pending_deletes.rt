@@ -38,7 +38,9 @@ pub(crate) fn left_cells(
     deletes: &[&DeleteReq],
 ) -> Mem<Vec<CellNo>>
     requires { AreRows (cells_of log.now.records) cells.items }
-    ensures { IfOk result (λ left. left.items ≡ left_cells (cells_of log.now.records) (map (λ d. d.now) deletes.now) cells.items) }
+    ensures { IfOk result
+        (λ left. left.items
+        ≡ left_cells (cells_of log.now.records) (map (λ d. d.now) deletes.now) cells.items) }
 {
     if deletes.is_empty() {
         return Ok(cells);
@@ -54,7 +56,9 @@ fn without_erased(
     deletes: &[&DeleteReq],
 ) -> Mem<Vec<CellNo>>
     requires { AreRows (cells_of log.now.records) cells.now }
-    ensures { IfOk result (λ left. left.items ≡ left_cells (cells_of log.now.records) (map (λ d. d.now) deletes.now) cells.now) }
+    ensures { IfOk result
+        (λ left. left.items
+        ≡ left_cells (cells_of log.now.records) (map (λ d. d.now) deletes.now) cells.now) }
 {
     let mut left = Vec::new(alloc);
     for cell in cells {

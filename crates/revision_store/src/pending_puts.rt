@@ -40,7 +40,8 @@ pub(crate) fn puts_in(writes: &[Write], places: &[usize], key: &[u8], range_end:
 fn place_of(rows: &[KeyValue], row: &KeyValue) -> Result<usize, usize>
     requires { IsStrictlySortedBy by_key rows.now }
     ensures within { MatchResult result (λ i. i < length rows.now) (λ i. i ≤ length rows.now) }
-    ensures place { MatchResult result (λ i. put_in by_key rows.now row.now ≡ set rows.now i row.now) (λ i. put_in by_key rows.now row.now ≡ insert rows.now i row.now) }
+    ensures place { MatchResult result (λ i. put_in by_key rows.now row.now ≡ set rows.now i row.now)
+        (λ i. put_in by_key rows.now row.now ≡ insert rows.now i row.now) }
 {
     let mut low = 0;
     let mut high = rows.len();
@@ -78,7 +79,9 @@ pub(crate) fn put_rows(
     range_end: &[u8],
 ) -> Mem<()>
     requires { IsStrictlySortedBy by_key rows.old.items }
-    ensures { OnOk result (rows.new.items ≡ fold (put_in by_key) rows.old.items (filter (λ row. is_in key.now range_end.now row.key) (rows_at writes.now places.now))) }
+    ensures { OnOk result (rows.new.items
+        ≡ fold (put_in by_key) rows.old.items
+        (filter (λ row. is_in key.now range_end.now row.key) (rows_at writes.now places.now))) }
 {
     for place in places {
         match put_at(writes, *place) {

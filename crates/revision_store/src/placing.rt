@@ -1,7 +1,7 @@
 //! Placing the record of a change.
 ghost use Rattle.std.specs.Prelude.{◌≡◌, ◌+◌, ◌≤◌, ℕ, None, pos};
 ghost use Rattle.std.specs.FinMap.{get};
-ghost use Rattle.cell_arena.specs.Held.{used_cells};
+ghost use Rattle.cell_arena.specs.Region.{used_cells};
 ghost use Rattle.cell_arena.specs.Loan.{IsLent, Settles, DrawsFor};
 ghost use Rattle.key_index.specs.Order.{with_record};
 ghost use Rattle.revision_store.specs.Recorded.{ArePlain, cells_of, leases_of};
@@ -23,7 +23,9 @@ pub(crate) fn place<S: Segments>(
     requires space { cost_in (cells_of region.old.records) write.now ≤ region.old.free }
     requires lent { IsLent region.old.share (S.loan segments.old) }
     ensures fresh { get region.old.records result ≡ None }
-    ensures placed { cells_of region.new.records ≡ with_record (cells_of region.old.records) result (record { change = recorded_in (cells_of region.old.records) revision write.now; older = None }) }
+    ensures placed { cells_of region.new.records
+        ≡ with_record (cells_of region.old.records) result
+        (record { change = recorded_in (cells_of region.old.records) revision write.now; older = None }) }
     ensures leases { leases_of region.new.records ≡ leases_of region.old.records }
     ensures plain { ArePlain region.new.records }
     ensures free { region.new.free + cost_in (cells_of region.old.records) write.now ≡ region.old.free }
@@ -44,7 +46,12 @@ pub(crate) fn place<S: Segments>(
 
 /// The numbers of a row.
 fn put_fields(row: &KeyValue) -> Fields
-    ensures { result ≡ record { revision = row.now.mod_revision; create_revision = row.now.create_revision; version = row.now.version; lease = row.now.lease } }
+    ensures { result ≡ record {
+      revision = row.now.mod_revision;
+      create_revision = row.now.create_revision;
+      version = row.now.version;
+      lease = row.now.lease;
+    } }
 {
     Fields {
         revision: row.mod_revision,

@@ -1,5 +1,6 @@
 //! Plans of one operation.
-ghost use Rattle.std.specs.Prelude.{◌≡◌, ◌+◌, ◌<◌, ◌^◌, true, None, Some, IfOk, IsOk, MatchResult, is_some, option_map};
+ghost use Rattle.std.specs.Prelude.{◌≡◌, ◌+◌, ◌<◌, ◌^◌, true, None, Some, IfOk, IsOk, MatchResult, is_some};
+ghost use Rattle.std.specs.Prelude.{option_map};
 ghost use Rattle.etcd_types.specs.declared.txn.Op.TheVariants.{Put as PutOp, Delete as DeleteOp};
 ghost use Rattle.etcd_model.specs.Operations.{changes, op_reply, put_refusal};
 ghost use Rattle.etcd_model.specs.Ranges.{without_value};
@@ -22,8 +23,8 @@ pub struct PlannedOp {
 }
 
 impl Store {
-    /// Why a put is refused: its key is absent, and its value or its lease is to stay. Which leases there are is not
-    /// asked.
+    /// Why a put is refused: its key is absent, and its value or its lease is to stay. Which leases
+    /// there are is not asked.
     pub fn put_refusal(&self, request: &PutReq) -> Option<Refusal>
         ensures { result ≡ put_refusal (reads self.now) request.now }
     {
@@ -37,10 +38,16 @@ impl Store {
     /// Decides a put, or tells why it is refused, which takes no memory.
     pub fn plan_put(&self, alloc: Global, request: &PutReq) -> Mem<Result<PlannedOp, Refusal>>
         requires { self.now.kept.current + 1 < 2 ^ 63 }
-        ensures refusal { IfOk result (λ answer. MatchResult answer (λ planned. put_refusal (reads self.now) request.now ≡ None) (λ refusal. put_refusal (reads self.now) request.now ≡ Some refusal)) }
+        ensures refusal { IfOk result
+            (λ answer. MatchResult answer (λ planned. put_refusal (reads self.now) request.now ≡ None)
+            (λ refusal. put_refusal (reads self.now) request.now ≡ Some refusal)) }
         ensures sure { is_some (put_refusal (reads self.now) request.now) ≡ true → IsOk result }
-        ensures plan { IfOk result (λ answer. IfOk answer (λ planned. IsPlanOf self.now (PutOp request.now) planned.plan)) }
-        ensures reply { IfOk result (λ answer. IfOk answer (λ planned. planned.reply ≡ op_reply (reads self.now) (self.now.kept.current + 1) (PutOp request.now))) }
+        ensures plan { IfOk result
+            (λ answer. IfOk answer (λ planned. IsPlanOf self.now (PutOp request.now) planned.plan)) }
+        ensures reply { IfOk result
+            (λ answer. IfOk answer
+            (λ planned. planned.reply
+            ≡ op_reply (reads self.now) (self.now.kept.current + 1) (PutOp request.now))) }
     {
         if let Some(refusal) = self.put_refusal(request) {
             return Ok(Err(refusal));
@@ -57,7 +64,11 @@ impl Store {
     pub fn plan_delete(&self, alloc: Global, request: &DeleteReq) -> Mem<PlannedOp>
         requires { self.now.kept.current + 1 < 2 ^ 63 }
         ensures plan { IfOk result (λ planned. IsPlanOf self.now (DeleteOp request.now) planned.plan) }
-        ensures reply { IfOk result (λ planned. planned.reply ≡ op_reply (reads self.now) (look self.now (changes (reads self.now) (DeleteOp request.now))).current (DeleteOp request.now)) }
+        ensures reply { IfOk result
+            (λ planned. planned.reply
+            ≡ op_reply (reads self.now)
+            (look self.now (changes (reads self.now) (DeleteOp request.now))).current
+            (DeleteOp request.now)) }
     {
         let mut pending = Pending::new(alloc, self);
         let reply = pending.add_delete(alloc, request)?;

@@ -1,5 +1,6 @@
 //! The answer of a range.
-ghost use Rattle.std.specs.Prelude.{◌≡◌, ◌<◌, ◌^◌, filter, map, pos, true, None, Some, IsSome, is_some, IfOk, IsOk, MatchResult};
+ghost use Rattle.std.specs.Prelude.{◌≡◌, ◌<◌, ◌^◌, filter, map, pos, true, None, Some, IsSome, is_some};
+ghost use Rattle.std.specs.Prelude.{IfOk, IsOk, MatchResult};
 ghost use Rattle.std.specs.List.Sorted.{IsStrictlySortedBy};
 ghost use Rattle.etcd_types.specs.declared.reply.OpReply.TheVariants.{Range as RangeReply};
 ghost use Rattle.etcd_types.specs.declared.txn.Op.TheVariants.{Range as RangeOp};
@@ -21,12 +22,21 @@ use etcd_types::{CellNo, KeyValue, List, Mem, OpReply, RangeReq, Refusal, SortTa
 use std::alloc::Global;
 
 impl Store {
-    /// Reads an interval at a revision, the newest for one of 0 or below. It is refused where that one is compacted or
-    /// still to come, and that takes no memory.
+    /// Reads an interval at a revision, the newest for one of 0 or below. It is refused where that
+    /// one is compacted or still to come, and that takes no memory.
     pub fn plan_range(&self, alloc: Global, request: &RangeReq) -> Mem<Result<OpReply, Refusal>>
-        ensures refusal { IfOk result (λ answer. MatchResult answer (λ reply. unreadable (reads self.now) (revision_read (reads self.now) request.now.revision) ≡ None) (λ refusal. unreadable (reads self.now) (revision_read (reads self.now) request.now.revision) ≡ Some refusal)) }
-        ensures sure { is_some (unreadable (reads self.now) (revision_read (reads self.now) request.now.revision)) ≡ true → IsOk result }
-        ensures reply { IfOk result (λ answer. IfOk answer (λ reply. reply ≡ op_reply (reads self.now) self.now.kept.current (RangeOp request.now))) }
+        ensures refusal { IfOk result
+            (λ answer. MatchResult answer
+            (λ reply. unreadable (reads self.now) (revision_read (reads self.now) request.now.revision)
+            ≡ None) (λ refusal.
+            unreadable (reads self.now) (revision_read (reads self.now) request.now.revision)
+            ≡ Some refusal)) }
+        ensures sure { is_some
+            (unreadable (reads self.now) (revision_read (reads self.now) request.now.revision)) ≡ true
+            → IsOk result }
+        ensures reply { IfOk result
+            (λ answer. IfOk answer
+            (λ reply. reply ≡ op_reply (reads self.now) self.now.kept.current (RangeOp request.now))) }
     {
         if let Some(refusal) = self.unreadable(request.revision) {
             return Ok(Err(refusal));
@@ -36,7 +46,8 @@ impl Store {
 
     /// The same of a revision that can be read, with the revision that is answered.
     pub(crate) fn range_at(&self, alloc: Global, request: &RangeReq, current: u64) -> Mem<OpReply>
-        requires readable { unreadable (reads self.now) (revision_read (reads self.now) request.now.revision) ≡ None }
+        requires readable { unreadable (reads self.now)
+            (revision_read (reads self.now) request.now.revision) ≡ None }
         requires current { current < 2 ^ 63 }
         ensures { IfOk result (λ reply. reply ≡ op_reply (reads self.now) current (RangeOp request.now)) }
     {
@@ -75,8 +86,8 @@ impl Store {
     }
 }
 
-/// What a range is answered at a revision, where the rows under some cells, which ascend by key, are those of its
-/// interval.
+/// What a range is answered at a revision, where the rows under some cells, which ascend by key,
+/// are those of its interval.
 pub(crate) fn range_reply(
     alloc: Global,
     log: &Log,
@@ -87,7 +98,9 @@ pub(crate) fn range_reply(
     requires rows { AreRows (cells_of log.now.records) cells.items }
     requires ascend { IsStrictlySortedBy by_key (rows_of (cells_of log.now.records) cells.items) }
     requires revision { revision < 2 ^ 63 }
-    ensures { IfOk result (λ reply. reply ≡ range_reply revision request.now (rows_of (cells_of log.now.records) cells.items)) }
+    ensures { IfOk result
+        (λ reply. reply
+        ≡ range_reply revision request.now (rows_of (cells_of log.now.records) cells.items)) }
 {
     let count = cells.len() as u64;
     if request.count_only {
@@ -152,7 +165,8 @@ fn wanted_rows(alloc: Global, request: &RangeReq, rows: Vec<KeyValue>) -> Mem<Ve
 /// Those of some cells whose rows pass the filters. With no filter they are all, and none is looked at.
 fn wanted(alloc: Global, log: &Log, request: &RangeReq, cells: Vec<CellNo>) -> Mem<Vec<CellNo>>
     requires { AreRows (cells_of log.now.records) cells.items }
-    ensures { IfOk result (λ found. found.items ≡ wanted_cells (cells_of log.now.records) request.now cells.items) }
+    ensures { IfOk result
+        (λ found. found.items ≡ wanted_cells (cells_of log.now.records) request.now cells.items) }
 {
     if wants_all(request) {
         return Ok(cells);
@@ -163,7 +177,8 @@ fn wanted(alloc: Global, log: &Log, request: &RangeReq, cells: Vec<CellNo>) -> M
 /// The same, tried one by one.
 fn passing(alloc: Global, log: &Log, request: &RangeReq, cells: &[CellNo]) -> Mem<Vec<CellNo>>
     requires { AreRows (cells_of log.now.records) cells.now }
-    ensures { IfOk result (λ found. found.items ≡ wanted_cells (cells_of log.now.records) request.now cells.now) }
+    ensures { IfOk result
+        (λ found. found.items ≡ wanted_cells (cells_of log.now.records) request.now cells.now) }
 {
     let mut found = Vec::new(alloc);
     for cell in cells {
@@ -183,8 +198,8 @@ fn passes(log: &Log, request: &RangeReq, cell: CellNo) -> bool
     is_wanted(request, create_revision, mod_revision)
 }
 
-/// What is given of the rows under some cells, which ascend by key and pass the filters. In the order of their keys
-/// the first ones alone are read.
+/// What is given of the rows under some cells, which ascend by key and pass the filters. In the
+/// order of their keys the first ones alone are read.
 fn rows_given(
     alloc: Global,
     log: &Log,
@@ -205,7 +220,8 @@ fn rows_given(
 /// The rows under some cells, with their values where the range needs those.
 fn rows_read(alloc: Global, log: &Log, request: &RangeReq, cells: &[CellNo]) -> Mem<Vec<KeyValue>>
     requires { AreRows (cells_of log.now.records) cells.now }
-    ensures { IfOk result (λ found. found.items ≡ map (read request.now) (rows_of (cells_of log.now.records) cells.now)) }
+    ensures { IfOk result
+        (λ found. found.items ≡ map (read request.now) (rows_of (cells_of log.now.records) cells.now)) }
 {
     if needs_values(request) {
         rows_under(alloc, log, cells)

@@ -17,7 +17,8 @@ use std::alloc::Global;
 impl Log {
     /// The cell of the last change of the key at a revision at most this one.
     fn last(&self, key: &[u8], revision: u64) -> Option<CellNo>
-        ensures change { option_and_then (change_at (cells_of self.now.records)) result ≡ last key.now revision self.now.changes }
+        ensures change { option_and_then (change_at (cells_of self.now.records)) result
+            ≡ last key.now revision self.now.changes }
         ensures there { IfSome result (λ c. IsSome (cells_of self.now.records c)) }
     {
         self.index.at(&Reader::new(&self.region), key, revision)
@@ -25,7 +26,8 @@ impl Log {
 
     /// The cell of the row that the key shows at the revision, if it is live there.
     pub(crate) fn live(&self, key: &[u8], revision: u64) -> Option<CellNo>
-        ensures row { option_and_then (row_at (cells_of self.now.records)) result ≡ live key.now revision self.now.changes }
+        ensures row { option_and_then (row_at (cells_of self.now.records)) result
+            ≡ live key.now revision self.now.changes }
         ensures there { IfSome result (λ c. IsSome (row_at (cells_of self.now.records) c)) }
     {
         self.put_of(self.last(key, revision))
@@ -34,7 +36,8 @@ impl Log {
     /// The same for the key whose newest change is under a cell.
     pub(crate) fn live_of(&self, head: CellNo, revision: u64) -> Option<CellNo>
         requires { IsNewest (cells_of self.now.records) head }
-        ensures row { option_and_then (row_at (cells_of self.now.records)) result ≡ live (key_at (cells_of self.now.records) head) revision self.now.changes }
+        ensures row { option_and_then (row_at (cells_of self.now.records)) result
+            ≡ live (key_at (cells_of self.now.records) head) revision self.now.changes }
         ensures there { IfSome result (λ c. IsSome (row_at (cells_of self.now.records) c)) }
     {
         self.put_of(last_up_to(head, &Reader::new(&self.region), revision))
@@ -43,7 +46,9 @@ impl Log {
     /// The cell of a last change, if it is a put.
     fn put_of(&self, last: Option<CellNo>) -> Option<CellNo>
         requires { IfSome last (λ c. IsSome (cells_of self.now.records c)) }
-        ensures row { option_and_then (row_at (cells_of self.now.records)) result ≡ option_and_then (λ (x : Recorded). x.row) (option_and_then (change_at (cells_of self.now.records)) last) }
+        ensures row { option_and_then (row_at (cells_of self.now.records)) result
+            ≡ option_and_then
+            (λ (x : Recorded). x.row) (option_and_then (change_at (cells_of self.now.records)) last) }
         ensures there { IfSome result (λ c. IsSome (row_at (cells_of self.now.records) c)) }
     {
         match last {
@@ -60,7 +65,9 @@ impl Log {
         range_end: &[u8],
         revision: u64,
     ) -> Mem<Vec<CellNo>>
-        ensures { IfOk result (λ found. map (row_at (cells_of self.now.records)) found.items ≡ map Some (rows (is_in key.now range_end.now) revision self.now.changes)) }
+        ensures { IfOk result
+            (λ found. map (row_at (cells_of self.now.records)) found.items
+            ≡ map Some (rows (is_in key.now range_end.now) revision self.now.changes)) }
     {
         let span = self.index.span(&Reader::new(&self.region), key, range_end);
         let heads = &self.index.heads()[span.start..span.end];
@@ -88,7 +95,8 @@ impl Log {
     /// The row under a cell without its value, which is not read.
     pub(crate) fn row_without_value(&self, alloc: Global, cell: CellNo) -> Mem<KeyValue>
         requires { IsSome (row_at (cells_of self.now.records) cell) }
-        ensures { IfOk result (λ row. option_map without_value (row_at (cells_of self.now.records) cell) ≡ Some row) }
+        ensures { IfOk result
+            (λ row. option_map without_value (row_at (cells_of self.now.records) cell) ≡ Some row) }
     {
         let fields = self.region.fields(cell);
         let mut key = Vec::with_capacity(alloc, self.region.key_len(cell) as usize)?;
@@ -106,8 +114,10 @@ impl Log {
     /// The revisions of the first and of the last put of the row under a cell, read from its head alone.
     pub(crate) fn revisions(&self, cell: CellNo) -> (u64, u64)
         requires { IsSome (row_at (cells_of self.now.records) cell) }
-        ensures created { IfSome (row_at (cells_of self.now.records) cell) (λ row. result.0 ≡ row.create_revision) }
-        ensures modified { IfSome (row_at (cells_of self.now.records) cell) (λ row. result.1 ≡ row.mod_revision) }
+        ensures created { IfSome (row_at (cells_of self.now.records) cell)
+            (λ row. result.0 ≡ row.create_revision) }
+        ensures modified { IfSome (row_at (cells_of self.now.records) cell)
+            (λ row. result.1 ≡ row.mod_revision) }
     {
         let fields = self.region.fields(cell);
         (fields.create_revision, fields.revision)

@@ -94,8 +94,8 @@ impl<S: Segments> RecordsMut for Writer<'_, S> {
     ghost cost = { λ x. cost_of_change (change_of x) };
 
     ghost same_rest = { λ s t. (t.region.ghost_name ≡ s.region.ghost_name)
-      × ((t.segments.ghost_name ≡ s.segments.ghost_name)
-      × KeepsRest s.region.now (S.loan s.segments.now) t.region.now (S.loan t.segments.now)) };
+        × ((t.segments.ghost_name ≡ s.segments.ghost_name)
+        × KeepsRest s.region.now (S.loan s.segments.now) t.region.now (S.loan t.segments.now)) };
 
     ghost stays = { λ a. (refl, (refl, rest_stays _ _)) };
 

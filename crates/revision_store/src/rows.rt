@@ -12,7 +12,8 @@ use std::alloc::Global;
 /// The rows under some cells.
 pub(crate) fn rows_under(alloc: Global, log: &Log, cells: &[CellNo]) -> Mem<Vec<KeyValue>>
     requires { AreRows (cells_of log.now.records) cells.now }
-    ensures { IfOk result (λ found. map Some found.items ≡ map (row_at (cells_of log.now.records)) cells.now) }
+    ensures { IfOk result
+        (λ found. map Some found.items ≡ map (row_at (cells_of log.now.records)) cells.now) }
 {
     let mut found = Vec::with_capacity(alloc, cells.len())?;
     for cell in cells {
@@ -29,7 +30,9 @@ pub(crate) fn rows_asked(
     asked: bool,
 ) -> Mem<List<KeyValue>>
     requires { AreRows (cells_of log.now.records) cells.now }
-    ensures { IfOk result (λ found. map Some found ≡ (if asked then map (row_at (cells_of log.now.records)) cells.now else [])) }
+    ensures { IfOk result
+        (λ found. map Some found
+        ≡ (if asked then map (row_at (cells_of log.now.records)) cells.now else [])) }
 {
     if asked {
         Ok(List::from_vec(rows_under(alloc, log, cells)?))
@@ -41,7 +44,9 @@ pub(crate) fn rows_asked(
 /// The rows under some cells without their values, which are not read.
 pub(crate) fn keys_under(alloc: Global, log: &Log, cells: &[CellNo]) -> Mem<Vec<KeyValue>>
     requires { AreRows (cells_of log.now.records) cells.now }
-    ensures { IfOk result (λ found. map Some found.items ≡ map (λ c. option_map without_value (row_at (cells_of log.now.records) c)) cells.now) }
+    ensures { IfOk result
+        (λ found. map Some found.items
+        ≡ map (λ c. option_map without_value (row_at (cells_of log.now.records) c)) cells.now) }
 {
     let mut found = Vec::with_capacity(alloc, cells.len())?;
     for cell in cells {

@@ -42,12 +42,16 @@ impl Store {
         true
     }
 
-    /// By how many cells the plan raises those that count against a quota, at most 2^64 - 1: a put takes its record,
-    /// and room for a delete of its key where that was not live; a delete takes the room that was held for it.
+    /// By how many cells the plan raises those that count against a quota, at most 2^64 - 1: a put
+    /// takes its record, and room for a delete of its key where that was not live; a delete takes
+    /// the room that was held for it.
     pub fn growth(&self, plan: &Plan) -> u64
         requires { IsPlanFor self.now plan.now }
-        ensures exact { result ≡ min (counted_cells (after self.now.kept (changes_of self.now plan.now)) - counted_cells self.now.kept) (2 ^ 64 - 1) }
-        ensures grows { counted_cells self.now.kept ≤ counted_cells (after self.now.kept (changes_of self.now plan.now)) }
+        ensures exact { result
+            ≡ min (counted_cells (after self.now.kept (changes_of self.now plan.now)) - counted_cells
+            self.now.kept) (2 ^ 64 - 1) }
+        ensures grows { counted_cells self.now.kept
+            ≤ counted_cells (after self.now.kept (changes_of self.now plan.now)) }
         ensures sound { IsSound self.now }
     {
         self.keep_sound();
@@ -72,7 +76,8 @@ impl Store {
     }
 }
 
-/// By how many cells a write raises those that count. A row of its first revision is of a key that was not live.
+/// By how many cells a write raises those that count. A row of its first revision is of a key that
+/// was not live.
 fn growth_of(write: &Write) -> u64
     ensures { result ≡ growth_of write.now }
 {

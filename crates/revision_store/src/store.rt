@@ -1,5 +1,6 @@
 //! The store of one tenant.
-ghost use Rattle.std.specs.Prelude.{length, ◌≡◌, ◌+◌, ◌%◌, ◌/◌, ◌<◌, ◌≤◌, ◌^◌, ℕ, ℤ, pos, IfOk, IsSome, None, is_none};
+ghost use Rattle.std.specs.Prelude.{length, ◌≡◌, ◌+◌, ◌%◌, ◌/◌, ◌<◌, ◌≤◌, ◌^◌, ℕ, ℤ, pos, IfOk, IsSome};
+ghost use Rattle.std.specs.Prelude.{None, is_none};
 ghost use Rattle.std.specs.FinMap as map;
 ghost use Rattle.cell_arena.specs.Loan.{IsLent, Settles, DrawsNone};
 ghost use Rattle.etcd_model.specs.Store.{compact, record_cells};
@@ -25,7 +26,7 @@ pub struct Store {
 }
 
 impl Model for Store {
-    ghost use Rattle.revision_store.specs.Stored.{StoreState, IsKept, store_code, store_of};
+    ghost use Rattle.revision_store.specs.Stored.{StoreState, IsKeptUpTo, store_code, store_of};
 
     ghost Value = { StoreState };
 
@@ -33,7 +34,7 @@ impl Model for Store {
 
     ghost view = { λ s. store_of s.log s.current s.compacted };
 
-    ghost invariant = { λ s. IsKept s.log s.current s.compacted };
+    ghost invariant = { λ s. IsKeptUpTo s.log s.current s.compacted };
 }
 
 impl Store {
@@ -69,7 +70,8 @@ impl Store {
         self.compacted
     }
 
-    /// Makes the planned changes one more revision, and answers the current one. It takes no memory and cannot fail.
+    /// Makes the planned changes one more revision, and answers the current one. It takes no memory
+    /// and cannot fail.
     pub fn commit<S: Segments>(&mut self, segments: &mut S, plan: Plan) -> i64
         requires fits { CanCommit self.old plan }
         requires lent { IsLent self.old.share (S.loan segments.old) }
@@ -87,8 +89,8 @@ impl Store {
         revision as i64
     }
 
-    /// Deletes some live keys in one revision, in this order, by the cells of their rows, and answers the revision.
-    /// It takes no memory and cannot fail.
+    /// Deletes some live keys in one revision, in this order, by the cells of their rows, and
+    /// answers the revision. It takes no memory and cannot fail.
     pub fn delete_heads<S: Segments>(&mut self, segments: &mut S, heads: &[CellNo]) -> i64
         requires some { 0 < length heads.now }
         requires fits { CanCommit self.old (deletes heads.now) }
@@ -129,7 +131,8 @@ impl Store {
         requires within { revision ≤ self.old.kept.current }
         requires lent { IsLent self.old.share (S.loan segments.old) }
         ensures kept { self.new.kept ≡ compact self.old.kept revision }
-        ensures free { self.new.free + record_cells self.new.kept.changes ≡ self.old.free + record_cells self.old.kept.changes }
+        ensures free { self.new.free + record_cells self.new.kept.changes
+            ≡ self.old.free + record_cells self.old.kept.changes }
         ensures leases { leases_of self.new.records ≡ leases_of self.old.records }
         ensures lease_cells { self.new.lease_cells ≡ self.old.lease_cells }
         ensures none_drawn { DrawsNone self.old.share self.new.share }
@@ -146,7 +149,8 @@ impl Store {
         ensures fresh { map.get self.old.records result ≡ None }
         ensures kept { self.new.kept ≡ self.old.kept }
         ensures cells { cells self.new ≡ cells self.old }
-        ensures leases { leases_of self.new.records ≡ with_lease (leases_of self.old.records) result (record { id = id; ttl = ttl }) }
+        ensures leases { leases_of self.new.records
+            ≡ with_lease (leases_of self.old.records) result (record { id = id; ttl = ttl }) }
         ensures lease_cells { self.new.lease_cells ≡ self.old.lease_cells + 1 }
         ensures free { self.new.free + 1 ≡ self.old.free }
         ensures settles { Settles self.old.share (S.loan segments.old) self.new.share (S.loan segments.new) }

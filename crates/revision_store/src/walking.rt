@@ -16,7 +16,8 @@ use key_index::Records;
 impl Store {
     /// The cells of the kept changes at revisions from this one on, in order.
     pub fn since(&self, revision: u64) -> &[CellNo]
-        ensures { map (change_at (cells self.now)) result.now ≡ map Some (since revision self.now.kept.changes) }
+        ensures { map (change_at (cells self.now)) result.now
+            ≡ map Some (since revision self.now.kept.changes) }
     {
         self.log.since(revision)
     }
@@ -32,7 +33,8 @@ impl Store {
 impl Log {
     /// The cells of the changes at revisions from this one on, in order.
     fn since(&self, revision: u64) -> &[CellNo]
-        ensures { map (change_at (cells_of self.now.records)) result.now ≡ map Some (since revision self.now.changes) }
+        ensures { map (change_at (cells_of self.now.records)) result.now
+            ≡ map Some (since revision self.now.changes) }
     {
         let first = first_from(&self.order, &Reader::new(&self.region), revision);
         &self.order[first..]
@@ -44,7 +46,8 @@ fn first_from<R: Records>(order: &[CellNo], records: &R, revision: u64) -> usize
     requires there { All (λ c. IsSome (R.cells records.now c)) order.now }
     requires rises { IsInOrder (R.cells records.now) order.now }
     ensures within { result ≤ length order.now }
-    ensures from { changes_in (R.cells records.now) (drop result order.now) ≡ since revision (changes_in (R.cells records.now) order.now) }
+    ensures from { changes_in (R.cells records.now) (drop result order.now)
+        ≡ since revision (changes_in (R.cells records.now) order.now) }
 {
     let mut low = 0;
     let mut high = order.len();

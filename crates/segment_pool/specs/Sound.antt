@@ -3,7 +3,7 @@ use Rattle.std.specs.Prelude.{◌≡◌, ◌+◌, ◌≤◌, vec_len, vec_capaci
 use Rattle.etcd_types.specs.declared.limits.TheConstants.{MAX_SEGMENTS}
 use Rattle.segment_pool.specs.declared.pool.Pool.TheInside.{Inside}
 
-pub record IsSound (p : Inside) : Type 0 where
+pub record IsPool (p : Inside) : Type 0 where
   pub promised : p.promised ≤ vec_len p.free
   pub whole : vec_len p.free + p.out ≡ vec_len p.reservations
   pub segments : vec_len p.owners ≡ vec_len p.reservations

@@ -88,7 +88,7 @@ impl Model for Pool {
     ghost Value = { PoolState };
 
     ghost use Rattle.std.specs.Prelude.{vec_len};
-    ghost use Rattle.segment_pool.specs.Sound.{IsSound};
+    ghost use Rattle.segment_pool.specs.Sound.{IsPool};
 
     ghost view = { λ p. record {
       free = vec_len p.free;
@@ -98,7 +98,7 @@ impl Model for Pool {
       owners = p.owners.items;
     } };
 
-    ghost invariant = { IsSound };
+    ghost invariant = { IsPool };
 }
 
 impl Pool {

@@ -11,7 +11,7 @@ use Rattle.model_laws.proofs.SpaceLaws.{fewer_records}
 use Rattle.revision_store.specs.declared.plan.Write.{Write}
 use Rattle.revision_store.specs.Stored.{StoreState}
 use Rattle.quota_alarm.specs.declared.quota.Quota.{Quota}
-use Rattle.tenant_machine.specs.Held.{IsMachine}
+use Rattle.tenant_machine.specs.Tenants.{IsMachine}
 use Rattle.tenant_machine.specs.Plans.{FitsCompaction, FitsWrite, written}
 
 -- ---- a compaction

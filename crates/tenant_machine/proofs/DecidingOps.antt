@@ -25,7 +25,7 @@ use Rattle.revision_store.specs.Stored.{StoreState, changes_of, look, reads}
 use Rattle.revision_store.specs.declared.plan.Write.{Write}
 use Rattle.revision_store.specs.declared.planning.PlannedOp.{PlannedOp}
 use Rattle.tenant_machine.specs.Deciding.{Does, answer, header_at, past_gate}
-use Rattle.tenant_machine.specs.Held.{MachineState, tenant}
+use Rattle.tenant_machine.specs.Tenants.{MachineState, tenant}
 use Rattle.tenant_machine.specs.Plans.{Plan, written}
 use Rattle.tenant_machine.specs.declared.planned.Effect.TheVariants.{Alarm, Nothing, Write as WriteEffect}
 use Rattle.tenant_machine.proofs.Gates.{done_past_gate, refused_past_gate}

@@ -7,7 +7,7 @@ use Rattle.revision_store.specs.Pending.{IsSound}
 use Rattle.revision_store.specs.Stored.{HasSpace, IsPlanFor, StoreState, cells as records_of, changes_of}
 use Rattle.revision_store.specs.declared.plan.Write.{Write}
 use Rattle.revision_store.proofs.Grown.{costs_of, records_after}
-use Rattle.tenant_machine.specs.Held.{IsMachine, MachineState}
+use Rattle.tenant_machine.specs.Tenants.{IsMachine, MachineState}
 use Rattle.tenant_machine.specs.Plans.{FitsWrite, written}
 
 has_space : (store : StoreState) (writes : List Write) → store.free + record_cells store.kept.changes + store.lease_cells ≡ 64 * store.share.reserved → store.lease_cells ≡ 0 → counted_cells (written store writes) ≤ 64 * store.share.reserved → HasSpace store writes

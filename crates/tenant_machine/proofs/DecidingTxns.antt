@@ -25,9 +25,9 @@ use Rattle.model_laws.proofs.SpaceLaws.{no_put_takes_none}
 use Rattle.revision_store.specs.Stored.{StoreState, changes_of, look, reads}
 use Rattle.revision_store.specs.declared.plan.Write.{Write}
 use Rattle.txn_plan.specs.Planned.{IsTxn}
-use Rattle.txn_plan.specs.declared.planning.PlannedTxn.{PlannedTxn}
+use Rattle.txn_plan.specs.declared.transaction.PlannedTxn.{PlannedTxn}
 use Rattle.tenant_machine.specs.Deciding.{Does, header_at, past_gate, txn_outcome}
-use Rattle.tenant_machine.specs.Held.{MachineState, tenant}
+use Rattle.tenant_machine.specs.Tenants.{MachineState, tenant}
 use Rattle.tenant_machine.specs.Plans.{Plan, written}
 use Rattle.tenant_machine.specs.declared.planned.Effect.TheVariants.{Nothing}
 use Rattle.tenant_machine.proofs.DecidingOps.{does_as}

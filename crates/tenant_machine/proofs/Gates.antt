@@ -14,7 +14,7 @@ use Rattle.etcd_model.specs.Stepping.{decided, early, look_up, machine, may_add,
 use Rattle.etcd_model.specs.Store.{Store, kept_store}
 use Rattle.etcd_model.specs.Tenant.{Outcome, stays}
 use Rattle.tenant_machine.specs.Deciding.{Does, gate, past_gate}
-use Rattle.tenant_machine.specs.Held.{MachineState, tenant}
+use Rattle.tenant_machine.specs.Tenants.{MachineState, tenant}
 use Rattle.tenant_machine.specs.Plans.{Plan}
 use Rattle.tenant_machine.specs.declared.planned.Effect.TheVariants.{Nothing}
 

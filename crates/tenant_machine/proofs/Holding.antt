@@ -15,7 +15,7 @@ use Rattle.etcd_model.specs.Store.{Store, kept_store}
 use Rattle.etcd_model.specs.Held.{Holds, empty_store, over}
 use Rattle.etcd_model.specs.Offered.{built, built_machine, is_offered}
 use Rattle.model_laws.proofs.HoldsLaws.{held_after_step, opening_is_held}
-use Rattle.tenant_machine.specs.Held.{MachineState, tenant}
+use Rattle.tenant_machine.specs.Tenants.{MachineState, tenant}
 use Rattle.tenant_machine.specs.Plans.{IsAfter, Plan, Plans, Steps}
 use Rattle.tenant_machine.specs.Deciding.{Does}
 use Rattle.tenant_machine.proofs.Spoken.{built_speaks}

@@ -16,8 +16,8 @@ use Rattle.etcd_model.specs.Operations.{first_refusal}
 use Rattle.etcd_model.specs.Stepping.{early, look_up, may_add, decided, within_quota, with_header}
 use Rattle.etcd_model.specs.Store.{Store, kept_store}
 use Rattle.etcd_model.specs.Tenant.{Outcome, used}
-use Rattle.txn_plan.specs.declared.planning.PlannedTxn.{PlannedTxn}
-use Rattle.tenant_machine.specs.Held.{MachineState, tenant}
+use Rattle.txn_plan.specs.declared.transaction.PlannedTxn.{PlannedTxn}
+use Rattle.tenant_machine.specs.Tenants.{MachineState, tenant}
 use Rattle.tenant_machine.specs.Plans.{Plan, after_effect, written}
 
 -- what refuses a step before anything is looked up: its fields, then numbers that are used up, then the alarm

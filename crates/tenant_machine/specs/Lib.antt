@@ -1,3 +1,3 @@
-pub mod Held
+pub mod Tenants
 pub mod Plans
 pub mod Deciding

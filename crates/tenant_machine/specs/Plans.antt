@@ -16,7 +16,7 @@ use Rattle.revision_store.specs.Stored.{StoreState, CanCommit, changes_of}
 use Rattle.revision_store.specs.declared.plan.Write.{Write}
 use Rattle.tenant_machine.specs.declared.planned.Effect.{Effect}
 use Rattle.tenant_machine.specs.declared.planned.Effect.TheVariants as effect
-use Rattle.tenant_machine.specs.Held.{MachineState, tenant}
+use Rattle.tenant_machine.specs.Tenants.{MachineState, tenant}
 
 -- what a commit does, and what it answers
 pub record Plan : Type 0 where

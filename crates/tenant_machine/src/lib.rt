@@ -4,11 +4,11 @@
 //! was planned to the store, whose segments are lent to it, takes none and cannot fail.
 #![tactic(auto)]
 
+mod deciding;
 mod machine;
 mod maintenance;
 mod operations;
 mod planned;
-mod planning;
 
 pub use machine::{Machine, segments_for};
 pub use planned::Planned;

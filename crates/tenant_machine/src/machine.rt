@@ -9,7 +9,7 @@ ghost use Rattle.etcd_model.specs.Held.{Holds};
 ghost use Rattle.etcd_model.specs.Store.{kept_store, reserved_cells};
 ghost use Rattle.etcd_model.specs.Tenant.{used};
 ghost use Rattle.tenant_machine.specs.Deciding.{is_stopped};
-ghost use Rattle.tenant_machine.specs.Held.{tenant};
+ghost use Rattle.tenant_machine.specs.Tenants.{tenant};
 ghost use Rattle.tenant_machine.specs.Plans.{Fits, FitsCompaction, FitsWrite, IsAfter, Steps};
 ghost use Rattle.tenant_machine.specs.Plans.{takes_memory, written};
 
@@ -32,7 +32,7 @@ pub struct Machine {
 }
 
 impl Model for Machine {
-    ghost use Rattle.tenant_machine.specs.Held.{MachineState, IsMachine, machine_code, machine_of};
+    ghost use Rattle.tenant_machine.specs.Tenants.{MachineState, IsMachine, machine_code, machine_of};
 
     ghost Value = { MachineState };
 

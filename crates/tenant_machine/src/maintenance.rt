@@ -2,7 +2,7 @@
 ghost use Rattle.std.specs.Prelude.{◌≡◌};
 ghost use Rattle.etcd_types.specs.declared.step.Step.TheVariants.{Alarm, Status, Defragment};
 ghost use Rattle.tenant_machine.specs.Deciding.{Does, past_gate};
-ghost use Rattle.tenant_machine.specs.Held.{tenant};
+ghost use Rattle.tenant_machine.specs.Tenants.{tenant};
 ghost use Rattle.tenant_machine.specs.Plans.{Fits};
 
 use crate::machine::Machine;

@@ -9,7 +9,7 @@ ghost use Rattle.etcd_model.specs.Stepping.{look_up, writes};
 ghost use Rattle.etcd_model.specs.Store as kept;
 ghost use Rattle.revision_store.specs.Stored.{IsPlanFor};
 ghost use Rattle.tenant_machine.specs.Deciding.{Does, answer, header_at, past_gate, txn_outcome};
-ghost use Rattle.tenant_machine.specs.Held.{tenant};
+ghost use Rattle.tenant_machine.specs.Tenants.{tenant};
 ghost use Rattle.tenant_machine.specs.Plans.{Fits, written};
 
 use crate::machine::Machine;

@@ -8,7 +8,7 @@ use Rattle.etcd_model.specs.Compares.{all_hold}
 use Rattle.etcd_model.specs.Operations.{adds_any, branch, pending_after, replies}
 use Rattle.revision_store.specs.Pending.{changes_key, puts_inside}
 use Rattle.revision_store.specs.Stored.{StoreState, IsPlanFor, changes_of, look, reads}
-use Rattle.txn_plan.specs.declared.planning.PlannedTxn.{PlannedTxn}
+use Rattle.txn_plan.specs.declared.transaction.PlannedTxn.{PlannedTxn}
 
 -- no pending change is of a put's key, and no pending put lies in the interval of a delete
 abbrev pub IsApart : Op → List Change → Type 0

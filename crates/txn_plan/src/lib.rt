@@ -4,13 +4,13 @@
 
 mod branch;
 mod folding;
-mod planning;
 mod refusal;
 #[cfg(test)]
 mod tests;
+mod transaction;
 
 pub use branch::{adds_any, writes_any};
-pub use planning::{PlannedTxn, plan};
 pub use refusal::lease_refusal;
 pub use request_checks::check_txn as check;
 pub use revision_store::holds;
+pub use transaction::{PlannedTxn, plan};

@@ -1,7 +1,7 @@
 use Rattle.std.proofs.Common.{◌<◌, ◌++◌, [], take, drop, ap, sym, ◌∙◌, arith, rules, refl}
 use Rattle.std.proofs.lemmas.List.{append-nil}
 use Rattle.cell_arena.specs.Chain.{chain_bytes}
-use Rattle.cell_arena.specs.Held.{IsFrontOf}
+use Rattle.cell_arena.specs.Region.{IsFrontOf}
 use Rattle.cell_arena.specs.Part.{part_bytes}
 use Rattle.cell_arena.specs.Table.{table_at}
 use Rattle.cell_arena.proofs.Cutting.{read_here, read_later}

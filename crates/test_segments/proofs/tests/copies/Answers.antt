@@ -3,7 +3,7 @@ use Rattle.std.specs.Prelude.{IsSome, pos}
 use Rattle.std.specs.FinMap.{get}
 use Rattle.cell_arena.specs.declared.cell.Kind.TheVariants.{Delete}
 use Rattle.cell_arena.specs.Chain.{Record}
-use Rattle.cell_arena.specs.Held.{Held}
+use Rattle.cell_arena.specs.Region.{RegionState}
 use Rattle.cell_arena.proofs.Inserted.{some_inserted, if_inserted, some_changed}
 use Rattle.test_segments.proofs.tests.copies.Goals as goal
 
@@ -12,7 +12,7 @@ place_delete-delete-requires-clause-head g c = some_inserted _ _ _ _ c.place-put
 
 pub place_delete-delete-requires-clause-space : goal.place_delete-delete-requires-clause-space
 place_delete-delete-requires-clause-space g c =
-    if_inserted _ _ _ _ (λ (r : Record). 1 + (length r.key + 47) / 48 ≤ c.place-put.new.self.free) c.place-put.ensures.placed (omega (arith, c.requires.fits, c.place-put.ensures.free, ap (λ (h : Held). h.free) c.in_ok-region.ensures))
+    if_inserted _ _ _ _ (λ (r : Record). 1 + (length r.key + 47) / 48 ≤ c.place-put.new.self.free) c.place-put.ensures.placed (omega (arith, c.requires.fits, c.place-put.ensures.free, ap (λ (h : RegionState). h.free) c.in_ok-region.ensures))
 
 pub set_older-requires : goal.set_older-requires
 set_older-requires g c =

@@ -2,7 +2,7 @@ use Rattle.std.proofs.Common.{◌≡◌, ◌++◌, ap, ◌∙◌, subst}
 use Rattle.cell_arena.specs.Chain.{Record}
 use Rattle.cell_arena.specs.Part.{part_bytes}
 use Rattle.cell_arena.specs.Table.{table_at}
-use Rattle.cell_arena.specs.Held.{IsFrontOf}
+use Rattle.cell_arena.specs.Region.{IsFrontOf}
 use Rattle.cell_arena.proofs.Records.{seen_head, seen_if}
 use Rattle.cell_arena.proofs.Fronts.{on_ok, on_err}
 use Rattle.cell_arena.proofs.region.Region.read_value.Goals as goal

@@ -2,7 +2,7 @@ use Rattle.std.proofs.Common.{◌≡◌, Some, arith}
 use Rattle.std.specs.FinMap.{insert}
 use Rattle.cell_arena.specs.Chain.{Record, record_at}
 use Rattle.cell_arena.specs.Table.{table_at}
-use Rattle.cell_arena.specs.Held.{held_of}
+use Rattle.cell_arena.specs.Region.{region_of}
 use Rattle.cell_arena.proofs.Records.{seen_head, seen_if, seen_insert, seen_free, seen_share}
 use Rattle.cell_arena.proofs.region.Region.set_older.Goals as goal
 
@@ -11,7 +11,7 @@ set_older-requires-clause-head c = seen_head c.self.inside.table _ c.args.cell c
 
 pub returns-clause-set : goal.returns-clause-set
 returns-clause-set c =
-    rw (← c.of.ensures) (seen_if c.self.inside.table _ c.args.cell (λ (r : Record). record_at (table_at c.set_older.new.table) c.args.cell ≡ Some (record r { older = c.of.result })) (λ (r : Record). (held_of c.set_older.new.table).records ≡ insert c.args.self.now.records c.args.cell (record r { older = c.of.result })) c.self.view_is (λ r here. seen_insert c.self.inside.table c.set_older.new.table _ c.args.cell _ c.self.view_is here c.set_older.ensures.kept) c.set_older.ensures.set)
+    rw (← c.of.ensures) (seen_if c.self.inside.table _ c.args.cell (λ (r : Record). record_at (table_at c.set_older.new.table) c.args.cell ≡ Some (record r { older = c.of.result })) (λ (r : Record). (region_of c.set_older.new.table).records ≡ insert c.args.self.now.records c.args.cell (record r { older = c.of.result })) c.self.view_is (λ r here. seen_insert c.self.inside.table c.set_older.new.table _ c.args.cell _ c.self.view_is here c.set_older.ensures.kept) c.set_older.ensures.set)
 
 pub returns-clause-free : goal.returns-clause-free
 returns-clause-free c = omega (arith, seen_free c.self.inside.table _ c.self.view_is, c.set_older.ensures.used, c.set_older.ensures.share.reserved)

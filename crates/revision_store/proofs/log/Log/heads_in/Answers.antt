@@ -1,5 +1,5 @@
 use Rattle.std.proofs.Common.{sym, ap, ◌∙◌, subst}
-use Rattle.cell_arena.specs.Held.{Held}
+use Rattle.cell_arena.specs.Region.{RegionState}
 use Rattle.key_index.specs.Index.{IsIndexOf, IsSpan, IsSpread}
 use Rattle.key_index.proofs.Links.{spread_from_index}
 use Rattle.revision_store.specs.Recorded.{cells_of}
@@ -8,7 +8,7 @@ use Rattle.revision_store.proofs.ComparingReads.{all_newest, log_shows}
 use Rattle.revision_store.proofs.log.Log.heads_in.Goals as goal
 
 pub span-span-requires : goal.span-span-requires
-span-span-requires c = subst (λ (h : Held). IsSpread (cells_of h.records) c.self.inside.index.cells) (sym c.new.ensures) (spread_from_index _ _ c.self.invariant.index)
+span-span-requires c = subst (λ (h : RegionState). IsSpread (cells_of h.records) c.self.inside.index.cells) (sym c.new.ensures) (spread_from_index _ _ c.self.invariant.index)
 
 pub returns-clause-newest : goal.returns-clause-newest
 returns-clause-newest c =
@@ -20,6 +20,6 @@ pub returns-clause-rows : goal.returns-clause-rows
 returns-clause-rows c revision =
     let records = ap (λ (l : LogState). l.records) c.self.view_is in
     let changes = ap (λ (l : LogState). l.changes) c.self.view_is in
-    let same = ap (λ (h : Held). h.records) c.new.ensures ∙ records in
+    let same = ap (λ (h : RegionState). h.records) c.new.ensures ∙ records in
     let span = subst (λ m. IsSpan (cells_of m) c.self.inside.index.cells c.args.key.now c.args.range_end.now c.span-span.result.start c.span-span.result.end) same c.span-span.ensures in
     log_shows _ _ _ _ _ _ _ c.args.key.now c.args.range_end.now revision c.span-span.result.start c.span-span.result.end c.heads.result.now c.self.invariant records changes c.heads.ensures span

@@ -1,7 +1,7 @@
 use Rattle.std.proofs.Common.{◌≡◌, ◌++◌, ℕ, Option, append-nil, sym, ap, ◌∙◌, subst}
 use Rattle.std.specs.Prelude.{slice_range, vec_capacity}
 use Rattle.std.specs.Option.{option_to_list}
-use Rattle.cell_arena.specs.Held.{Held}
+use Rattle.cell_arena.specs.Region.{RegionState}
 use Rattle.key_index.specs.Index.{IsIndexOf, IsSpan, IsSpread}
 use Rattle.key_index.proofs.Links.{spread_from_index}
 use Rattle.revision_store.specs.Recorded.{cells_of}
@@ -11,7 +11,7 @@ use Rattle.revision_store.proofs.log.Log.live_cells.Goals.{in-Some, in_default}
 use Rattle.revision_store.proofs.log.Log.live_cells.Goals as goal
 
 pub span-span-requires : goal.span-span-requires
-span-span-requires c = subst (λ (h : Held). IsSpread (cells_of h.records) c.self.inside.index.cells) (sym c.new.ensures) (spread_from_index _ _ c.self.invariant.index)
+span-span-requires c = subst (λ (h : RegionState). IsSpread (cells_of h.records) c.self.inside.index.cells) (sym c.new.ensures) (spread_from_index _ _ c.self.invariant.index)
 
 pub live_of-requires : goal.live_of-requires
 live_of-requires c =
@@ -43,6 +43,6 @@ pub returns : goal.returns
 returns c =
     let records = ap (λ (l : LogState). l.records) c.self.view_is in
     let changes = ap (λ (l : LogState). l.changes) c.self.view_is in
-    let same = ap (λ (h : Held). h.records) c.new.ensures ∙ records in
+    let same = ap (λ (h : RegionState). h.records) c.new.ensures ∙ records in
     let span = subst (λ m. IsSpan (cells_of m) c.self.inside.index.cells c.args.key.now c.args.range_end.now c.span-span.result.start c.span-span.result.end) same c.span-span.ensures in
     log_rows _ _ _ _ _ _ _ c.args.key.now c.args.range_end.now c.args.revision c.span-span.result.start c.span-span.result.end c.heads.result.now c.loop-head.found.items c.loop-head.head-index c.self.invariant records changes c.heads.ensures span c.loop-head-test.false c.loop-head.invariant.found

@@ -2,7 +2,7 @@ use Rattle.std.proofs.Common.{sym, subst}
 use Rattle.std.specs.Prelude.{IfOk}
 use Rattle.etcd_types.specs.declared.step.Step.{Step}
 use Rattle.tenant_machine.specs.Deciding.{Does, past_gate}
-use Rattle.tenant_machine.specs.Held.{tenant}
+use Rattle.tenant_machine.specs.Tenants.{tenant}
 use Rattle.tenant_machine.proofs.machine.Machine.decide.Goals as goal
 
 pub returns-in-Put-clause-does : goal.returns-in-Put-clause-does

@@ -5,7 +5,7 @@ use Rattle.cell_arena.specs.Loan.{undrawn}
 use Rattle.etcd_model.specs.Held.{empty_store}
 use Rattle.quota_alarm.specs.declared.quota.Quota.{Quota}
 use Rattle.revision_store.specs.Stored.{StoreState}
-use Rattle.tenant_machine.specs.Held.{MachineState}
+use Rattle.tenant_machine.specs.Tenants.{MachineState}
 use Rattle.tenant_machine.proofs.Holding.{opened}
 use Rattle.tenant_machine.proofs.machine.Machine.new.Goals as goal
 

@@ -1,5 +1,5 @@
 use Rattle.std.proofs.Common.{◌∙◌, ap}
-use Rattle.tenant_machine.specs.Held.{MachineState}
+use Rattle.tenant_machine.specs.Tenants.{MachineState}
 use Rattle.tenant_machine.proofs.DecidingOps.{delete_does, delete_keeps}
 use Rattle.tenant_machine.proofs.machine.Machine.plan_delete.Goals as goal
 

@@ -1,5 +1,5 @@
 use Rattle.std.proofs.Common.{◌≡◌, ◌∙◌, ap, of_z, rules, sym, to_z, w64}
-use Rattle.tenant_machine.specs.Held.{MachineState}
+use Rattle.tenant_machine.specs.Tenants.{MachineState}
 use Rattle.tenant_machine.proofs.DecidingOps.{IsPutAnswer, put_planned_does, put_refused_does}
 use Rattle.tenant_machine.proofs.machine.Machine.plan_put.Goals.{in-Ok, in-Err}
 use Rattle.tenant_machine.proofs.machine.Machine.plan_put.Goals as goal

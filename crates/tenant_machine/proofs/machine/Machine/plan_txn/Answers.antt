@@ -3,7 +3,7 @@ use Rattle.etcd_model.specs.Operations.{branch, ops_refusal}
 use Rattle.etcd_model.specs.Store.{IsStore}
 use Rattle.revision_store.specs.Stored.{reads}
 use Rattle.txn_plan.specs.Planned.{IsTxn}
-use Rattle.tenant_machine.specs.Held.{MachineState}
+use Rattle.tenant_machine.specs.Tenants.{MachineState}
 use Rattle.tenant_machine.proofs.DecidingOps.{does_as}
 use Rattle.tenant_machine.proofs.DecidingTxns.{IsTxnAnswer, adding_writes, changing_writes, is_txn, txn_planned_does, txn_refused_does, without_put_keeps}
 use Rattle.tenant_machine.proofs.machine.Machine.plan_txn.Goals.{In-Ok, in-Ok, in-Err}

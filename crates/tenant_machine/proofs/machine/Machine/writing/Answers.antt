@@ -1,5 +1,5 @@
 use Rattle.std.proofs.Common.{ap}
-use Rattle.tenant_machine.specs.Held.{MachineState}
+use Rattle.tenant_machine.specs.Tenants.{MachineState}
 use Rattle.tenant_machine.proofs.DecidingSpace.{writing_fits}
 use Rattle.tenant_machine.proofs.machine.Machine.writing.Goals as goal
 

@@ -3,7 +3,7 @@ use Rattle.etcd_model.specs.Compares.{all_hold}
 use Rattle.revision_store.specs.Stored.{reads}
 use Rattle.revision_store.specs.Pending.{pending_reads}
 use Rattle.txn_plan.proofs.Whole.{is_planned}
-use Rattle.txn_plan.proofs.planning.plan.Goals as goal
+use Rattle.txn_plan.proofs.transaction.plan.Goals as goal
 
 pub returns-clause-planned : goal.returns-clause-planned
 returns-clause-planned c =

@@ -16,13 +16,13 @@ use Rattle.cell_arena.specs.Table.{IsTable, table_at, busy_of}
 
 -- the records by their head cells, how many cells are free of those reserved, and how many segments
 -- are reserved and drawn: the drawn ones are those with a cell in use
-pub record Held : Type 0 where
+pub record RegionState : Type 0 where
   pub records : FinMap nat_cmp Record
   pub free : ℕ
   pub share : Share
 
 -- no records, over so many cells, with nothing drawn
-abbrev pub no_records : ℕ → Held
+abbrev pub no_records : ℕ → RegionState
 no_records cells = record { records = map.empty; free = cells; share = undrawn (cells / 64) }
 
 abbrev pub kind_number : Kind → ℕ
@@ -59,8 +59,8 @@ record_code =
     (λ p. record { kind = p.0.0; fields = p.0.1; key = p.1.0.0; value = p.1.0.1; older = p.1.1 })
     (λ _. refl)
 
-abbrev pub held_code : Coded Held
-held_code =
+abbrev pub region_code : Coded RegionState
+region_code =
     code_by (FinMap nat_cmp Record × (ℕ × Share))
     (coded× (map.code coded_ℕ record_code) (coded× coded_ℕ share_code))
     (λ h. (h.records, (h.free, h.share)))
@@ -83,18 +83,18 @@ entries_below f (suc n) = entry_before n (f n) (entries_below f n)
 unfoldable pub records_of : (ℕ → Cell) → ℕ → FinMap nat_cmp Record
 records_of at bound = from_entries (entries_below (record_at at) bound)
 
-abbrev pub held_of : Table → Held
-held_of t = record {
+abbrev pub region_of : Table → RegionState
+region_of t = record {
   records = records_of (table_at t) (64 * length t.slots.items);
   free = 64 * t.reserved - t.used;
   share = record { reserved = t.reserved; drawn = sum_by busy_of t.slots.items };
 }
 
 -- how many cells are in use
-abbrev pub used_cells : Held → ℕ
+abbrev pub used_cells : RegionState → ℕ
 used_cells held = 64 * held.share.reserved - held.free
 
-pub record IsSound (t : Table) : Type 0 where
+pub record IsRegion (t : Table) : Type 0 where
   pub table : IsTable t
   pub linked : IsLinked (table_at t)
 

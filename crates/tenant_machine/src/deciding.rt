@@ -4,7 +4,7 @@ ghost use Rattle.etcd_model.specs.Offered.{is_offered};
 ghost use Rattle.etcd_model.specs.Store.{kept_store};
 ghost use Rattle.etcd_model.specs.Stepping.{look_up, may_add, writes};
 ghost use Rattle.tenant_machine.specs.Deciding.{Does, gate, is_stopped, past_gate};
-ghost use Rattle.tenant_machine.specs.Held.{tenant};
+ghost use Rattle.tenant_machine.specs.Tenants.{tenant};
 ghost use Rattle.tenant_machine.specs.Plans.{Fits, Plans, takes_memory};
 
 use crate::machine::Machine;
