@@ -111,52 +111,60 @@ fn row(alloc: Global) -> Option<KeyValue> {
     })
 }
 
-/// The life of a key that the head of the crate tells, beside another key: what is last, and what
-/// compactions leave.
+/// The life of a key, `a`, that the head of the crate tells, beside another key.
+fn life(rt: &impl Abort, alloc: Global) -> Mem<Changes> {
+    let mut changes = Changes::new(alloc, 8)?;
+    changes.append(rt, alloc, b"a", row(alloc))?;
+    changes.append(rt, alloc, b"a", row(alloc))?;
+    changes.append(rt, alloc, b"a", None)?;
+    changes.append(rt, alloc, b"b", row(alloc))?;
+    changes.append(rt, alloc, b"a", row(alloc))?;
+    changes.append(rt, alloc, b"b", row(alloc))?;
+    changes.append(rt, alloc, b"a", None)?;
+    changes.append(rt, alloc, b"b", row(alloc))?;
+    Ok(changes)
+}
+
+/// The cell of the change at a revision.
+fn at(revision: u32) -> CellNo
+    requires least { 2 ≤ revision }
+    requires most { revision < 10 }
+{
+    CellNo::at(0, revision - 2)
+}
+
+/// What is last of each key, before any compaction.
 #[test]
 fn lives_as_told(rt: HostRuntime) -> Result<(), Fail> {
-    let mut changes = Changes::new(rt.alloc(), 8)?;
-    changes.append(&rt, rt.alloc(), b"a", row(rt.alloc()))?;
-    changes.append(&rt, rt.alloc(), b"a", row(rt.alloc()))?;
-    changes.append(&rt, rt.alloc(), b"a", None)?;
-    changes.append(&rt, rt.alloc(), b"b", row(rt.alloc()))?;
-    changes.append(&rt, rt.alloc(), b"a", row(rt.alloc()))?;
-    changes.append(&rt, rt.alloc(), b"b", row(rt.alloc()))?;
-    changes.append(&rt, rt.alloc(), b"a", None)?;
-    changes.append(&rt, rt.alloc(), b"b", row(rt.alloc()))?;
-    let (put_at_2, put_at_3, delete_at_4) = (CellNo::at(0, 0), CellNo::at(0, 1), CellNo::at(0, 2));
-    let (put_at_6, delete_at_8, other_at_9) = (
-        CellNo::at(0, 4),
-        CellNo::at(0, 6),
-        CellNo::at(0, 7),
-    );
-    assert_eq!(rt; changes.heads(), [delete_at_8, other_at_9].as_slice());
+    let changes = life(&rt, rt.alloc())?;
+    assert_eq!(rt; changes.heads(), [at(8), at(9)].as_slice());
     assert_eq!(rt; changes.last(b"a", 1), None);
-    assert_eq!(rt; changes.last(b"a", 2), Some(put_at_2));
-    assert_eq!(rt; changes.last(b"a", 5), Some(delete_at_4));
-    assert_eq!(rt; changes.last(b"a", 7), Some(put_at_6));
+    assert_eq!(rt; changes.last(b"a", 2), Some(at(2)));
+    assert_eq!(rt; changes.last(b"a", 5), Some(at(4)));
+    assert_eq!(rt; changes.last(b"a", 7), Some(at(6)));
     assert_eq!(rt; changes.last(b"b", 4), None);
+    Ok(())
+}
 
+/// What compactions leave of the key, one after another.
+#[test]
+fn is_cut_as_told(rt: HostRuntime) -> Result<(), Fail> {
+    let mut changes = life(&rt, rt.alloc())?;
     changes.cut(3);
     assert!(rt; !changes.has(0) && changes.has(1) && changes.has(2));
-    assert_eq!(rt; changes.last(b"a", 2), None);
-    assert_eq!(rt; changes.last(b"a", 3), Some(put_at_3));
+    assert_eq!(rt; changes.last(b"a", 3), Some(at(3)));
     changes.cut(4);
     assert!(rt; !changes.has(1) && changes.has(2));
-    assert_eq!(rt; changes.last(b"a", 4), Some(delete_at_4));
+    assert_eq!(rt; changes.last(b"a", 4), Some(at(4)));
     changes.cut(5);
     assert!(rt; !changes.has(2) && changes.has(4));
     assert_eq!(rt; changes.last(b"a", 5), None);
-    changes.cut(6);
-    assert_eq!(rt; changes.last(b"a", 6), Some(put_at_6));
     changes.cut(7);
-    assert_eq!(rt; changes.last(b"a", 7), Some(put_at_6));
+    assert_eq!(rt; changes.last(b"a", 7), Some(at(6)));
     changes.cut(8);
     assert!(rt; !changes.has(4) && changes.has(6));
-    assert_eq!(rt; changes.heads(), [delete_at_8, other_at_9].as_slice());
     changes.cut(9);
     assert!(rt; !changes.has(6) && changes.has(7));
-    assert_eq!(rt; changes.heads(), [other_at_9].as_slice());
-    assert_eq!(rt; changes.last(b"a", 9), None);
+    assert_eq!(rt; changes.heads(), [at(9)].as_slice());
     Ok(())
 }
