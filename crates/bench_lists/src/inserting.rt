@@ -1,4 +1,4 @@
-//! Putting a number into its place, and taking it away again.
+//! Putting a number between the items, and taking it away again. Each begins with a search.
 use crate::below::Below;
 use crate::numbers::{Numbers, listed, vector};
 use anyhow::{Result, bail};
@@ -30,7 +30,7 @@ impl Work for Inserting {
     type Output = u32;
 
     fn ours(&mut self, _alloc: Global) -> Result<u32> {
-        let number = self.put.next();
+        let number = self.put.next().wrapping_add(1);
         let test = Below(number);
         let place = self.list.search(&test);
         if self.list.len() == self.list.room() {
@@ -38,20 +38,20 @@ impl Work for Inserting {
         }
         self.list.insert(place, number);
         let place = self.list.search(&test);
-        if !self.list.has_item(place) {
+        if !self.list.has_item(place) || self.list.remove(place) != number {
             bail!("the number is gone");
         }
-        Ok(self.list.remove(place))
+        Ok(number)
     }
 
     fn other(&mut self, _alloc: Global) -> Result<u32> {
-        let number = self.put_into_vector.next();
+        let number = self.put_into_vector.next().wrapping_add(1);
         let place = self.items.partition_point(|item| *item < number);
         self.items.insert(place, number)?;
         let place = self.items.partition_point(|item| *item < number);
-        if place == self.items.len() {
+        if place == self.items.len() || self.items.remove(place) != number {
             bail!("the number is gone");
         }
-        Ok(self.items.remove(place))
+        Ok(number)
     }
 }

@@ -17,7 +17,7 @@ use std::time::CpuClock;
 
 const SEARCHING: &str = "search among";
 
-const INSERTING: &str = "search and insert and remove among";
+const INSERTING: &str = "insert and remove by search among";
 
 /// How many items the list has.
 const COUNTS: [u32; 3] = [1_000, 30_000, 300_000];

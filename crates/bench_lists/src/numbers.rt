@@ -26,7 +26,7 @@ pub(crate) fn vector(alloc: Global, count: u32) -> Result<Vec<u32>> {
     Ok(items)
 }
 
-/// Numbers between the items, one after another in no order.
+/// The items one after another, in no order.
 #[derive(Clone, Copy, Debug)]
 pub(crate) struct Numbers {
     index: u32,
@@ -42,8 +42,8 @@ impl Numbers {
         self.index = self.index.wrapping_add(1);
         let scattered = self.index.wrapping_mul(2_654_435_761);
         match scattered.checked_rem(self.count) {
-            Some(item) => item.wrapping_mul(STEP).wrapping_add(1),
-            None => 1,
+            Some(item) => item.wrapping_mul(STEP),
+            None => 0,
         }
     }
 }

@@ -1,7 +1,7 @@
-//! Looking for a number.
+//! Looking for an item. What is found is tested, so that no search is left out as unused.
 use crate::below::Below;
 use crate::numbers::{Numbers, listed, vector};
-use anyhow::Result;
+use anyhow::{Result, bail};
 use bench_measure::Work;
 use chunk_list::ChunkList;
 use std::alloc::Global;
@@ -27,20 +27,23 @@ impl Searching {
 }
 
 impl Work for Searching {
-    type Output = Option<u32>;
+    type Output = u32;
 
-    fn ours(&mut self, _alloc: Global) -> Result<Option<u32>> {
-        let place = self.list.search(&Below(self.asked.next()));
-        Ok(if self.list.has_item(place) {
-            Some(self.list.get(place))
-        } else {
-            None
-        })
+    fn ours(&mut self, _alloc: Global) -> Result<u32> {
+        let item = self.asked.next();
+        let place = self.list.search(&Below(item));
+        if !self.list.has_item(place) || self.list.get(place) != item {
+            bail!("an item is not found");
+        }
+        Ok(item)
     }
 
-    fn other(&mut self, _alloc: Global) -> Result<Option<u32>> {
-        let number = self.asked_of_vector.next();
-        let place = self.items.partition_point(|item| *item < number);
-        Ok(self.items.get(place).copied())
+    fn other(&mut self, _alloc: Global) -> Result<u32> {
+        let item = self.asked_of_vector.next();
+        let place = self.items.partition_point(|other| *other < item);
+        if self.items.get(place) != Some(&item) {
+            bail!("an item is not found");
+        }
+        Ok(item)
     }
 }

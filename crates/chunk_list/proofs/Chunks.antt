@@ -12,11 +12,11 @@ use Rattle.chunk_list.specs.declared.chunk.TheConstants.{LEAST, MOST}
 use Rattle.chunk_list.specs.declared.place.Place.{Place}
 
 module _ {T : Type 0} where
-  -- a part stands between those before it and those after it
+  -- a chunk stands between those before it and those after it
   pub chunks_split : (chunks : List (List T)) (i : ℕ) → i < length chunks → chunks ≡ take i chunks ++ (chunk_at chunks i ∷ drop (i + 1) chunks)
   chunks_split chunks i lt = sym (take-append-drop i chunks) ∙ ap (λ xs. take i chunks ++ xs) (drop_more chunks i [] lt)
 
-  -- what a part read at a place is
+  -- a chunk that is read is that of the list
   pub chunk_read : (chunks : List (List T)) (i : ℕ) (p : List T) → p ≡ get_or chunks i p → i < length chunks → p ≡ chunk_at chunks i
   chunk_read chunks i p is lt = is ∙ get_or_default chunks i p [] lt
 
@@ -96,7 +96,7 @@ module _ {T : Type 0} where
   pub items_split : (chunks : List (List T)) (i : ℕ) → i < length chunks → items_of chunks ≡ items_of (take i chunks) ++ (chunk_at chunks i ++ items_of (drop (i + 1) chunks))
   items_split chunks i lt = ap items_of (chunks_split chunks i lt) ∙ items_append (take i chunks) (chunk_at chunks i ∷ drop (i + 1) chunks)
 
-  -- a part and another cut after the first
+  -- a chunk cut in two has the same items
   pub items_two : (before after : List (List T)) (p a b : List T) → a ++ b ≡ p → items_of (before ++ (a ∷ b ∷ after)) ≡ items_of before ++ (p ++ items_of after)
   items_two before after p a b is =
       items_append before (a ∷ b ∷ after) ∙ ap (λ x. items_of before ++ x) (sym (append_assoc a b (items_of after)) ∙ ap (λ x. x ++ items_of after) is)
@@ -201,7 +201,7 @@ module _ {T : Type 0} where
       let is : chunks ≡ take i chunks ++ chunk_at chunks i ∷ [] = chunks_split chunks i lt ∙ ap (λ xs. take i chunks ++ (chunk_at chunks i ∷ xs)) none in
       subst IsDense (sym is) (dense_join (take i chunks) (chunk_at chunks i) [] short.before ((λ h. absurd (omega (arith, h))), tt))
 
-  -- ---- one part changed
+  -- ---- one chunk changed
 
   pub items_set : (chunks : List (List T)) (i : ℕ) (p : List T) → i < length chunks → items_of (set chunks i p) ≡ items_of (take i chunks) ++ (p ++ items_of (drop (i + 1) chunks))
   items_set chunks i p lt =

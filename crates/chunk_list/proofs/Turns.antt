@@ -1,4 +1,4 @@
--- Where a test stops to hold.
+-- Where a test stops holding.
 use Rattle.std.proofs.Common.{◌≡◌, ℕ, zero, suc, ◌+◌, ◌-◌, ◌<◌, ◌≤◌, List, [], ◌∷◌, length, get_or, take, Bool, true, false, refl, sym, ap, subst, ◌∙◌, arith, inl, inr}
 use Rattle.std.specs.List.{All}
 use Rattle.std.proofs.lemmas.Bool.{cases_lt}
@@ -18,7 +18,7 @@ module _ {T : Type 0} where
         let no : ⊥ = cc in absurd no
   ]
 
-  -- an item at which it does not stands after it
+  -- an item at which it doesn't hold stands from the turn on
   pub turn_before : (test : T → Bool) (xs : List T) (k i : ℕ) (x : T) → TurnsAt test xs k → i < length xs → x ≡ get_or xs i x → test x ≡ false → k ≤ i
   turn_before test xs k i x turn lt is fails = elim (cases_lt i k) [
     | inl below ↦
@@ -29,7 +29,7 @@ module _ {T : Type 0} where
 
   -- ---- the turn of a list and of its chunks
 
-  -- where the last item of a part stands
+  -- where the last item of a chunk stands
   last_item : (chunks : List (List T)) (i : ℕ) (x : T) → i + 1 < length chunks → IsDense chunks → x ≡ get_or (chunk_at chunks i) (length (chunk_at chunks i) - 1) x → x ≡ get_or (items_of chunks) (length (items_of (take i chunks)) + (length (chunk_at chunks i) - 1)) x
   last_item chunks i x lt dense is =
       is ∙ sym (item_at chunks i (length (chunk_at chunks i) - 1) x (omega arith) (omega (arith, dense_here chunks i lt dense)))
@@ -48,7 +48,7 @@ module _ {T : Type 0} where
       let before = turn_before test (items_of chunks) k (length (items_of (take i chunks)) + (length (chunk_at chunks i) - 1)) x turn (omega (arith, full, below)) (last_item chunks i x lt dense is) fails in
       omega (arith, before, full, start_next chunks i (omega arith))
 
-  -- the turn of the items is one of the part that it stands in
+  -- the turn of the items is one of the chunk that it stands in
   pub turn_within : (chunks : List (List T)) (i k : ℕ) → i < length chunks → k ≤ length (items_of chunks) → (i + 1 < length chunks → k < length (items_of (take (i + 1) chunks))) → k ≤ length (items_of (take i chunks)) + length (chunk_at chunks i)
   turn_within chunks i k lt le to = elim (cases_lt (i + 1) (length chunks)) [
     | inl more ↦ omega (arith, to more, start_next chunks i lt)
@@ -97,7 +97,7 @@ module _ {T : Type 0} where
     item_is = λ less. found_item test chunks v chunk offset p saw found.in_range is found.from found.to exact k turn less;
   }
 
-  -- what may be asked at each item may be asked at those of a part
+  -- what may be asked at each item may be asked at those of a chunk
   pub can_chunk : (P : T → Type 0) (chunks : List (List T)) (i : ℕ) → i < length chunks → All P (items_of chunks) → All P (chunk_at chunks i)
   can_chunk P chunks i lt all = λ j d less. subst P (item_at chunks i j d lt less) (all (length (items_of (take i chunks)) + j) d (omega (arith, less, start_below chunks i lt)))
 

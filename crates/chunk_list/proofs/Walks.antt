@@ -2,17 +2,17 @@
 use Rattle.std.proofs.Common.{◌≡◌, ℕ, zero, suc, ◌+◌, ◌-◌, ◌<◌, ◌≤◌, List, [], ◌∷◌, ◌++◌, length, get_or, set, take, drop, sym, ap, subst, ◌∙◌, arith, inl, inr}
 use Rattle.std.specs.Prelude.{Bool, true}
 use Rattle.std.proofs.lemmas.Bool.{cases_lt}
-use Rattle.std.proofs.lemmas.List.{length-append, length-set, length-take-le, append-nil, take_more, take_all, take-append-le, drop-append-le, get_or-take, get_or_default, set_at, drop_more, get_or-drop}
+use Rattle.std.proofs.lemmas.List.{length-append, length-set, length-take-le, append-nil, take_more, take_all, take-append-le, get_or-take, get_or_default, set_at, drop_more, get_or-drop}
 use Rattle.std.proofs.lemmas.List.Filters.{FiltersInPlace, FiltersInPlace-more_set}
-use Rattle.std.proofs.Math.Seq.{take-append-add, drop-append-add}
+use Rattle.std.proofs.Math.Seq.{take-append-add}
 use Rattle.chunk_list.specs.Chunked.{Chunked, position_of, IsPlace, HasItem, IsPlaceAt}
 use Rattle.chunk_list.specs.Chunks.{items_of, chunk_at, IsDense, IsSound}
 use Rattle.chunk_list.specs.declared.place.Place.{Place}
-use Rattle.chunk_list.proofs.Chunks.{place_in, items_append, items_split, sizes_length, sizes_at, sizes_start, dense_here, dense_front, dense_join}
+use Rattle.chunk_list.proofs.Chunks.{place_in, items_append, items_split, sizes_length, sizes_at, sizes_start, dense_front, dense_join}
 use Rattle.chunk_list.proofs.Lists.{IsSeen}
 
 module _ {T : Type 0} where
-  -- the next part begins where one ends
+  -- the next chunk begins where one ends
   pub start_next : (chunks : List (List T)) (i : ℕ) → i < length chunks → length (items_of (take (i + 1) chunks)) ≡ length (items_of (take i chunks)) + length (chunk_at chunks i)
   start_next chunks i lt =
       let p : List T = chunk_at chunks i in
@@ -26,7 +26,7 @@ module _ {T : Type 0} where
       let after : List T = items_of (drop (i + 1) chunks) in
       omega (arith, n, length-append (items_of (take i chunks)) (p ++ after), length-append p after)
 
-  -- the last part ends where all do
+  -- the last chunk ends where all do
   pub start_last : (chunks : List (List T)) (i : ℕ) → i + 1 ≡ length chunks → length (items_of (take i chunks)) + length (chunk_at chunks i) ≡ length (items_of chunks)
   start_last chunks i last =
       let all : take (i + 1) chunks ≡ chunks = take_all (i + 1) chunks (omega arith) in
@@ -110,10 +110,10 @@ module _ {T : Type 0} where
       let m = length-take-le (position_of v.sizes place) v.items short in
       let k = length-set new place.chunk chunk' in
       let l = ap length cut ∙ length-take-le (place.chunk + 1) chunks (omega (arith, q.chunk_in)) in
-      let parts_are : set new place.chunk chunk' ≡ take place.chunk chunks ++ chunk' ∷ [] = ap (λ xs. set xs place.chunk chunk') cut ∙ cut_chunks chunks place.chunk chunk' q.chunk_in in
+      let chunks_are : set new place.chunk chunk' ≡ take place.chunk chunks ++ chunk' ∷ [] = ap (λ xs. set xs place.chunk chunk') cut ∙ cut_chunks chunks place.chunk chunk' q.chunk_in in
       record {
         some = omega (arith, k, l);
-        dense = subst IsDense (sym parts_are) (dense_join (take place.chunk chunks) chunk' [] (dense_front chunks place.chunk q.chunk_in sound.dense) ((λ h. absurd (omega (arith, h))), tt));
+        dense = subst IsDense (sym chunks_are) (dense_join (take place.chunk chunks) chunk' [] (dense_front chunks place.chunk q.chunk_in sound.dense) ((λ h. absurd (omega (arith, h))), tt));
         total = omega (arith, k, total, sound.total);
         capacity = omega (arith, k, total, more, sound.capacity);
         spare_capacity = omega (arith, k, total, more_spare, sound.spare_capacity);

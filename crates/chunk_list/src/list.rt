@@ -83,7 +83,8 @@ impl<T: Copy> ChunkList<T> {
     pub fn start(&self) -> Place
         ensures { IsPlaceAt self.now result 0 }
     {
-        let _ = &self.count;
+        // What always holds of a list is known here once a field is read.
+        let _count = self.count;
         Place {
             chunk: 0,
             offset: 0,
@@ -155,6 +156,7 @@ impl<T: Copy> ChunkList<T> {
         requires ordered { position_of self.now.sizes from ≤ position_of self.now.sizes to }
         ensures { position_of self.now.sizes from + result ≡ position_of self.now.sizes to }
     {
+        // What always holds of a list is known here once a field is read.
         let _count = self.count;
         if to.chunk < from.chunk {
             return 0;

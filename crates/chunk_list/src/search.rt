@@ -1,4 +1,4 @@
-//! Looking for the place where a test stops to hold.
+//! Looking for the place where a test stops holding.
 ghost use Rattle.std.specs.Prelude.{◌≡◌, ℕ, ◌<◌, ◌≤◌, List, length};
 ghost use Rattle.std.specs.List.{All};
 ghost use Rattle.chunk_list.specs.Chunked.{TurnsAt};
@@ -20,7 +20,7 @@ pub trait Test<T> {
         ensures { result ≡ test self.now item };
 }
 
-/// The first item at which the test does not hold, or the end.
+/// The first item at which the test doesn't hold, or the end.
 pub(crate) fn first_item<T: Copy, S: Test<T>>(items: &[T], test: &S) -> usize
     requires { All (S.can test.now) items.now }
     ensures in_range { result ≤ length items.now }
@@ -39,7 +39,7 @@ pub(crate) fn first_item<T: Copy, S: Test<T>>(items: &[T], test: &S) -> usize
     low
 }
 
-/// The first chunk at whose last item the test does not hold, or the last chunk.
+/// The first chunk at whose last item the test doesn't hold, or the last chunk.
 pub(crate) fn first_chunk<T: Copy, S: Test<T>>(chunks: &[Chunk<T>], test: &S) -> usize
     requires some { 0 < length chunks.now }
     requires dense { IsDense chunks.now }

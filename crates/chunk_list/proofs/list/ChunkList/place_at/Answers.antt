@@ -1,4 +1,4 @@
-use Rattle.std.proofs.Common.{◌≡◌, ◌+◌, ◌-◌, ◌<◌, length, take, refl, ap, arith}
+use Rattle.std.proofs.Common.{◌≡◌, ◌-◌, ◌<◌, length, take, refl, ap, arith}
 use Rattle.chunk_list.specs.Chunks.{items_of}
 use Rattle.chunk_list.proofs.Chunks.{chunk_read}
 use Rattle.chunk_list.proofs.Lists.{seen}
