@@ -1,5 +1,5 @@
 -- What is planned for a transaction is what the machine does with it.
-use Rattle.std.proofs.Common.{◌≡◌, List, [], ◌∷◌, ◌++◌, Bool, true, false, refl, ap, sym, subst, ◌∙◌, inl, inr, if◌then◌else◌}
+use Rattle.std.proofs.Common.{◌≡◌, List, [], ◌∷◌, Bool, true, false, refl, ap, sym, subst, ◌∙◌, inl, inr, if◌then◌else◌}
 use Rattle.std.specs.Prelude.{◌||◌, ◌&&◌, Some, None, Result, Ok, Err, IfOk, MatchResult, nat_lt}
 use Rattle.std.specs.List.{list_any}
 use Rattle.std.proofs.Math.Bool.{or-true}
@@ -15,7 +15,7 @@ use Rattle.etcd_types.specs.declared.reply.Reply.TheVariants.{Refused, Txn as Tx
 use Rattle.etcd_model.specs.declared.state.Change.{Change}
 use Rattle.etcd_model.specs.Compares.{all_hold}
 use Rattle.etcd_model.specs.Fields.{is_empty}
-use Rattle.etcd_model.specs.Operations.{adds_any, branch, ops_refusal, pending_after}
+use Rattle.etcd_model.specs.Operations.{adds_any, branch, ops_refusal}
 use Rattle.etcd_model.specs.Reads.{Reads}
 use Rattle.etcd_model.specs.Stepping.{transaction, within_quota, writes, writes_op}
 use Rattle.etcd_model.specs.Store.{IsStore, after, counted_cells, kept_store}
