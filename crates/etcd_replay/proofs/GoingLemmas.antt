@@ -17,7 +17,7 @@ use Rattle.etcd_replay.specs.declared.lines.Taken.{Taken}
 use Rattle.etcd_replay.specs.declared.lines.Taken.TheVariants.{Line, TooLong}
 use Rattle.etcd_replay.specs.Script.{Asked, lines_of, read_line}
 use Rattle.etcd_replay.specs.Answers.{line_of}
-use Rattle.etcd_replay.specs.Replaying.{TenantState, LineTurn, Tells}
+use Rattle.etcd_replay.specs.Replaying.{TenantState, LineTurn, Tells, line_turn}
 use Rattle.etcd_replay.specs.Lines.{BeginsTooLong, BeginsWithLine}
 use Rattle.etcd_replay.specs.Written.{EndsAtLine, EndsEarly, Replays, Wrote}
 use Rattle.etcd_replay.specs.Going.{Going}
@@ -73,7 +73,7 @@ pub going_more : (o now next old mid new : Option (List ℕ)) (before after : Op
 going_more None now next old mid new before after n line q a going taken drops some is tells wrote = tt
 going_more (Some script) now next old mid new before after n line q a going taken drops some is tells wrote =
     let g : Going script now old mid before n = going in
-    let x : LineTurn = record { asked = q; answer = a } in
+    let x : LineTurn = line_turn q a in
     let first = first_is script now old mid before n g line taken some in
     record {
       done = g.done ++ strip_last 10 line ∷ [];

@@ -1,7 +1,7 @@
 -- A replay goes on with one more line.
 use Rattle.std.proofs.Common.{◌≡◌, ◌∙◌, sym, ap, subst, refl, ℕ, Bool, true, false, List, [], ◌∷◌, ◌++◌, append_assoc, append-nil, Option, None, Some}
 use Rattle.std.specs.Prelude.{◌&&◌, ◌||◌, not, cond, filter_map}
-use Rattle.std.specs.List.{AllByRecursion, cons_option}
+use Rattle.std.specs.List.{cons_option}
 use Rattle.std.proofs.ByRecursion.{All-push}
 use Rattle.std.proofs.lemmas.Bool.{true≢false}
 use Rattle.std.proofs.lemmas.List.{map-append}
@@ -17,7 +17,7 @@ use Rattle.etcd_replay.specs.declared.answer.AddFault.TheVariants.{Name, Limits}
 use Rattle.etcd_replay.specs.declared.answer.LineAnswer.{LineAnswer}
 use Rattle.etcd_replay.specs.declared.answer.LineAnswer.TheVariants.{Done, No, Told}
 use Rattle.etcd_replay.specs.Script.{Asked, Add, Call}
-use Rattle.etcd_replay.specs.Replaying.{TenantState, LineTurn, IsAdded, IsCalled, Tells, IsUnserved, IsAlone, IsSpoken, IsTenant, IsReplayed, Opens, add_fault, is_name, within_limits, is_own_call, turn_of, turns}
+use Rattle.etcd_replay.specs.Replaying.{TenantState, tenant_state, LineTurn, line_turn, AreUnserved, IsAdded, IsCalled, Tells, IsUnserved, IsAlone, IsSpoken, IsTenant, IsReplayed, Opens, add_fault, is_name, within_limits, is_own_call, turn_of, turns}
 
 -- ---- lists with one more
 
@@ -72,10 +72,10 @@ alone_told : (name : List ℕ) (S : State History) (xs : List LineTurn) (t u : T
     → is_of name (Called method target body) ≡ true → is_unanswered a ≡ false → u.name ≡ name
     → a ≡ answer_to (alone_after S (asked (own name (turns xs)))) (read_event (Called method target body))
     → Holds (after_read (alone_after S (asked (own name (turns xs)))) (read_event (Called method target body))) (tenant u.machine)
-    → IsAlone name S (xs ++ record { asked = Call method target body; answer = Told a } ∷ []) u
+    → IsAlone name S (xs ++ line_turn (Call method target body) (Told a) ∷ []) u
 alone_told name S xs t u method target body a is mine answered named same holds =
     let e = Called method target body in
-    let x : LineTurn = record { asked = Call method target body; answer = Told a } in
+    let x : LineTurn = line_turn (Call method target body) (Told a) in
     let turn : Turn = record { event = e; answer = a } in
     let before = own name (turns xs) in
     let one : own name (turn ∷ []) ≡ turn ∷ [] = rw (mine, answered) refl in
@@ -114,16 +114,16 @@ grown xs t u x is alone = record {
   quota = is.quota;
   first = is.first;
   later = is.later ++ x ∷ [];
-  lines = ap (λ l. l ++ x ∷ []) is.lines ∙ append_assoc is.before (record { asked = Add is.name is.cluster is.quota is.first; answer = Done } ∷ is.later) (x ∷ []);
+  lines = ap (λ l. l ++ x ∷ []) is.lines ∙ append_assoc is.before (line_turn (Add is.name is.cluster is.quota is.first) Done ∷ is.later) (x ∷ []);
   unserved = is.unserved;
   free = is.free;
   served = alone;
 }
 
-opened : (xs : List LineTurn) (name : List ℕ) (cluster quota first : ℕ) (new : Option TenantState) → AllByRecursion (λ (x : LineTurn). IsUnserved false x.asked x.answer) xs
-    → add_fault false name cluster quota first ≡ None → Opens name cluster quota first new → IsReplayed (xs ++ record { asked = Add name cluster quota first; answer = Done } ∷ []) new
+opened : (xs : List LineTurn) (name : List ℕ) (cluster quota first : ℕ) (new : Option TenantState) → AreUnserved xs
+    → add_fault false name cluster quota first ≡ None → Opens name cluster quota first new → IsReplayed (xs ++ line_turn (Add name cluster quota first) Done ∷ []) new
 opened xs name cluster quota first new before free opens =
-    subst (IsReplayed (xs ++ record { asked = Add name cluster quota first; answer = Done } ∷ [])) (sym opens.is) (record {
+    subst (IsReplayed (xs ++ line_turn (Add name cluster quota first) Done ∷ [])) (sym opens.is) (record {
       before = xs;
       name = name;
       cluster = cluster;
@@ -137,16 +137,16 @@ opened xs name cluster quota first new before free opens =
     })
 
 -- nobody is there, and nobody comes
-unserved_more : (xs : List LineTurn) (new : Option TenantState) (x : LineTurn) → AllByRecursion (λ (y : LineTurn). IsUnserved false y.asked y.answer) xs → new ≡ None → IsUnserved false x.asked x.answer → IsReplayed (xs ++ x ∷ []) new
+unserved_more : (xs : List LineTurn) (new : Option TenantState) (x : LineTurn) → AreUnserved xs → new ≡ None → IsUnserved false x.asked x.answer → IsReplayed (xs ++ x ∷ []) new
 unserved_more xs new x before none one = subst (IsReplayed (xs ++ x ∷ [])) (sym none) (All-push _ xs x before one)
 
 unserved_call : (xs : List LineTurn) (new : Option TenantState) (method target body : List ℕ) (a : Answer) (unanswered : Bool) → is_unanswered a ≡ unanswered
-    → AllByRecursion (λ (y : LineTurn). IsUnserved false y.asked y.answer) xs → IsCalled None (Called method target body) a new → IsReplayed (xs ++ record { asked = Call method target body; answer = Told a } ∷ []) new
+    → AreUnserved xs → IsCalled None (Called method target body) a new → IsReplayed (xs ++ line_turn (Call method target body) (Told a) ∷ []) new
 unserved_call xs new method target body a true is before called =
-    unserved_more xs new (record { asked = Call method target body; answer = Told a }) before (called.memory is).0 (λ other. absurd (true≢false (sym is ∙ other)))
+    unserved_more xs new (line_turn (Call method target body) (Told a)) before (called.memory is).0 (λ other. absurd (true≢false (sym is ∙ other)))
 unserved_call xs new method target body a false is before called =
     let none = (called.served is).none refl in
-    unserved_more xs new (record { asked = Call method target body; answer = Told a }) before none.0 (λ _. none.1)
+    unserved_more xs new (line_turn (Call method target body) (Told a)) before none.0 (λ _. none.1)
 
 and_false : (b : Bool) → (b && false) ≡ false
 and_false true = refl
@@ -155,17 +155,17 @@ and_false false = refl
 -- a call of the tenant that is there, or of nobody
 served_call : (xs : List LineTurn) (t : TenantState) (new : Option TenantState) (method target body : List ℕ) (a : Answer) (is : IsTenant xs t) (unanswered mine : Bool)
     → is_unanswered a ≡ unanswered → is_of is.name (Called method target body) ≡ mine → IsCalled (Some t) (Called method target body) a new
-    → IsReplayed (xs ++ record { asked = Call method target body; answer = Told a } ∷ []) new
+    → IsReplayed (xs ++ line_turn (Call method target body) (Told a) ∷ []) new
 served_call xs t new method target body a is true mine quiet own_is called =
     let e = Called method target body in
-    let x : LineTurn = record { asked = Call method target body; answer = Told a } in
+    let x : LineTurn = line_turn (Call method target body) (Told a) in
     let turn : Turn = record { event = e; answer = a } in
     let none : own is.name (turn ∷ []) ≡ [] = ap (λ b. cond ((is_of is.name e && true) && not b) (turn ∷ []) []) quiet ∙ ap (λ b. cond b (turn ∷ []) []) (and_false (is_of is.name e && true)) in
     subst (IsReplayed (xs ++ x ∷ [])) (sym (called.memory quiet).0)
     (grown xs t t x is (alone_passed is.name (opening is.cluster is.quota is.first) is.later t t x is.served refl (λ other answered. absurd (true≢false (sym quiet ∙ answered))) none))
 served_call xs t new method target body a is false false answered other called =
     let e = Called method target body in
-    let x : LineTurn = record { asked = Call method target body; answer = Told a } in
+    let x : LineTurn = line_turn (Call method target body) (Told a) in
     let turn : Turn = record { event = e; answer = a } in
     let apart : is_of t.name e ≡ false = ap (λ n. is_of n e) is.served.named ∙ other in
     let none : own is.name (turn ∷ []) ≡ [] = rw other refl in
@@ -174,25 +174,25 @@ served_call xs t new method target body a is false false answered other called =
     (grown xs t t x is (alone_passed is.name (opening is.cluster is.quota is.first) is.later t t x is.served refl (λ _ _. nobody_told.1) none))
 served_call xs t new method target body a is false true answered mine called =
     let e = Called method target body in
-    let x : LineTurn = record { asked = Call method target body; answer = Told a } in
+    let x : LineTurn = line_turn (Call method target body) (Told a) in
     let S = opening is.cluster is.quota is.first in
     let now = alone_after S (asked (own is.name (turns is.later))) in
     let own_told = (called.served answered).own t now refl (ap (λ n. is_of n e) is.served.named ∙ mine) is.served.holds in
     let after = own_told.1 in
-    let u : TenantState = record { name = t.name; machine = after.0 } in
+    let u : TenantState = tenant_state t.name after.0 in
     subst (IsReplayed (xs ++ x ∷ [])) (sym after.1)
     (grown xs t u x is (alone_told is.name S is.later t u method target body a is.served mine answered is.served.named own_told.0 after.2))
 
 added_call : (xs : List LineTurn) (t : TenantState) (new : Option TenantState) (name : List ℕ) (cluster quota first : ℕ) (f : AddFault) → IsTenant xs t
-    → IsAdded (Some t) name cluster quota first (No f) new → IsReplayed (xs ++ record { asked = Add name cluster quota first; answer = No f } ∷ []) new
+    → IsAdded (Some t) name cluster quota first (No f) new → IsReplayed (xs ++ line_turn (Add name cluster quota first) (No f) ∷ []) new
 added_call xs t new name cluster quota first f is added =
-    let x : LineTurn = record { asked = Add name cluster quota first; answer = No f } in
+    let x : LineTurn = line_turn (Add name cluster quota first) (No f) in
     let refused = added.no f refl in
     subst (IsReplayed (xs ++ x ∷ [])) (sym refused.0)
     (grown xs t t x is (alone_passed is.name (opening is.cluster is.quota is.first) is.later t t x is.served refl (λ _. refused.1) refl))
 
 -- a replay goes on with a line that was answered
-pub replayed_push : (xs : List LineTurn) (old new : Option TenantState) (q : Asked) (a : LineAnswer) → IsReplayed xs old → Tells old q a new → IsReplayed (xs ++ record { asked = q; answer = a } ∷ []) new
+pub replayed_push : (xs : List LineTurn) (old new : Option TenantState) (q : Asked) (a : LineAnswer) → IsReplayed xs old → Tells old q a new → IsReplayed (xs ++ line_turn q a ∷ []) new
 replayed_push xs None new (Add name cluster quota first) Done is tells = opened xs name cluster quota first new is (tells.free refl) (tells.opens refl)
 replayed_push xs None new (Add name cluster quota first) (No f) is tells = unserved_more xs new _ is (tells.no f refl).0 (tells.no f refl).1
 replayed_push xs None new (Add name cluster quota first) (Told a) is tells = absurd (tells.spoken a refl)

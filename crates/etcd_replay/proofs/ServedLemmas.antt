@@ -12,7 +12,7 @@ use Rattle.etcd_model.specs.ReplyText.{Answer, reply_body, reply_status, text}
 use Rattle.gateway_text.proofs.AnswerLaws.{status_of_memory}
 use Rattle.tenant_machine.specs.Tenants.{MachineState, tenant}
 use Rattle.tenant_machine.specs.Plans.{Plan, Plans, IsAfter}
-use Rattle.etcd_replay.specs.Replaying.{TenantState, Serves, IsCalled}
+use Rattle.etcd_replay.specs.Replaying.{TenantState, tenant_state, Serves, IsCalled}
 
 -- a plan that is committed serves its step
 pub planned_serves : (old new : MachineState) (step : Step) (p : Plan) (a : Answer) → Plans old step p → IsAfter old p new → a.status ≡ reply_status p.reply → a.body ≡ reply_body p.reply → Serves old (Ok step) a new
@@ -33,10 +33,10 @@ called_serves t u method target body found a is mine serves named = record {
         let one : t ≡ s = same_Some t s same in
         let held : Holds S (tenant t.machine) = subst (λ (v : TenantState). Holds S (tenant v.machine)) (sym one) holds in
         let now = serves.served S answered held in
-        (now.0 ∙ ap (answer_to S) (sym read), (u.machine, (λ i. Some (record { name = (named ∙ ap (λ (v : TenantState). v.name) one) i; machine = u.machine })), subst (λ r. Holds (after_read S r) (tenant u.machine)) (sym read) now.1));
+        (now.0 ∙ ap (answer_to S) (sym read), (u.machine, (λ i. Some (tenant_state ((named ∙ ap (λ (v : TenantState). v.name) one) i) u.machine)), subst (λ r. Holds (after_read S r) (tenant u.machine)) (sym read) now.1));
     none = λ other. absurd (true≢false (sym there ∙ other));
   };
-  memory = λ unanswered. (λ i. Some (record { name = named i; machine = (serves.memory unanswered).0 i }), (serves.memory unanswered).1);
+  memory = λ unanswered. (λ i. Some (tenant_state (named i) ((serves.memory unanswered).0 i)), (serves.memory unanswered).1);
 }
   where
     read : read_event (Called method target body) ≡ read_posted method found.path body

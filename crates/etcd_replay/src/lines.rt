@@ -39,7 +39,7 @@ impl<R: BufRead> Lines<R> {
     }
 
     /// Takes the next line. No more is held than the longest line has. The writer is flushed before the
-    /// reader may wait, so that nobody waits for an answer that is written.
+    /// reader may wait, so no answer is held back.
     pub(crate) fn take_line<W: Write>(
         &mut self,
         writer: &mut W,

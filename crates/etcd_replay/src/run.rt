@@ -15,7 +15,8 @@ use std::io::{BufRead, Write};
 /// Answers the lines of a script in turn, and writes one answer line for each. One line is held at a
 /// time.
 ///
-/// Before the reader may wait for more, the writer is flushed; at the end it is not.
+/// The writer is flushed before the reader may wait for more of the script. After an early end that is left
+/// to the caller.
 ///
 /// It ends early at the first line that can't be read, at a fault of the reader or the writer, after
 /// 4,294,967,295 lines, and where a line can't be held.
