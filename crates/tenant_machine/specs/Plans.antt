@@ -1,5 +1,5 @@
 -- What is planned for a step, and what its commit makes of a machine.
-use Rattle.std.specs.Prelude.{◌≡◌, ◌≢◌, ℕ, ◌+◌, ◌*◌, ◌<◌, ◌≤◌, ◌^◌, Bool, true, false, List}
+use Rattle.std.specs.Prelude.{◌≡◌, ◌≢◌, ℕ, ◌*◌, ◌<◌, ◌≤◌, Bool, true, false, List}
 use Rattle.etcd_types.specs.declared.step.Step.{Step}
 use Rattle.etcd_types.specs.declared.step.Step.TheVariants.{Compact, DropWatch, Revoke, KeepAlive, Alarm}
 use Rattle.etcd_types.specs.declared.step.Step.TheVariants.{Status, Defragment, Tick, CatchUp}

@@ -1,5 +1,5 @@
 -- What a machine keeps of its tenant.
-use Rattle.std.specs.Prelude.{◌≡◌, ℕ, ◌+◌, ◌*◌, ◌≤◌, ◌^◌, Bool, [], None, replicate, refl}
+use Rattle.std.specs.Prelude.{◌≡◌, ℕ, ◌*◌, ◌≤◌, ◌^◌, Bool, [], None, replicate, refl}
 use Rattle.std.specs.Coded.{Coded, code_by, coded×, coded_ℕ, coded_bool}
 use Rattle.etcd_types.specs.Limits.{watch_slots}
 use Rattle.etcd_model.specs.declared.state.State.{State}

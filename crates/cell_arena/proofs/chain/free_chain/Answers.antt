@@ -1,4 +1,4 @@
-use Rattle.std.proofs.Common.{◌≡◌, ◌<◌, ◌+◌, ◌-◌, arith, refl, subst, ap, ◌∙◌}
+use Rattle.std.proofs.Common.{◌≡◌, ◌<◌, ◌+◌, ◌-◌, arith, refl, subst, ap}
 use Rattle.cell_arena.specs.Chain.{is_free}
 use Rattle.cell_arena.proofs.Loans.{settles_none, settles_both, lent_still}
 use Rattle.cell_arena.proofs.Freeing.{IsFreeing, freed_more}

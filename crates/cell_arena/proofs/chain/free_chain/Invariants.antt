@@ -1,4 +1,4 @@
-use Rattle.std.proofs.Common.{◌≡◌, ◌+◌, ◌-◌, ◌≤◌}
+use Rattle.std.proofs.Common.{◌-◌}
 use Rattle.cell_arena.specs.Loan.{Settles, DrawsNone}
 use Rattle.cell_arena.specs.Table.{share_of}
 use Rattle.cell_arena.proofs.Freeing.{IsFreeing}

@@ -1,4 +1,4 @@
-use Rattle.std.proofs.Common.{◌++◌, refl, arith, ◌∙◌}
+use Rattle.std.proofs.Common.{◌++◌, arith}
 use Rattle.std.proofs.lemmas.List.{length-append}
 use Rattle.cell_arena.proofs.Loans.{settles_none, settles_both}
 use Rattle.cell_arena.proofs.Storing.{stored_more, storing_none}

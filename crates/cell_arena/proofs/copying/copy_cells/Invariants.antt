@@ -1,4 +1,4 @@
-use Rattle.std.proofs.Common.{◌≡◌, ◌+◌, ◌-◌, length, max}
+use Rattle.std.proofs.Common.{◌≡◌, ◌+◌, ◌-◌, length}
 use Rattle.cell_arena.specs.Chain.{chain_bytes, SameRecords}
 use Rattle.cell_arena.specs.Loan.{Settles, DrawsFor}
 use Rattle.cell_arena.specs.Table.{IsTable, table_at, share_of}

@@ -3,8 +3,6 @@ use mathlib.Core.Path.{fun_ext}
 use Rattle.std.specs.Prelude.{vec_len}
 use Rattle.std.specs.List.{AllByRecursion}
 use Rattle.std.proofs.lemmas.List.Sums.{sum_by-cons}
-use Rattle.cell_arena.specs.Loan.{Settles}
-use Rattle.cell_arena.proofs.Loans.{settles_both}
 use Rattle.key_index.specs.Order.{changes_in}
 use Rattle.revision_store.specs.Recorded.{cells_of, leases_of}
 use Rattle.revision_store.specs.Logged.{LogState, log_of}

@@ -1,4 +1,4 @@
-use Rattle.std.proofs.Common.{rules, refl, sym}
+use Rattle.std.proofs.Common.{sym}
 use Rattle.revision_store.proofs.Committed.{can_append, can_inside, committed, kept_after}
 use Rattle.revision_store.proofs.store.Store.commit.Goals as goal
 

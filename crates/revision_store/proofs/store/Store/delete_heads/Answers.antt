@@ -1,4 +1,4 @@
-use Rattle.std.proofs.Common.{rules, refl, sym}
+use Rattle.std.proofs.Common.{refl}
 use Rattle.revision_store.specs.Plans.{deletes}
 use Rattle.revision_store.proofs.Committed.{can_append, can_inside, committed, kept_after, some_deletes}
 use Rattle.revision_store.proofs.store.Store.delete_heads.Goals as goal
