@@ -22,7 +22,7 @@ use Rattle.etcd_model.specs.declared.state.Change.{Change}
 use Rattle.etcd_model.specs.declared.state.Change.TheVariants.{Delete as Del}
 use Rattle.etcd_model.specs.declared.state.State.{State}
 use Rattle.etcd_model.specs.Order.{beside, put_in}
-use Rattle.etcd_model.specs.History.{current, history_after}
+use Rattle.etcd_model.specs.History.{history_after}
 use Rattle.etcd_model.specs.Reads.{Look}
 use Rattle.etcd_model.specs.Kept.{history_cells}
 use Rattle.etcd_model.specs.Operations.{branch, pending_after, adds_any, first_refusal}

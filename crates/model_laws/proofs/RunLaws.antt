@@ -28,7 +28,7 @@ use Rattle.etcd_model.specs.declared.state.History.{History}
 use Rattle.etcd_model.specs.declared.state.Change.{Change}
 use Rattle.etcd_model.specs.declared.state.Entry.{Entry}
 use Rattle.etcd_model.specs.declared.state.Change.TheVariants.{Delete as Del}
-use Rattle.etcd_model.specs.History.{current, history_after}
+use Rattle.etcd_model.specs.History.{history_after}
 use Rattle.etcd_model.specs.Operations.{branch}
 use Rattle.etcd_model.specs.declared.state.State.{State}
 use Rattle.etcd_model.specs.Tenant.{Outcome, reads, header}
