@@ -16,7 +16,7 @@ use Rattle.cell_arena.specs.Loan.{Loan, IsLent, Settles, KeepsShare}
 use Rattle.cell_arena.specs.Table.{IsTable, table_at, share_of, slot_cells, hidden}
 use Rattle.cell_arena.specs.Chain.{is_head, cell_at, IsChain, chain_bytes, IsLinked, head_pieces, record_with, record_of, record_at, Record, SameRecordsBut, cost_at}
 use Rattle.cell_arena.proofs.Chains.{bytes_next}
-use Rattle.cell_arena.specs.Region.{entries_below, entry_before, records_of, RegionState, region_of, cost}
+use Rattle.cell_arena.specs.Region.{entries_below, entry_before, records_of, RegionState, region_of, record_cost}
 
 tied : (q n : ℕ) → q ≡ n → eq_by_cmp nat_cmp q n ≡ true
 tied q n e = unsigned_tied q n ∙ eq-eqb q n e
@@ -116,7 +116,7 @@ value_size at k kind head linked read =
     length-take head.value_len (drop head.key_len bytes) ∙ omega (arith, head_size at k kind head linked read, length-drop head.key_len bytes)
 
 -- a record costs its cells
-pub cost_is : (at : ℕ → Cell) (k : ℕ) (kind : Kind) (head : HeadCell) → IsLinked at → at k ≡ Head kind head → cost (record_with kind head (chain_bytes at (head_pieces head) head.first)) ≡ 1 + head_pieces head
+pub cost_is : (at : ℕ → Cell) (k : ℕ) (kind : Kind) (head : HeadCell) → IsLinked at → at k ≡ Head kind head → record_cost (record_with kind head (chain_bytes at (head_pieces head) head.first)) ≡ 1 + head_pieces head
 cost_is at k kind head linked read =
     let bytes = chain_bytes at (head_pieces head) head.first in
     ap (λ n. 1 + (n + length (take head.value_len (drop head.key_len bytes)) + 47) / 48) (key_size at k kind head linked read) ∙ ap (λ n. 1 + (head.key_len + n + 47) / 48) (value_size at k kind head linked read)
@@ -135,12 +135,12 @@ is_head_some at (Free next) = refl
 is_head_some at (Head kind head) = refl
 is_head_some at (Rest bytes next) = refl
 
-pub held_cost : (t : Table) (k n : ℕ) → IsLinked (table_at t) → n ≡ (region_of t).free + cost_at (table_at t k) → is_head (table_at t k) ≡ true → IfSome (get (region_of t).records k) (λ r. n ≡ (region_of t).free + cost r)
-held_cost t k n linked more is = subst (λ o. IfSome o (λ r. n ≡ (region_of t).free + cost r)) (sym (get_held t k)) (by_cell (table_at t k) refl is)
+pub held_cost : (t : Table) (k n : ℕ) → IsLinked (table_at t) → n ≡ (region_of t).free + cost_at (table_at t k) → is_head (table_at t k) ≡ true → IfSome (get (region_of t).records k) (λ r. n ≡ (region_of t).free + record_cost r)
+held_cost t k n linked more is = subst (λ o. IfSome o (λ r. n ≡ (region_of t).free + record_cost r)) (sym (get_held t k)) (by_cell (table_at t k) refl is)
   where
-    by_cell : (c : Cell) → table_at t k ≡ c → is_head c ≡ true → IfSome (record_of (table_at t) (table_at t k)) (λ r. n ≡ (region_of t).free + cost r)
+    by_cell : (c : Cell) → table_at t k ≡ c → is_head c ≡ true → IfSome (record_of (table_at t) (table_at t k)) (λ r. n ≡ (region_of t).free + record_cost r)
     by_cell (Free next) e is = absurd (cc)
-    by_cell (Head kind head) e is = subst (λ x. IfSome (record_of (table_at t) x) (λ r. n ≡ (region_of t).free + cost r)) (sym e) (more ∙ ap (λ x. (region_of t).free + cost_at x) e ∙ ap (λ c. (region_of t).free + c) (sym (cost_is (table_at t) k kind head linked e)))
+    by_cell (Head kind head) e is = subst (λ x. IfSome (record_of (table_at t) x) (λ r. n ≡ (region_of t).free + record_cost r)) (sym e) (more ∙ ap (λ x. (region_of t).free + cost_at x) e ∙ ap (λ c. (region_of t).free + c) (sym (cost_is (table_at t) k kind head linked e)))
     by_cell (Rest bytes next) e is = absurd (cc)
 
 -- what the map has at a head
@@ -163,8 +163,8 @@ seen_head t seen k is some = held_head t k (subst (λ (h : RegionState). IsSome 
 pub seen_has : (t : Table) (seen : RegionState) (k : ℕ) → region_of t ≡ seen → is_head (table_at t k) ≡ is_some (get seen.records k)
 seen_has t seen k is = is_head_some (table_at t) (table_at t k) ∙ sym (ap is_some (seen_get t seen k is))
 
-pub seen_cost : (t : Table) (seen : RegionState) (k n : ℕ) → region_of t ≡ seen → IsLinked (table_at t) → n ≡ (region_of t).free + cost_at (table_at t k) → is_head (table_at t k) ≡ true → IfSome (get seen.records k) (λ r. n ≡ seen.free + cost r)
-seen_cost t seen k n is linked more head = subst (λ (h : RegionState). IfSome (get h.records k) (λ r. n ≡ h.free + cost r)) is (held_cost t k n linked more head)
+pub seen_cost : (t : Table) (seen : RegionState) (k n : ℕ) → region_of t ≡ seen → IsLinked (table_at t) → n ≡ (region_of t).free + cost_at (table_at t k) → is_head (table_at t k) ≡ true → IfSome (get seen.records k) (λ r. n ≡ seen.free + record_cost r)
+seen_cost t seen k n is linked more head = subst (λ (h : RegionState). IfSome (get h.records k) (λ r. n ≡ h.free + record_cost r)) is (held_cost t k n linked more head)
 
 -- the numbers that a region is seen with
 pub seen_free : (t : Table) (seen : RegionState) → region_of t ≡ seen → seen.free ≡ 64 * t.reserved - t.used

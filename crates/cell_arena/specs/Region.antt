@@ -68,8 +68,8 @@ region_code =
     (λ _. refl)
 
 -- how many cells a record takes
-abbrev pub cost : Record → ℕ
-cost r = 1 + pieces (length r.key + length r.value)
+abbrev pub record_cost : Record → ℕ
+record_cost r = 1 + pieces (length r.key + length r.value)
 
 abbrev pub entry_before : ℕ → Option Record → List (ℕ × Record) → List (ℕ × Record)
 entry_before n None es = es

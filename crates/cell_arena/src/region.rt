@@ -7,7 +7,7 @@ ghost use Rattle.std.specs.FinMap as map;
 ghost use Rattle.cell_arena.specs.declared.cell.Kind.{Kind};
 ghost use Rattle.cell_arena.specs.Chain.{pieces as cells_for};
 ghost use Rattle.cell_arena.specs.Loan.{IsLent, Settles, KeepsShare, DrawsFor, DrawsNone, IsBusy};
-ghost use Rattle.cell_arena.specs.Region.{cost, no_records, used_cells, IsFrontOf};
+ghost use Rattle.cell_arena.specs.Region.{record_cost, no_records, used_cells, IsFrontOf};
 
 use crate::cell::{Fields, Kind};
 use crate::link::Link;
@@ -126,7 +126,8 @@ impl Region {
         requires head { IsSome (map.get self.old.records cell) }
         requires lent { IsLent self.old.share (S.loan segments.old) }
         ensures gone { self.new.records ≡ map.remove self.old.records cell }
-        ensures free { IfSome (map.get self.old.records cell) (λ r. self.new.free ≡ self.old.free + cost r) }
+        ensures free { IfSome (map.get self.old.records cell)
+            (λ r. self.new.free ≡ self.old.free + record_cost r) }
         ensures settles { Settles self.old.share (S.loan segments.old) self.new.share (S.loan segments.new) }
         ensures none_drawn { DrawsNone self.old.share self.new.share }
         ensures busy { IsBusy (used_cells self.new) self.new.share }

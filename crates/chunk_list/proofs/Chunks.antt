@@ -7,7 +7,7 @@ use Rattle.std.proofs.lemmas.List.Concat.{flat_map-append, get_or-flat_map, leng
 use Rattle.std.proofs.lemmas.List.Sums.{sum-map}
 use Rattle.std.specs.Prelude.{sum}
 use Rattle.chunk_list.specs.Chunked.{start_of, position_of, IsPlace, HasItem}
-use Rattle.chunk_list.specs.Chunks.{items_of, chunk_at, replaced, IsDense, LacksOne, IsOpenedAt, IsSound}
+use Rattle.chunk_list.specs.Chunks.{chunk_items, chunk_at, replaced, IsDense, LacksOne, IsOpenedAt, AreChunks}
 use Rattle.chunk_list.specs.declared.chunk.TheConstants.{LEAST, MOST}
 use Rattle.chunk_list.specs.declared.place.Place.{Place}
 
@@ -80,26 +80,26 @@ module _ {T : Type 0} where
   dense_join [] p after full dense = dense
   dense_join (q ∷ qs) p after full dense = ((λ h. full.0), dense_join qs p after full.1 dense)
 
-  pub dense_count : (chunks : List (List T)) → IsDense chunks → LEAST * length chunks ≤ length (items_of chunks) + LEAST
+  pub dense_count : (chunks : List (List T)) → IsDense chunks → LEAST * length chunks ≤ length (chunk_items chunks) + LEAST
   dense_count [] dense = omega arith
   dense_count (p ∷ []) dense = omega arith
   dense_count (p ∷ q ∷ ps) dense =
-      let more : LEAST * length (q ∷ ps) ≤ length (items_of (q ∷ ps)) + LEAST = dense_count (q ∷ ps) dense.1 in
+      let more : LEAST * length (q ∷ ps) ≤ length (chunk_items (q ∷ ps)) + LEAST = dense_count (q ∷ ps) dense.1 in
       let here : LEAST ≤ length p = dense.0 (omega arith) in
-      omega (arith, more, here, length-append p (items_of (q ∷ ps)))
+      omega (arith, more, here, length-append p (chunk_items (q ∷ ps)))
 
   -- ---- the items of chunks
 
-  pub items_append : (xs ys : List (List T)) → items_of (xs ++ ys) ≡ items_of xs ++ items_of ys
+  pub items_append : (xs ys : List (List T)) → chunk_items (xs ++ ys) ≡ chunk_items xs ++ chunk_items ys
   items_append xs ys = flat_map-append (λ p. p) xs ys
 
-  pub items_split : (chunks : List (List T)) (i : ℕ) → i < length chunks → items_of chunks ≡ items_of (take i chunks) ++ (chunk_at chunks i ++ items_of (drop (i + 1) chunks))
-  items_split chunks i lt = ap items_of (chunks_split chunks i lt) ∙ items_append (take i chunks) (chunk_at chunks i ∷ drop (i + 1) chunks)
+  pub items_split : (chunks : List (List T)) (i : ℕ) → i < length chunks → chunk_items chunks ≡ chunk_items (take i chunks) ++ (chunk_at chunks i ++ chunk_items (drop (i + 1) chunks))
+  items_split chunks i lt = ap chunk_items (chunks_split chunks i lt) ∙ items_append (take i chunks) (chunk_at chunks i ∷ drop (i + 1) chunks)
 
   -- a chunk cut in two has the same items
-  pub items_two : (before after : List (List T)) (p a b : List T) → a ++ b ≡ p → items_of (before ++ (a ∷ b ∷ after)) ≡ items_of before ++ (p ++ items_of after)
+  pub items_two : (before after : List (List T)) (p a b : List T) → a ++ b ≡ p → chunk_items (before ++ (a ∷ b ∷ after)) ≡ chunk_items before ++ (p ++ chunk_items after)
   items_two before after p a b is =
-      items_append before (a ∷ b ∷ after) ∙ ap (λ x. items_of before ++ x) (sym (append_assoc a b (items_of after)) ∙ ap (λ x. x ++ items_of after) is)
+      items_append before (a ∷ b ∷ after) ∙ ap (λ x. chunk_items before ++ x) (sym (append_assoc a b (chunk_items after)) ∙ ap (λ x. x ++ chunk_items after) is)
 
   -- ---- an opened place
 
@@ -115,7 +115,7 @@ module _ {T : Type 0} where
         offset_in = omega (arith, n);
         short = omega (arith, n);
         items = items_two before after p a b is ∙ sym (items_append before (p ∷ after));
-        position = ap (λ xs. length (items_of xs) + offset) (take_at before (a ∷ b ∷ after) chunk len ∙ sym (take_at before (p ∷ after) chunk len));
+        position = ap (λ xs. length (chunk_items xs) + offset) (take_at before (a ∷ b ∷ after) chunk len ∙ sym (take_at before (p ∷ after) chunk len));
         dense = dense_join before a (b ∷ after) full dense;
       }
 
@@ -126,14 +126,14 @@ module _ {T : Type 0} where
       let both = ap length is in
       let more : length (before ++ a ∷ []) ≡ chunk + 1 = omega (arith, length-append before (a ∷ [])) in
       let front : take (chunk + 1) (before ++ a ∷ b ∷ after) ≡ before ++ a ∷ [] = ap (take (chunk + 1)) (sym (append_assoc before (a ∷ []) (b ∷ after))) ∙ take_at (before ++ a ∷ []) (b ∷ after) (chunk + 1) more in
-      let size = ap (λ xs. length (items_of xs)) front in
-      let size_old = ap (λ xs. length (items_of xs)) (take_at before (p ∷ after) chunk len) in
+      let size = ap (λ xs. length (chunk_items xs)) front in
+      let size_old = ap (λ xs. length (chunk_items xs)) (take_at before (p ∷ after) chunk len) in
       record {
         chunk_in = omega (arith, length-append before (a ∷ b ∷ after));
         offset_in = omega (arith, n, both, length-append a b);
         short = omega (arith, n);
         items = items_two before after p a b is ∙ sym (items_append before (p ∷ after));
-        position = omega (arith, size, size_old, ap length (items_append before (a ∷ [])), length-append (items_of before) (a ++ []), length-append a []);
+        position = omega (arith, size, size_old, ap length (items_append before (a ∷ [])), length-append (chunk_items before) (a ++ []), length-append a []);
         dense = dense_join before a (b ∷ after) full dense;
       }
 
@@ -174,11 +174,11 @@ module _ {T : Type 0} where
   next_split chunks i lt = let two : i + 1 + 1 ≡ i + 2 = omega arith in drop_more chunks (i + 1) [] lt ∙ ap (λ n. chunk_at chunks (i + 1) ∷ drop n chunks) two
 
   -- two chunks give way to others with the same items
-  pub items_pair : (chunks : List (List T)) (i : ℕ) (others : List (List T)) → i + 1 < length chunks → items_of others ≡ chunk_at chunks i ++ chunk_at chunks (i + 1) → items_of (replaced chunks i 2 others) ≡ items_of chunks
+  pub items_pair : (chunks : List (List T)) (i : ℕ) (others : List (List T)) → i + 1 < length chunks → chunk_items others ≡ chunk_at chunks i ++ chunk_at chunks (i + 1) → chunk_items (replaced chunks i 2 others) ≡ chunk_items chunks
   items_pair chunks i others lt same =
       let rest : List (List T) = drop (i + 2) chunks in
       items_append (take i chunks) (others ++ rest)
-      ∙ ap (λ xs. items_of (take i chunks) ++ xs) (items_append others rest ∙ ap (λ xs. xs ++ items_of rest) same ∙ append_assoc (chunk_at chunks i) (chunk_at chunks (i + 1)) (items_of rest) ∙ ap (λ xs. chunk_at chunks i ++ xs) (sym (ap items_of (next_split chunks i lt))))
+      ∙ ap (λ xs. chunk_items (take i chunks) ++ xs) (items_append others rest ∙ ap (λ xs. xs ++ chunk_items rest) same ∙ append_assoc (chunk_at chunks i) (chunk_at chunks (i + 1)) (chunk_items rest) ∙ ap (λ xs. chunk_at chunks i ++ xs) (sym (ap chunk_items (next_split chunks i lt))))
       ∙ sym (items_split chunks i (omega arith))
 
   pub joined_dense : (chunks : List (List T)) (i : ℕ) → i + 1 < length chunks → LacksOne chunks i → IsDense (replaced chunks i 2 ((chunk_at chunks i ++ chunk_at chunks (i + 1)) ∷ []))
@@ -203,39 +203,39 @@ module _ {T : Type 0} where
 
   -- ---- one chunk changed
 
-  pub items_set : (chunks : List (List T)) (i : ℕ) (p : List T) → i < length chunks → items_of (set chunks i p) ≡ items_of (take i chunks) ++ (p ++ items_of (drop (i + 1) chunks))
+  pub items_set : (chunks : List (List T)) (i : ℕ) (p : List T) → i < length chunks → chunk_items (set chunks i p) ≡ chunk_items (take i chunks) ++ (p ++ chunk_items (drop (i + 1) chunks))
   items_set chunks i p lt =
       let one : suc i ≡ i + 1 = omega arith in
-      ap items_of (set_split chunks i p lt ∙ ap (λ n. take i chunks ++ (p ∷ drop n chunks)) one) ∙ items_append (take i chunks) (p ∷ drop (i + 1) chunks)
+      ap chunk_items (set_split chunks i p lt ∙ ap (λ n. take i chunks ++ (p ∷ drop n chunks)) one) ∙ items_append (take i chunks) (p ∷ drop (i + 1) chunks)
 
-  pub inserted : (chunks : List (List T)) (i offset : ℕ) (x : T) → i < length chunks → offset ≤ length (chunk_at chunks i) → items_of (set chunks i (insert (chunk_at chunks i) offset x)) ≡ insert (items_of chunks) (length (items_of (take i chunks)) + offset) x
+  pub inserted : (chunks : List (List T)) (i offset : ℕ) (x : T) → i < length chunks → offset ≤ length (chunk_at chunks i) → chunk_items (set chunks i (insert (chunk_at chunks i) offset x)) ≡ insert (chunk_items chunks) (length (chunk_items (take i chunks)) + offset) x
   inserted chunks i offset x lt le =
       let p : List T = chunk_at chunks i in
-      let before : List T = items_of (take i chunks) in
-      let after : List T = items_of (drop (i + 1) chunks) in
+      let before : List T = chunk_items (take i chunks) in
+      let after : List T = chunk_items (drop (i + 1) chunks) in
       let at : length before + offset - length before ≡ offset = omega arith in
       items_set chunks i (insert p offset x) lt
       ∙ sym (ap (λ xs. insert xs (length before + offset) x) (items_split chunks i lt) ∙ insert-append_right before (p ++ after) (length before) (length before + offset) x refl (omega arith) ∙ ap (λ n. before ++ insert (p ++ after) n x) at ∙ ap (λ xs. before ++ xs) (insert-append_left p after offset x le))
 
-  pub removed : (chunks : List (List T)) (i offset : ℕ) → i < length chunks → offset < length (chunk_at chunks i) → items_of (set chunks i (remove (chunk_at chunks i) offset)) ≡ remove (items_of chunks) (length (items_of (take i chunks)) + offset)
+  pub removed : (chunks : List (List T)) (i offset : ℕ) → i < length chunks → offset < length (chunk_at chunks i) → chunk_items (set chunks i (remove (chunk_at chunks i) offset)) ≡ remove (chunk_items chunks) (length (chunk_items (take i chunks)) + offset)
   removed chunks i offset lt less =
       let p : List T = chunk_at chunks i in
-      let before : List T = items_of (take i chunks) in
-      let after : List T = items_of (drop (i + 1) chunks) in
+      let before : List T = chunk_items (take i chunks) in
+      let after : List T = chunk_items (drop (i + 1) chunks) in
       let at : length before + offset - length before ≡ offset = omega arith in
       items_set chunks i (remove p offset) lt
       ∙ sym (ap (λ xs. remove xs (length before + offset)) (items_split chunks i lt) ∙ remove-append_right before (p ++ after) (length before) (length before + offset) refl (omega arith) ∙ ap (λ n. before ++ remove (p ++ after) n) at ∙ ap (λ xs. before ++ xs) (remove-append_left p after offset less))
 
-  pub written : (chunks : List (List T)) (i offset : ℕ) (x : T) → i < length chunks → offset < length (chunk_at chunks i) → items_of (set chunks i (set (chunk_at chunks i) offset x)) ≡ set (items_of chunks) (length (items_of (take i chunks)) + offset) x
+  pub written : (chunks : List (List T)) (i offset : ℕ) (x : T) → i < length chunks → offset < length (chunk_at chunks i) → chunk_items (set chunks i (set (chunk_at chunks i) offset x)) ≡ set (chunk_items chunks) (length (chunk_items (take i chunks)) + offset) x
   written chunks i offset x lt less =
       let p : List T = chunk_at chunks i in
-      let before : List T = items_of (take i chunks) in
-      let after : List T = items_of (drop (i + 1) chunks) in
+      let before : List T = chunk_items (take i chunks) in
+      let after : List T = chunk_items (drop (i + 1) chunks) in
       let at : length before + offset - length before ≡ offset = omega arith in
       items_set chunks i (set p offset x) lt
       ∙ sym (ap (λ xs. set xs (length before + offset) x) (items_split chunks i lt) ∙ set-append_right before (p ++ after) (length before) (length before + offset) x refl (omega arith) ∙ ap (λ n. before ++ set (p ++ after) n x) at ∙ ap (λ xs. before ++ xs) (set-append_left p after offset x less))
 
-  pub item_at : (chunks : List (List T)) (i offset : ℕ) (d : T) → i < length chunks → offset < length (chunk_at chunks i) → get_or (items_of chunks) (length (items_of (take i chunks)) + offset) d ≡ get_or (chunk_at chunks i) offset d
+  pub item_at : (chunks : List (List T)) (i offset : ℕ) (d : T) → i < length chunks → offset < length (chunk_at chunks i) → get_or (chunk_items chunks) (length (chunk_items (take i chunks)) + offset) d ≡ get_or (chunk_at chunks i) offset d
   item_at chunks i offset d lt less = get_or-flat_map (λ p. p) chunks i offset [] d lt less
 
   -- ---- sizes
@@ -246,7 +246,7 @@ module _ {T : Type 0} where
   pub sizes_at : (chunks : List (List T)) (sizes : List ℕ) (i : ℕ) → map (λ p. length p) chunks ≡ sizes → i < length chunks → get_or sizes i 0 ≡ length (chunk_at chunks i)
   sizes_at chunks sizes i is lt = ap (λ xs. get_or xs i 0) (sym is) ∙ get_or-map (λ p. length p) chunks i [] 0 lt
 
-  pub sizes_start : (chunks : List (List T)) (sizes : List ℕ) (i : ℕ) → map (λ p. length p) chunks ≡ sizes → start_of sizes i ≡ length (items_of (take i chunks))
+  pub sizes_start : (chunks : List (List T)) (sizes : List ℕ) (i : ℕ) → map (λ p. length p) chunks ≡ sizes → start_of sizes i ≡ length (chunk_items (take i chunks))
   sizes_start chunks sizes i is =
       ap (λ xs. start_of xs i) (sym is)
       ∙ ap sum (take-map (λ p. length p) i chunks)
@@ -257,7 +257,7 @@ module _ {T : Type 0} where
   pub record IsIn (chunks : List (List T)) (at offset position : ℕ) : Type 0 where
     pub chunk_in : at < length chunks
     pub offset_in : offset ≤ length (chunk_at chunks at)
-    pub position_is : position ≡ length (items_of (take at chunks)) + offset
+    pub position_is : position ≡ length (chunk_items (take at chunks)) + offset
 
   pub place_in : (chunks : List (List T)) (sizes : List ℕ) (place : Place) → map (λ p. length p) chunks ≡ sizes → IsPlace sizes place → IsIn chunks place.chunk place.offset (position_of sizes place)
   place_in chunks sizes place is h =
@@ -280,20 +280,20 @@ module _ {T : Type 0} where
   dense_set (q ∷ qs) zero p more dense = ((λ h. more (omega (arith, h))), dense.1)
   dense_set (q ∷ qs) (suc i) p more dense = ((λ h. dense.0 (omega (arith, h, length-set qs i p))), dense_set qs i p (λ h. more (omega (arith, h))) dense.1)
 
-  pub opened_inserted : (old new : List (List T)) (at offset at' offset' : ℕ) (x : T) → IsOpenedAt old new at offset at' offset' → items_of (set new at' (insert (chunk_at new at') offset' x)) ≡ insert (items_of old) (length (items_of (take at old)) + offset) x
+  pub opened_inserted : (old new : List (List T)) (at offset at' offset' : ℕ) (x : T) → IsOpenedAt old new at offset at' offset' → chunk_items (set new at' (insert (chunk_at new at') offset' x)) ≡ insert (chunk_items old) (length (chunk_items (take at old)) + offset) x
   opened_inserted old new at offset at' offset' x opened =
-      inserted new at' offset' x opened.chunk_in opened.offset_in ∙ ap (λ n. insert (items_of new) n x) opened.position ∙ ap (λ xs. insert xs (length (items_of (take at old)) + offset) x) opened.items
+      inserted new at' offset' x opened.chunk_in opened.offset_in ∙ ap (λ n. insert (chunk_items new) n x) opened.position ∙ ap (λ xs. insert xs (length (chunk_items (take at old)) + offset) x) opened.items
 
   -- where there is room for one more item, a chunk is spare
-  pub spare_left : (chunks : List (List T)) (most spares most_spare count room : ℕ) → IsSound chunks most spares most_spare count room → length (items_of chunks) < room → (0 < spares) × (length chunks < most)
+  pub spare_left : (chunks : List (List T)) (most spares most_spare count room : ℕ) → AreChunks chunks most spares most_spare count room → length (chunk_items chunks) < room → (0 < spares) × (length chunks < most)
   spare_left chunks most spares most_spare count room sound less =
       let few = dense_count chunks sound.dense in
       (omega (arith, few, sound.total, less), omega (arith, few, sound.total, sound.capacity, less))
 
-  pub sound_inserted : (old new : List (List T)) (most spares most_spare count room most' spares' most_spare' at offset at' offset' : ℕ) (x : T) → IsSound old most spares most_spare count room → length (items_of old) < room → IsOpenedAt old new at offset at' offset' → length new + spares' ≡ length old + spares → most ≤ most' → most_spare ≤ most_spare' → length (items_of (take at old)) + offset ≤ length (items_of old) → IsSound (set new at' (insert (chunk_at new at') offset' x)) most' spares' most_spare' (count + 1) room
+  pub sound_inserted : (old new : List (List T)) (most spares most_spare count room most' spares' most_spare' at offset at' offset' : ℕ) (x : T) → AreChunks old most spares most_spare count room → length (chunk_items old) < room → IsOpenedAt old new at offset at' offset' → length new + spares' ≡ length old + spares → most ≤ most' → most_spare ≤ most_spare' → length (chunk_items (take at old)) + offset ≤ length (chunk_items old) → AreChunks (set new at' (insert (chunk_at new at') offset' x)) most' spares' most_spare' (count + 1) room
   sound_inserted old new most spares most_spare count room most' spares' most_spare' at offset at' offset' x sound less opened total more more_spare within =
       let n = ap length (opened_inserted old new at offset at' offset' x opened) in
-      let m = length-insert (items_of old) (length (items_of (take at old)) + offset) x within in
+      let m = length-insert (chunk_items old) (length (chunk_items (take at old)) + offset) x within in
       let k = length-set new at' (insert (chunk_at new at') offset' x) in
       record {
         some = omega (arith, opened.chunk_in, k);

@@ -4,7 +4,7 @@ use Rattle.std.specs.List.{insert, remove}
 use Rattle.std.proofs.lemmas.List.{length-append, length-set, map-set, set-get_or}
 use Rattle.std.proofs.lemmas.List.Edits.{length-remove}
 use Rattle.chunk_list.specs.Chunked.{Chunked, position_of, IsPlace, HasItem}
-use Rattle.chunk_list.specs.Chunks.{items_of, chunk_at, IsDense, LacksOne, IsOpenedAt, IsSound}
+use Rattle.chunk_list.specs.Chunks.{chunk_items, chunk_at, IsDense, LacksOne, IsOpenedAt, AreChunks}
 use Rattle.chunk_list.specs.declared.chunk.TheConstants.{LEAST}
 use Rattle.chunk_list.specs.declared.place.Place.{Place}
 use Rattle.chunk_list.proofs.Chunks.{IsIn, place_in, item_in, chunk_read, item_at, written, removed, opened_inserted, sound_inserted, dense_set, dense_here, short_after, items_split, sizes_at}
@@ -12,10 +12,10 @@ use Rattle.chunk_list.proofs.Chunks.{IsIn, place_in, item_in, chunk_read, item_a
 module _ {T : Type 0} where
   -- what a contract sees of these chunks
   pub record IsSeen (chunks : List (List T)) (v : Chunked T) : Type 0 where
-    pub items : items_of chunks ≡ v.items
+    pub items : chunk_items chunks ≡ v.items
     pub sizes : map (λ p. length p) chunks ≡ v.sizes
 
-  pub seen : (chunks : List (List T)) (room : ℕ) (v w : Chunked T) → v ≡ w → v.items ≡ items_of chunks → v.sizes ≡ map (λ p. length p) chunks → IsSeen chunks w
+  pub seen : (chunks : List (List T)) (room : ℕ) (v w : Chunked T) → v ≡ w → v.items ≡ chunk_items chunks → v.sizes ≡ map (λ p. length p) chunks → IsSeen chunks w
   seen chunks room v w is items sizes = record { items = sym items ∙ ap (λ (x : Chunked T). x.items) is; sizes = sym sizes ∙ ap (λ (x : Chunked T). x.sizes) is }
 
   -- the chunk of a place that has an item
@@ -23,7 +23,7 @@ module _ {T : Type 0} where
     pub place_is : IsIn chunks place.chunk place.offset (position_of v.sizes place)
     pub less : place.offset < length chunk
     pub is : chunk ≡ chunk_at chunks place.chunk
-    pub items : items_of chunks ≡ v.items
+    pub items : chunk_items chunks ≡ v.items
 
   pub here : (chunks : List (List T)) (v : Chunked T) (place : Place) (chunk : List T) → IsSeen chunks v → HasItem v.sizes place → chunk ≡ get_or chunks place.chunk chunk → IsHere chunks v place chunk
   here chunks v place chunk saw item read =
@@ -35,16 +35,16 @@ module _ {T : Type 0} where
   in_chunk chunks v place chunk h = subst (λ xs. place.offset < length xs) h.is h.less
 
   -- positions by chunks are those by sizes
-  pub at_position : (chunks : List (List T)) (v : Chunked T) (place : Place) (chunk : List T) → IsHere chunks v place chunk → (X : Type 0) (f : List T → ℕ → X) → f (items_of chunks) (length (items_of (take place.chunk chunks)) + place.offset) ≡ f v.items (position_of v.sizes place)
-  at_position chunks v place chunk h X f = ap (λ xs. f xs (length (items_of (take place.chunk chunks)) + place.offset)) h.items ∙ ap (f v.items) (sym h.place_is.position_is)
+  pub at_position : (chunks : List (List T)) (v : Chunked T) (place : Place) (chunk : List T) → IsHere chunks v place chunk → (X : Type 0) (f : List T → ℕ → X) → f (chunk_items chunks) (length (chunk_items (take place.chunk chunks)) + place.offset) ≡ f v.items (position_of v.sizes place)
+  at_position chunks v place chunk h X f = ap (λ xs. f xs (length (chunk_items (take place.chunk chunks)) + place.offset)) h.items ∙ ap (f v.items) (sym h.place_is.position_is)
 
   pub read_item : (chunks : List (List T)) (v : Chunked T) (place : Place) (chunk : List T) (x : T) → IsHere chunks v place chunk → x ≡ get_or chunk place.offset x → x ≡ get_or v.items (position_of v.sizes place) x
   read_item chunks v place chunk x h read =
       read ∙ ap (λ xs. get_or xs place.offset x) h.is ∙ sym (item_at chunks place.chunk place.offset x h.place_is.chunk_in (in_chunk chunks v place chunk h)) ∙ at_position chunks v place chunk h T (λ xs n. get_or xs n x)
 
-  pub set_items : (chunks : List (List T)) (v : Chunked T) (place : Place) (chunk chunk' : List T) (x : T) → IsHere chunks v place chunk → chunk' ≡ set chunk place.offset x → items_of (set chunks place.chunk chunk') ≡ set v.items (position_of v.sizes place) x
+  pub set_items : (chunks : List (List T)) (v : Chunked T) (place : Place) (chunk chunk' : List T) (x : T) → IsHere chunks v place chunk → chunk' ≡ set chunk place.offset x → chunk_items (set chunks place.chunk chunk') ≡ set v.items (position_of v.sizes place) x
   set_items chunks v place chunk chunk' x h is =
-      ap (λ p. items_of (set chunks place.chunk p)) (is ∙ ap (λ p. set p place.offset x) h.is) ∙ written chunks place.chunk place.offset x h.place_is.chunk_in (in_chunk chunks v place chunk h) ∙ at_position chunks v place chunk h (List T) (λ xs n. set xs n x)
+      ap (λ p. chunk_items (set chunks place.chunk p)) (is ∙ ap (λ p. set p place.offset x) h.is) ∙ written chunks place.chunk place.offset x h.place_is.chunk_in (in_chunk chunks v place chunk h) ∙ at_position chunks v place chunk h (List T) (λ xs n. set xs n x)
 
   same_length : (chunks : List (List T)) (v : Chunked T) (place : Place) (chunk chunk' : List T) (x : T) → IsHere chunks v place chunk → chunk' ≡ set chunk place.offset x → length chunk' ≡ length (chunk_at chunks place.chunk)
   same_length chunks v place chunk chunk' x h is = ap length is ∙ length-set chunk place.offset x ∙ ap length h.is
@@ -56,7 +56,7 @@ module _ {T : Type 0} where
       ∙ set-get_or (map (λ p. length p) chunks) place.chunk 0
       ∙ saw.sizes
 
-  pub set_sound : (chunks : List (List T)) (v : Chunked T) (place : Place) (chunk chunk' : List T) (x : T) (most spares most_spare count room : ℕ) → IsSound chunks most spares most_spare count room → IsHere chunks v place chunk → chunk' ≡ set chunk place.offset x → IsSound (set chunks place.chunk chunk') most spares most_spare count room
+  pub set_sound : (chunks : List (List T)) (v : Chunked T) (place : Place) (chunk chunk' : List T) (x : T) (most spares most_spare count room : ℕ) → AreChunks chunks most spares most_spare count room → IsHere chunks v place chunk → chunk' ≡ set chunk place.offset x → AreChunks (set chunks place.chunk chunk') most spares most_spare count room
   set_sound chunks v place chunk chunk' x most spares most_spare count room sound h is =
       let m = length-set chunks place.chunk chunk' in
       let n = ap length (set_items chunks v place chunk chunk' x h is) in
@@ -75,19 +75,19 @@ module _ {T : Type 0} where
 
   -- ---- a removal
 
-  pub remove_items : (chunks : List (List T)) (v : Chunked T) (place : Place) (chunk chunk' : List T) → IsHere chunks v place chunk → chunk' ≡ remove chunk place.offset → items_of (set chunks place.chunk chunk') ≡ remove v.items (position_of v.sizes place)
+  pub remove_items : (chunks : List (List T)) (v : Chunked T) (place : Place) (chunk chunk' : List T) → IsHere chunks v place chunk → chunk' ≡ remove chunk place.offset → chunk_items (set chunks place.chunk chunk') ≡ remove v.items (position_of v.sizes place)
   remove_items chunks v place chunk chunk' h is =
-      ap (λ p. items_of (set chunks place.chunk p)) (is ∙ ap (λ p. remove p place.offset) h.is) ∙ removed chunks place.chunk place.offset h.place_is.chunk_in (in_chunk chunks v place chunk h) ∙ at_position chunks v place chunk h (List T) (λ xs n. remove xs n)
+      ap (λ p. chunk_items (set chunks place.chunk p)) (is ∙ ap (λ p. remove p place.offset) h.is) ∙ removed chunks place.chunk place.offset h.place_is.chunk_in (in_chunk chunks v place chunk h) ∙ at_position chunks v place chunk h (List T) (λ xs n. remove xs n)
 
-  pub position_less : (chunks : List (List T)) (v : Chunked T) (place : Place) (chunk : List T) → IsHere chunks v place chunk → position_of v.sizes place < length (items_of chunks)
+  pub position_less : (chunks : List (List T)) (v : Chunked T) (place : Place) (chunk : List T) → IsHere chunks v place chunk → position_of v.sizes place < length (chunk_items chunks)
   position_less chunks v place chunk h =
       let n = ap length (items_split chunks place.chunk h.place_is.chunk_in) in
       let less : place.offset < length (chunk_at chunks place.chunk) = in_chunk chunks v place chunk h in
       let p : List T = chunk_at chunks place.chunk in
-      let after : List T = items_of (drop (place.chunk + 1) chunks) in
-      omega (arith, n, less, h.place_is.position_is, length-append (items_of (take place.chunk chunks)) (p ++ after), length-append p after)
+      let after : List T = chunk_items (drop (place.chunk + 1) chunks) in
+      omega (arith, n, less, h.place_is.position_is, length-append (chunk_items (take place.chunk chunks)) (p ++ after), length-append p after)
 
-  pub count_less : (chunks : List (List T)) (v : Chunked T) (place : Place) (chunk chunk' : List T) → IsHere chunks v place chunk → chunk' ≡ remove chunk place.offset → length (items_of (set chunks place.chunk chunk')) + 1 ≡ length (items_of chunks)
+  pub count_less : (chunks : List (List T)) (v : Chunked T) (place : Place) (chunk chunk' : List T) → IsHere chunks v place chunk → chunk' ≡ remove chunk place.offset → length (chunk_items (set chunks place.chunk chunk')) + 1 ≡ length (chunk_items chunks)
   count_less chunks v place chunk chunk' h is =
       let n = ap length (remove_items chunks v place chunk chunk' h is) in
       let i = ap length h.items in
@@ -100,7 +100,7 @@ module _ {T : Type 0} where
   pub short_here : (chunks : List (List T)) (v : Chunked T) (place : Place) (chunk chunk' : List T) → IsDense chunks → IsHere chunks v place chunk → chunk' ≡ remove chunk place.offset → LacksOne (set chunks place.chunk chunk') place.chunk
   short_here chunks v place chunk chunk' dense h is = short_after chunks place.chunk chunk' h.place_is.chunk_in (chunk_less chunks v place chunk chunk' h is) dense
 
-  pub sound_less : (chunks new : List (List T)) (most spares most_spare count room most' spares' most_spare' : ℕ) → IsSound chunks most spares most_spare count room → 0 < length new → IsDense new → length new + spares' ≡ length chunks + spares → most ≤ most' → most_spare ≤ most_spare' → length (items_of new) + 1 ≡ length (items_of chunks) → IsSound new most' spares' most_spare' (count - 1) room
+  pub sound_less : (chunks new : List (List T)) (most spares most_spare count room most' spares' most_spare' : ℕ) → AreChunks chunks most spares most_spare count room → 0 < length new → IsDense new → length new + spares' ≡ length chunks + spares → most ≤ most' → most_spare ≤ most_spare' → length (chunk_items new) + 1 ≡ length (chunk_items chunks) → AreChunks new most' spares' most_spare' (count - 1) room
   sound_less chunks new most spares most_spare count room most' spares' most_spare' sound some dense total m n less = record {
     some = some;
     dense = dense;
@@ -116,24 +116,24 @@ module _ {T : Type 0} where
 
   -- ---- an insert
 
-  pub insert_items : (chunks new : List (List T)) (v : Chunked T) (place opened : Place) (chunk chunk' : List T) (x : T) → IsSeen chunks v → IsPlace v.sizes place → IsOpenedAt chunks new place.chunk place.offset opened.chunk opened.offset → chunk ≡ get_or new opened.chunk chunk → chunk' ≡ insert chunk opened.offset x → items_of (set new opened.chunk chunk') ≡ insert v.items (position_of v.sizes place) x
+  pub insert_items : (chunks new : List (List T)) (v : Chunked T) (place opened : Place) (chunk chunk' : List T) (x : T) → IsSeen chunks v → IsPlace v.sizes place → IsOpenedAt chunks new place.chunk place.offset opened.chunk opened.offset → chunk ≡ get_or new opened.chunk chunk → chunk' ≡ insert chunk opened.offset x → chunk_items (set new opened.chunk chunk') ≡ insert v.items (position_of v.sizes place) x
   insert_items chunks new v place opened chunk chunk' x saw at h read is =
       let q = place_in chunks v.sizes place saw.sizes at in
       let e : chunk' ≡ insert (chunk_at new opened.chunk) opened.offset x = is ∙ ap (λ p. insert p opened.offset x) (chunk_read new opened.chunk chunk read h.chunk_in) in
-      ap (λ p. items_of (set new opened.chunk p)) e
+      ap (λ p. chunk_items (set new opened.chunk p)) e
       ∙ opened_inserted chunks new place.chunk place.offset opened.chunk opened.offset x h
-      ∙ ap (λ xs. insert xs (length (items_of (take place.chunk chunks)) + place.offset) x) saw.items
+      ∙ ap (λ xs. insert xs (length (chunk_items (take place.chunk chunks)) + place.offset) x) saw.items
       ∙ ap (λ n. insert v.items n x) (sym q.position_is)
 
-  pub insert_sound : (chunks new : List (List T)) (v : Chunked T) (place opened : Place) (chunk chunk' : List T) (x : T) (most spares most_spare count room most' spares' most_spare' : ℕ) → IsSound chunks most spares most_spare count room → IsSeen chunks v → IsPlace v.sizes place → length v.items < room → IsOpenedAt chunks new place.chunk place.offset opened.chunk opened.offset → chunk ≡ get_or new opened.chunk chunk → chunk' ≡ insert chunk opened.offset x → length new + spares' ≡ length chunks + spares → most ≤ most' → most_spare ≤ most_spare' → IsSound (set new opened.chunk chunk') most' spares' most_spare' (count + 1) room
+  pub insert_sound : (chunks new : List (List T)) (v : Chunked T) (place opened : Place) (chunk chunk' : List T) (x : T) (most spares most_spare count room most' spares' most_spare' : ℕ) → AreChunks chunks most spares most_spare count room → IsSeen chunks v → IsPlace v.sizes place → length v.items < room → IsOpenedAt chunks new place.chunk place.offset opened.chunk opened.offset → chunk ≡ get_or new opened.chunk chunk → chunk' ≡ insert chunk opened.offset x → length new + spares' ≡ length chunks + spares → most ≤ most' → most_spare ≤ most_spare' → AreChunks (set new opened.chunk chunk') most' spares' most_spare' (count + 1) room
   insert_sound chunks new v place opened chunk chunk' x most spares most_spare count room most' spares' most_spare' sound saw at less h read is total more more_spare =
       let q = place_in chunks v.sizes place saw.sizes at in
       let e : chunk' ≡ insert (chunk_at new opened.chunk) opened.offset x = is ∙ ap (λ p. insert p opened.offset x) (chunk_read new opened.chunk chunk read h.chunk_in) in
       let i = ap length saw.items in
       let n = ap length (items_split chunks place.chunk q.chunk_in) in
       let p : List T = chunk_at chunks place.chunk in
-      let after : List T = items_of (drop (place.chunk + 1) chunks) in
-      let within : length (items_of (take place.chunk chunks)) + place.offset ≤ length (items_of chunks) = omega (arith, n, q.offset_in, length-append (items_of (take place.chunk chunks)) (p ++ after), length-append p after) in
-      let few : length (items_of chunks) < room = omega (arith, i, less) in
-      subst (λ p. IsSound (set new opened.chunk p) most' spares' most_spare' (count + 1) room) (sym e)
+      let after : List T = chunk_items (drop (place.chunk + 1) chunks) in
+      let within : length (chunk_items (take place.chunk chunks)) + place.offset ≤ length (chunk_items chunks) = omega (arith, n, q.offset_in, length-append (chunk_items (take place.chunk chunks)) (p ++ after), length-append p after) in
+      let few : length (chunk_items chunks) < room = omega (arith, i, less) in
+      subst (λ p. AreChunks (set new opened.chunk p) most' spares' most_spare' (count + 1) room) (sym e)
       (sound_inserted chunks new most spares most_spare count room most' spares' most_spare' place.chunk place.offset opened.chunk opened.offset x sound few h total more more_spare within)

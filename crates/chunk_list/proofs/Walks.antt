@@ -6,31 +6,31 @@ use Rattle.std.proofs.lemmas.List.{length-append, length-set, length-take-le, ap
 use Rattle.std.proofs.lemmas.List.Filters.{FiltersInPlace, FiltersInPlace-more_set}
 use Rattle.std.proofs.Math.Seq.{take-append-add}
 use Rattle.chunk_list.specs.Chunked.{Chunked, position_of, IsPlace, HasItem, IsPlaceAt}
-use Rattle.chunk_list.specs.Chunks.{items_of, chunk_at, IsDense, IsSound}
+use Rattle.chunk_list.specs.Chunks.{chunk_items, chunk_at, IsDense, AreChunks}
 use Rattle.chunk_list.specs.declared.place.Place.{Place}
 use Rattle.chunk_list.proofs.Chunks.{place_in, items_append, items_split, sizes_length, sizes_at, sizes_start, dense_front, dense_join}
 use Rattle.chunk_list.proofs.Lists.{IsSeen}
 
 module _ {T : Type 0} where
   -- the next chunk begins where one ends
-  pub start_next : (chunks : List (List T)) (i : ℕ) → i < length chunks → length (items_of (take (i + 1) chunks)) ≡ length (items_of (take i chunks)) + length (chunk_at chunks i)
+  pub start_next : (chunks : List (List T)) (i : ℕ) → i < length chunks → length (chunk_items (take (i + 1) chunks)) ≡ length (chunk_items (take i chunks)) + length (chunk_at chunks i)
   start_next chunks i lt =
       let p : List T = chunk_at chunks i in
-      let n = ap (λ xs. length (items_of xs)) (take_more chunks i [] lt) in
-      omega (arith, n, ap length (items_append (take i chunks) (p ∷ [])), length-append (items_of (take i chunks)) (p ++ []), length-append p [])
+      let n = ap (λ xs. length (chunk_items xs)) (take_more chunks i [] lt) in
+      omega (arith, n, ap length (items_append (take i chunks) (p ∷ [])), length-append (chunk_items (take i chunks)) (p ++ []), length-append p [])
 
-  pub start_below : (chunks : List (List T)) (i : ℕ) → i < length chunks → length (items_of (take i chunks)) + length (chunk_at chunks i) ≤ length (items_of chunks)
+  pub start_below : (chunks : List (List T)) (i : ℕ) → i < length chunks → length (chunk_items (take i chunks)) + length (chunk_at chunks i) ≤ length (chunk_items chunks)
   start_below chunks i lt =
       let n = ap length (items_split chunks i lt) in
       let p : List T = chunk_at chunks i in
-      let after : List T = items_of (drop (i + 1) chunks) in
-      omega (arith, n, length-append (items_of (take i chunks)) (p ++ after), length-append p after)
+      let after : List T = chunk_items (drop (i + 1) chunks) in
+      omega (arith, n, length-append (chunk_items (take i chunks)) (p ++ after), length-append p after)
 
   -- the last chunk ends where all do
-  pub start_last : (chunks : List (List T)) (i : ℕ) → i + 1 ≡ length chunks → length (items_of (take i chunks)) + length (chunk_at chunks i) ≡ length (items_of chunks)
+  pub start_last : (chunks : List (List T)) (i : ℕ) → i + 1 ≡ length chunks → length (chunk_items (take i chunks)) + length (chunk_at chunks i) ≡ length (chunk_items chunks)
   start_last chunks i last =
       let all : take (i + 1) chunks ≡ chunks = take_all (i + 1) chunks (omega arith) in
-      omega (arith, start_next chunks i (omega arith), ap (λ xs. length (items_of xs)) all)
+      omega (arith, start_next chunks i (omega arith), ap (λ xs. length (chunk_items xs)) all)
 
   pub place_from : (chunks : List (List T)) (v : Chunked T) (chunk offset : ℕ) → IsSeen chunks v → chunk < length chunks → offset ≤ length (chunk_at chunks chunk) → IsPlace v.sizes (record { chunk = chunk; offset = offset })
   place_from chunks v chunk offset saw lt le = record {
@@ -49,11 +49,11 @@ module _ {T : Type 0} where
       ] in
       record { chunk = omega (arith, sizes_length chunks v.sizes saw.sizes); offset = omega (arith, size, within) }
 
-  pub position_is : (chunks : List (List T)) (v : Chunked T) (chunk offset n : ℕ) → IsSeen chunks v → length (items_of (take chunk chunks)) + offset ≡ n → position_of v.sizes (record { chunk = chunk; offset = offset }) ≡ n
+  pub position_is : (chunks : List (List T)) (v : Chunked T) (chunk offset n : ℕ) → IsSeen chunks v → length (chunk_items (take chunk chunks)) + offset ≡ n → position_of v.sizes (record { chunk = chunk; offset = offset }) ≡ n
   position_is chunks v chunk offset n saw is = omega (arith, sizes_start chunks v.sizes chunk saw.sizes, is)
 
   -- a place by its chunk, which is an item's unless it stands at the end of the last chunk
-  pub place_from_chunk : (chunks : List (List T)) (v : Chunked T) (chunk offset position : ℕ) → IsSeen chunks v → chunk < length chunks → offset ≤ length (chunk_at chunks chunk) → length (items_of (take chunk chunks)) + offset ≡ position → (chunk + 1 < length chunks → offset < length (chunk_at chunks chunk)) → IsPlaceAt v (record { chunk = chunk; offset = offset }) position
+  pub place_from_chunk : (chunks : List (List T)) (v : Chunked T) (chunk offset position : ℕ) → IsSeen chunks v → chunk < length chunks → offset ≤ length (chunk_at chunks chunk) → length (chunk_items (take chunk chunks)) + offset ≡ position → (chunk + 1 < length chunks → offset < length (chunk_at chunks chunk)) → IsPlaceAt v (record { chunk = chunk; offset = offset }) position
   place_from_chunk chunks v chunk offset position saw lt le is inner =
       let at = position_is chunks v chunk offset position saw is in
       record {
@@ -63,14 +63,14 @@ module _ {T : Type 0} where
       }
 
   -- chunks begin in their order
-  pub start_up : (chunks : List (List T)) (i j : ℕ) → i ≤ j → length (items_of (take i chunks)) ≤ length (items_of (take j chunks))
+  pub start_up : (chunks : List (List T)) (i j : ℕ) → i ≤ j → length (chunk_items (take i chunks)) ≤ length (chunk_items (take j chunks))
   start_up chunks zero j le = omega arith
   start_up chunks (suc i) zero le = absurd (omega (arith, le))
   start_up [] (suc i) (suc j) le = omega arith
-  start_up (p ∷ ps) (suc i) (suc j) le = omega (arith, start_up ps i j (omega (arith, le)), length-append p (items_of (take i ps)), length-append p (items_of (take j ps)))
+  start_up (p ∷ ps) (suc i) (suc j) le = omega (arith, start_up ps i j (omega (arith, le)), length-append p (chunk_items (take i ps)), length-append p (chunk_items (take j ps)))
 
   -- a chunk ends before a later one begins
-  pub start_later : (chunks : List (List T)) (i j : ℕ) → i < j → i < length chunks → length (items_of (take i chunks)) + length (chunk_at chunks i) ≤ length (items_of (take j chunks))
+  pub start_later : (chunks : List (List T)) (i j : ℕ) → i < j → i < length chunks → length (chunk_items (take i chunks)) + length (chunk_at chunks i) ≤ length (chunk_items (take j chunks))
   start_later chunks i j lt within = omega (arith, start_next chunks i within, start_up chunks (i + 1) j (omega (arith, lt)))
 
   -- ---- what is left where all from a place on is taken away
@@ -79,28 +79,28 @@ module _ {T : Type 0} where
   cut_chunks chunks i p lt =
       ap (λ xs. set xs i p) (take_more chunks i [] lt) ∙ set_at (take i chunks) (chunk_at chunks i) [] p i (length-take-le i chunks (omega arith))
 
-  pub cut_items_of : (chunks : List (List T)) (i offset : ℕ) → i < length chunks → offset ≤ length (chunk_at chunks i) → items_of (take i chunks ++ take offset (chunk_at chunks i) ∷ []) ≡ take (length (items_of (take i chunks)) + offset) (items_of chunks)
+  pub cut_items_of : (chunks : List (List T)) (i offset : ℕ) → i < length chunks → offset ≤ length (chunk_at chunks i) → chunk_items (take i chunks ++ take offset (chunk_at chunks i) ∷ []) ≡ take (length (chunk_items (take i chunks)) + offset) (chunk_items chunks)
   cut_items_of chunks i offset lt le =
-      let a : List T = items_of (take i chunks) in
+      let a : List T = chunk_items (take i chunks) in
       let p : List T = chunk_at chunks i in
-      let b : List T = items_of (drop (i + 1) chunks) in
+      let b : List T = chunk_items (drop (i + 1) chunks) in
       items_append (take i chunks) (take offset p ∷ [])
       ∙ ap (λ xs. a ++ xs) (append-nil (take offset p) ∙ sym (take-append-le offset p b le))
       ∙ sym (take-append-add a (p ++ b) offset)
       ∙ ap (take (length a + offset)) (sym (items_split chunks i lt))
 
-  pub cut_items : (chunks new : List (List T)) (v : Chunked T) (place : Place) (chunk chunk' : List T) → IsSeen chunks v → IsPlace v.sizes place → new ≡ take (place.chunk + 1) chunks → chunk ≡ get_or new place.chunk chunk → chunk' ≡ take place.offset chunk → items_of (set new place.chunk chunk') ≡ take (position_of v.sizes place) v.items
+  pub cut_items : (chunks new : List (List T)) (v : Chunked T) (place : Place) (chunk chunk' : List T) → IsSeen chunks v → IsPlace v.sizes place → new ≡ take (place.chunk + 1) chunks → chunk ≡ get_or new place.chunk chunk → chunk' ≡ take place.offset chunk → chunk_items (set new place.chunk chunk') ≡ take (position_of v.sizes place) v.items
   cut_items chunks new v place chunk chunk' saw at cut read is =
       let q = place_in chunks v.sizes place saw.sizes at in
       let same : chunk ≡ chunk_at chunks place.chunk = read ∙ ap (λ xs. get_or xs place.chunk chunk) cut ∙ get_or-take (place.chunk + 1) chunks place.chunk chunk (omega arith) ∙ get_or_default chunks place.chunk chunk [] q.chunk_in in
-      ap (λ xs. items_of (set xs place.chunk chunk')) cut
-      ∙ ap items_of (cut_chunks chunks place.chunk chunk' q.chunk_in)
-      ∙ ap (λ xs. items_of (take place.chunk chunks ++ xs ∷ [])) (is ∙ ap (take place.offset) same)
+      ap (λ xs. chunk_items (set xs place.chunk chunk')) cut
+      ∙ ap chunk_items (cut_chunks chunks place.chunk chunk' q.chunk_in)
+      ∙ ap (λ xs. chunk_items (take place.chunk chunks ++ xs ∷ [])) (is ∙ ap (take place.offset) same)
       ∙ cut_items_of chunks place.chunk place.offset q.chunk_in q.offset_in
-      ∙ ap (λ xs. take (length (items_of (take place.chunk chunks)) + place.offset) xs) saw.items
+      ∙ ap (λ xs. take (length (chunk_items (take place.chunk chunks)) + place.offset) xs) saw.items
       ∙ ap (λ n. take n v.items) (sym q.position_is)
 
-  pub cut_sound : (chunks new : List (List T)) (v : Chunked T) (place : Place) (chunk chunk' : List T) (most spares most_spare count room most' spares' most_spare' left : ℕ) → IsSound chunks most spares most_spare count room → IsSeen chunks v → IsPlace v.sizes place → new ≡ take (place.chunk + 1) chunks → chunk ≡ get_or new place.chunk chunk → chunk' ≡ take place.offset chunk → left ≡ position_of v.sizes place → length new + spares' ≡ length chunks + spares → most ≤ most' → most_spare ≤ most_spare' → IsSound (set new place.chunk chunk') most' spares' most_spare' left room
+  pub cut_sound : (chunks new : List (List T)) (v : Chunked T) (place : Place) (chunk chunk' : List T) (most spares most_spare count room most' spares' most_spare' left : ℕ) → AreChunks chunks most spares most_spare count room → IsSeen chunks v → IsPlace v.sizes place → new ≡ take (place.chunk + 1) chunks → chunk ≡ get_or new place.chunk chunk → chunk' ≡ take place.offset chunk → left ≡ position_of v.sizes place → length new + spares' ≡ length chunks + spares → most ≤ most' → most_spare ≤ most_spare' → AreChunks (set new place.chunk chunk') most' spares' most_spare' left room
   cut_sound chunks new v place chunk chunk' most spares most_spare count room most' spares' most_spare' left sound saw at cut read is left_is total more more_spare =
       let q = place_in chunks v.sizes place saw.sizes at in
       let n = ap length (cut_items chunks new v place chunk chunk' saw at cut read is) in

@@ -7,8 +7,8 @@ use Rattle.chunk_list.specs.declared.chunk.TheConstants.{LEAST, MOST}
 use Rattle.chunk_list.specs.declared.place.Place.{Place}
 
 -- the items of the chunks, one chunk after another
-abbrev pub items_of : {T : Type 0} → List (List T) → List T
-items_of chunks = flat_map (λ c. c) chunks
+abbrev pub chunk_items : {T : Type 0} → List (List T) → List T
+chunk_items chunks = flat_map (λ c. c) chunks
 
 -- a chunk, or an empty one where there is none
 abbrev pub chunk_at : {T : Type 0} → List (List T) → ℕ → List T
@@ -53,8 +53,8 @@ pub record IsOpenedAt {T : Type 0} (old new : List (List T)) (at offset at' offs
   pub chunk_in : at' < length new
   pub offset_in : offset' ≤ length (chunk_at new at')
   pub short : length (chunk_at new at') < MOST
-  pub items : items_of new ≡ items_of old
-  pub position : length (items_of (take at' new)) + offset' ≡ length (items_of (take at old)) + offset
+  pub items : chunk_items new ≡ chunk_items old
+  pub position : length (chunk_items (take at' new)) + offset' ≡ length (chunk_items (take at old)) + offset
   pub dense : IsDense new
 
 -- the same, of two places
@@ -70,18 +70,18 @@ pub record KeepsChunks {T A : Type 0} (old new old_spare new_spare : Vec (List T
 -- the chunk in which a test turns, if it turns
 pub record IsTurnIn {T : Type 0} (test : T → Bool) (chunks : List (List T)) (at : ℕ) : Type 0 where
   pub in_range : at < length chunks
-  pub from : (k : ℕ) → TurnsAt test (items_of chunks) k → length (items_of (take at chunks)) ≤ k
-  pub to : (k : ℕ) → TurnsAt test (items_of chunks) k → at + 1 < length chunks
-      → k < length (items_of (take (at + 1) chunks))
+  pub from : (k : ℕ) → TurnsAt test (chunk_items chunks) k → length (chunk_items (take at chunks)) ≤ k
+  pub to : (k : ℕ) → TurnsAt test (chunk_items chunks) k → at + 1 < length chunks
+      → k < length (chunk_items (take (at + 1) chunks))
 
 -- what always holds of a list: its chunks, those that are spare, both with room for all, the count
 -- and the room
-pub record IsSound {T : Type 0} (chunks : List (List T)) (most spares most_spare count room : ℕ) :
+pub record AreChunks {T : Type 0} (chunks : List (List T)) (most spares most_spare count room : ℕ) :
     Type 0 where
   pub some : 0 < length chunks
   pub dense : IsDense chunks
   pub total : room / LEAST + 2 ≤ length chunks + spares
   pub capacity : length chunks + spares ≤ most
   pub spare_capacity : length chunks + spares ≤ most_spare
-  pub len : count ≡ length (items_of chunks)
-  pub within : length (items_of chunks) ≤ room
+  pub len : count ≡ length (chunk_items chunks)
+  pub within : length (chunk_items chunks) ≤ room

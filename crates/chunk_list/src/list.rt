@@ -26,20 +26,20 @@ pub struct ChunkList<T> {
 impl<T> Model for ChunkList<T> {
     ghost use Rattle.std.specs.Prelude.{length, map, vec_capacity};
     ghost use Rattle.chunk_list.specs.Chunked.{Chunked, chunked_code};
-    ghost use Rattle.chunk_list.specs.Chunks.{IsSound, items_of};
+    ghost use Rattle.chunk_list.specs.Chunks.{AreChunks, chunk_items};
 
     ghost Value = { Chunked T };
 
     ghost coded = { chunked_code T.code };
 
     ghost view = { λ a. record {
-      items = items_of a.chunks.items;
+      items = chunk_items a.chunks.items;
       sizes = map (λ c. length c) a.chunks.items;
       room = a.room;
     } };
 
     ghost invariant = { λ a.
-        IsSound a.chunks.items (vec_capacity a.chunks) (length a.spare.items)
+        AreChunks a.chunks.items (vec_capacity a.chunks) (length a.spare.items)
         (vec_capacity a.spare) a.count a.room };
 }
 

@@ -1,7 +1,7 @@
 //! How chunks are cut in two, joined and evened out.
 ghost use Rattle.std.specs.Prelude.{◌≡◌, ◌+◌, ◌<◌, ◌≤◌, List, length, take, vec_capacity};
 ghost use Rattle.chunk_list.specs.Chunks.{IsDense, IsOpened, KeepsChunks, LacksOne, chunk_at, cut_in_two};
-ghost use Rattle.chunk_list.specs.Chunks.{items_of, joined, shifted, size_of_two};
+ghost use Rattle.chunk_list.specs.Chunks.{chunk_items, joined, shifted, size_of_two};
 
 use crate::chunk::{Chunk, LEAST, MOST};
 use crate::place::Place;
@@ -107,7 +107,7 @@ pub(crate) fn refill<T: Copy>(chunks: &mut Vec<Chunk<T>>, spare: &mut Vec<Chunk<
     requires short { LacksOne chunks.old.items at }
     requires few { length (chunk_at chunks.old.items at) < LEAST }
     requires room { length spare.old.items < vec_capacity spare.old }
-    ensures items { items_of chunks.new.items ≡ items_of chunks.old.items }
+    ensures items { chunk_items chunks.new.items ≡ chunk_items chunks.old.items }
     ensures dense { IsDense chunks.new.items }
     ensures some { 0 < length chunks.new.items }
     ensures kept { KeepsChunks chunks.old chunks.new spare.old spare.new }

@@ -2,7 +2,7 @@
 ghost use Rattle.std.specs.Prelude.{◌≡◌, ℕ, ◌<◌, ◌≤◌, List, length};
 ghost use Rattle.std.specs.List.{All};
 ghost use Rattle.chunk_list.specs.Chunked.{TurnsAt};
-ghost use Rattle.chunk_list.specs.Chunks.{IsDense, IsTurnIn, items_of};
+ghost use Rattle.chunk_list.specs.Chunks.{IsDense, IsTurnIn, chunk_items};
 
 use crate::chunk::Chunk;
 
@@ -43,7 +43,7 @@ pub(crate) fn first_item<T: Copy, S: Test<T>>(items: &[T], test: &S) -> usize
 pub(crate) fn first_chunk<T: Copy, S: Test<T>>(chunks: &[Chunk<T>], test: &S) -> usize
     requires some { 0 < length chunks.now }
     requires dense { IsDense chunks.now }
-    requires can { All (S.can test.now) (items_of chunks.now) }
+    requires can { All (S.can test.now) (chunk_items chunks.now) }
     ensures { IsTurnIn (S.test test.now) chunks.now result }
 {
     let mut low = 0;

@@ -6,15 +6,15 @@ use Rattle.std.proofs.lemmas.List.Sums.{sum_by-cons}
 use Rattle.key_index.specs.Links.{with_link, with_older}
 use Rattle.key_index.proofs.Links.{if_same, if_other}
 use Rattle.key_index.specs.declared.record_list.Record.{Record}
-use Rattle.key_index.specs.Listed.{linked_of, listed_cells, empty_cell, empty_places}
+use Rattle.key_index.specs.Listed.{listed_link, listed_cells, empty_cell, empty_places}
 
 pub set_linked : (items : List (Option Record)) (c : ℕ) (r : Record) (o : Option ℕ) → c < length items → get_or items c None ≡ Some r
     → listed_cells (set items c (Some (record r { older = o }))) ≡ with_link (listed_cells items) c o
 set_linked items c r o lt at = fun_ext (λ b. elim (cases_eq b c) [
   | inl same ↦ subst (λ (x : ℕ). listed_cells (set items c (Some (record r { older = o }))) x ≡ with_link (listed_cells items) c o x) (sym same)
-      (ap (option_map linked_of) (get_or-set_same items c (Some (record r { older = o })) None lt)
-      ∙ sym (if_same c (option_map (with_older o) (listed_cells items c)) (listed_cells items c) ∙ ap (λ (e : Option Record). option_map (with_older o) (option_map linked_of e)) at))
-  | inr differs ↦ ap (option_map linked_of) (get_or-set_other items c b (Some (record r { older = o })) None differs)
+      (ap (option_map listed_link) (get_or-set_same items c (Some (record r { older = o })) None lt)
+      ∙ sym (if_same c (option_map (with_older o) (listed_cells items c)) (listed_cells items c) ∙ ap (λ (e : Option Record). option_map (with_older o) (option_map listed_link e)) at))
+  | inr differs ↦ ap (option_map listed_link) (get_or-set_other items c b (Some (record r { older = o })) None differs)
       ∙ sym (if_other b c (option_map (with_older o) (listed_cells items b)) (listed_cells items b) differs)
 ])
 

@@ -8,25 +8,25 @@ use Rattle.key_index.specs.Links.{Cells, IsChained, IsPlaced, without}
 use Rattle.key_index.specs.Index.{IsIndexOf}
 use Rattle.key_index.specs.Compaction.{IsCompacted}
 use Rattle.key_index.specs.Order.{with_record}
-use Rattle.key_index.specs.Listed.{linked_of, listed_cells, IsIndexedList}
+use Rattle.key_index.specs.Listed.{listed_link, listed_cells, IsIndexedList}
 use Rattle.key_index.specs.declared.record_list.Record.{Record}
 use Rattle.key_index.proofs.Links.{if_other}
 use Rattle.key_index.proofs.Compacted.{linked_some}
 use Rattle.key_index.proofs.OrderAdded.{at_record, without_record, placed_record}
 
 fresh : (items : List (Option Record)) → listed_cells items (length items) ≡ None
-fresh items = ap (option_map linked_of) (get_or_past items (length items) None (omega arith))
+fresh items = ap (option_map listed_link) (get_or_past items (length items) None (omega arith))
 
 -- one more item is one more record
-pub cells_push : (items : List (Option Record)) (r : Record) → listed_cells (items ++ Some r ∷ []) ≡ with_record (listed_cells items) (length items) (linked_of r)
+pub cells_push : (items : List (Option Record)) (r : Record) → listed_cells (items ++ Some r ∷ []) ≡ with_record (listed_cells items) (length items) (listed_link r)
 cells_push items r = fun_ext (λ b. elim (cases_order b (length items)) [
-  | inl same ↦ subst (λ (x : ℕ). listed_cells (items ++ Some r ∷ []) x ≡ with_record (listed_cells items) (length items) (linked_of r) x) (sym same)
-      (ap (option_map linked_of) (get_or_push items (Some r) None (length items) refl) ∙ sym (at_record (listed_cells items) (length items) (linked_of r)))
+  | inl same ↦ subst (λ (x : ℕ). listed_cells (items ++ Some r ∷ []) x ≡ with_record (listed_cells items) (length items) (listed_link r) x) (sym same)
+      (ap (option_map listed_link) (get_or_push items (Some r) None (length items) refl) ∙ sym (at_record (listed_cells items) (length items) (listed_link r)))
   | inr other ↦ elim other [
-    | inl low ↦ ap (option_map linked_of) (get_or_append_left items (Some r ∷ []) None b low)
-        ∙ sym (if_other b (length items) (Some (linked_of r)) (listed_cells items b) (λ eq. omega (arith, eq, low)))
-    | inr high ↦ ap (option_map linked_of) (get_or_past (items ++ Some r ∷ []) b None (omega (arith, length_push items (Some r), high)) ∙ sym (get_or_past items b None (omega (arith, high))))
-        ∙ sym (if_other b (length items) (Some (linked_of r)) (listed_cells items b) (λ eq. omega (arith, eq, high)))
+    | inl low ↦ ap (option_map listed_link) (get_or_append_left items (Some r ∷ []) None b low)
+        ∙ sym (if_other b (length items) (Some (listed_link r)) (listed_cells items b) (λ eq. omega (arith, eq, low)))
+    | inr high ↦ ap (option_map listed_link) (get_or_past (items ++ Some r ∷ []) b None (omega (arith, length_push items (Some r), high)) ∙ sym (get_or_past items b None (omega (arith, high))))
+        ∙ sym (if_other b (length items) (Some (listed_link r)) (listed_cells items b) (λ eq. omega (arith, eq, high)))
   ]
 ])
 
@@ -43,19 +43,19 @@ module _ (items : List (Option Record)) (heads : List ℕ) (listed : IsIndexedLi
   }
 
   module _ (r : Record) (is : r.revision ≡ length items + 2) (pushed : List (Option Record)) (one_more : pushed ≡ items ++ Some r ∷ []) (c : ℕ) (at : c ≡ length items) where
-    records : listed_cells pushed ≡ with_record (listed_cells items) c (linked_of r)
-    records = ap listed_cells one_more ∙ cells_push items r ∙ ap (λ (x : ℕ). with_record (listed_cells items) x (linked_of r)) (sym at)
+    records : listed_cells pushed ≡ with_record (listed_cells items) c (listed_link r)
+    records = ap listed_cells one_more ∙ cells_push items r ∙ ap (λ (x : ℕ). with_record (listed_cells items) x (listed_link r)) (sym at)
 
     none_there : listed_cells items c ≡ None
     none_there = ap (listed_cells items) at ∙ fresh items
 
     before : without (listed_cells pushed) c ≡ listed_cells items
-    before = ap (λ (m : Cells). without m c) records ∙ without_record (listed_cells items) c (linked_of r) none_there
+    before = ap (λ (m : Cells). without m c) records ∙ without_record (listed_cells items) c (listed_link r) none_there
 
     -- the next record can be taken up
     pub placed_next : IsPlaced (listed_cells pushed) c
     placed_next = subst (λ (m : Cells). IsPlaced m c) (sym records)
-        (placed_record (listed_cells items) c (linked_of r) none_there (λ b g at same. omega (arith, listed.numbered b g at, is)))
+        (placed_record (listed_cells items) c (listed_link r) none_there (λ b g at same. omega (arith, listed.numbered b g at, is)))
 
     pub index_next : IsIndexOf (without (listed_cells pushed) c) heads
     index_next = subst (λ (m : Cells). IsIndexOf m heads) (sym before) listed.index

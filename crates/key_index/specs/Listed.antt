@@ -5,13 +5,13 @@ use Rattle.key_index.specs.Links.{Cells, Linked, IsChained}
 use Rattle.key_index.specs.Index.{IsIndexOf}
 use Rattle.key_index.specs.declared.record_list.Record.{Record}
 
-abbrev pub linked_of : Record → Linked
-linked_of r =
+abbrev pub listed_link : Record → Linked
+listed_link r =
     record { change = record { key = r.key.items; revision = r.revision; row = r.row }; older = r.older }
 
 -- what is under each place
 abbrev pub listed_cells : List (Option Record) → Cells
-listed_cells items c = option_map linked_of (slice_index_or items c None)
+listed_cells items c = option_map listed_link (slice_index_or items c None)
 
 -- an empty place is one cell
 abbrev pub empty_cell : Option Record → ℕ

@@ -20,7 +20,7 @@ use Rattle.key_index.specs.Links.{Cells, Linked}
 use Rattle.revision_store.specs.declared.plan.Write.{Write}
 use Rattle.revision_store.specs.declared.plan.Write.TheVariants.{Put, Delete}
 use Rattle.revision_store.specs.Logged.{LogState}
-use Rattle.revision_store.specs.Plans.{AreFresh, IsOf, change_in, deletes, recorded_in}
+use Rattle.revision_store.specs.Plans.{AreFresh, IsOf, change_in, head_deletes, recorded_in}
 use Rattle.revision_store.specs.Stored.{CanCommit, Follows, IsKeptUpTo, IsPlanFor, StoreState, cells, changes_of, store_of}
 use Rattle.revision_store.specs.Appending.{CanAppend}
 use Rattle.revision_store.specs.Recorded.{cells_of}
@@ -99,9 +99,9 @@ committed store [] changes some up plan is = absurd (cc)
 committed store (w ∷ ws) changes some up plan is =
     ap (λ xs. record { current = store.kept.current + 1; compacted = store.kept.compacted; changes = xs }) (is ∙ sym (revision_is store (w ∷ ws) up plan))
 
-pub some_deletes : (heads : List ℕ) → 0 < length heads → (length (deletes heads) == 0) ≡ false
+pub some_deletes : (heads : List ℕ) → 0 < length heads → (length (head_deletes heads) == 0) ≡ false
 some_deletes [] some = absurd (omega (arith, some))
-some_deletes (c ∷ cs) some = ne_eqb (length (deletes (c ∷ cs))) 0 (λ none. absurd (omega (arith, none)))
+some_deletes (c ∷ cs) some = ne_eqb (length (head_deletes (c ∷ cs))) 0 (λ none. absurd (omega (arith, none)))
 
 -- writes that can be committed, as the parts of a store see them
 pub can_inside : (inside store : StoreState) (writes plan : List Write) → inside ≡ store → writes ≡ plan → CanCommit store plan → CanCommit inside writes

@@ -5,9 +5,9 @@ use Rattle.std.proofs.lemmas.Bool.Decides.{nat_tests}
 use Rattle.key_index.specs.Compaction.{times}
 use Rattle.key_index.proofs.Links.{if_same, if_other}
 use Rattle.key_index.proofs.Times.{times_here, times_other, times_filter, filter_yes, filter_no}
-use Rattle.revision_store.specs.Recorded.{LeaseCells, LeaseRecord, with_lease, without_lease, AreCounted}
+use Rattle.revision_store.specs.Recorded.{LeaseCells, LeaseRecord, with_lease_cell, without_lease_cell, AreCounted}
 
-pub counted_more : (leases : LeaseCells) (c : ℕ) (l : LeaseRecord) (count : ℕ) → leases c ≡ None → AreCounted leases count → AreCounted (with_lease leases c l) (count + 1)
+pub counted_more : (leases : LeaseCells) (c : ℕ) (l : LeaseRecord) (count : ℕ) → leases c ≡ None → AreCounted leases count → AreCounted (with_lease_cell leases c l) (count + 1)
 counted_more leases c l count fresh counted = record {
   list = c ∷ counted.list;
   long = omega (arith, counted.long);
@@ -22,7 +22,7 @@ counted_more leases c l count fresh counted = record {
   ];
   only = λ b none. elim (cases_eq b c) [
     | inl eq ↦
-        let has : with_lease leases c l b ≡ Some l = subst (λ (x : ℕ). with_lease leases c l x ≡ Some l) (sym eq) (if_same c (Some l) (leases c)) in
+        let has : with_lease_cell leases c l b ≡ Some l = subst (λ (x : ℕ). with_lease_cell leases c l x ≡ Some l) (sym eq) (if_same c (Some l) (leases c)) in
         absurd (cc)
     | inr differs ↦ times_other b c counted.list (λ eq. differs (sym eq)) ∙ counted.only b (sym (if_other b c (Some l) (leases b) differs) ∙ none)
   ];
@@ -66,13 +66,13 @@ length_others c (x ∷ xs) = elim (cases_eq x c) [
       omega (arith, stays, times_other c x xs differs, length_others c xs)
 ]
 
-pub counted_fewer : (leases : LeaseCells) (c count now : ℕ) → IsSome (leases c) → now + 1 ≡ count → AreCounted leases count → AreCounted (without_lease leases c) now
+pub counted_fewer : (leases : LeaseCells) (c count now : ℕ) → IsSome (leases c) → now + 1 ≡ count → AreCounted leases count → AreCounted (without_lease_cell leases c) now
 counted_fewer leases c count now some one counted = record {
   list = filter (is_other c) counted.list;
   long = omega (arith, one, counted.long, counted.once c some, length_others c counted.list);
   once = λ b has. elim (cases_eq b c) [
     | inl eq ↦
-        let none : without_lease leases c b ≡ None = subst (λ (x : ℕ). without_lease leases c x ≡ None) (sym eq) (if_same c None (leases c)) in
+        let none : without_lease_cell leases c b ≡ None = subst (λ (x : ℕ). without_lease_cell leases c x ≡ None) (sym eq) (if_same c None (leases c)) in
         absurd (cc)
     | inr differs ↦ times_filter (is_other c) b counted.list (other_yes c b differs) ∙ counted.once b (subst IsSome (if_other b c None (leases b) differs) has)
   ];

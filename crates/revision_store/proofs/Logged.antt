@@ -20,7 +20,7 @@ use Rattle.key_index.specs.Order.{AreAll, changes_in, with_record}
 use Rattle.key_index.proofs.Links.{if_other}
 use Rattle.key_index.proofs.Order.{changes_some, heads_few, which}
 use Rattle.key_index.proofs.OrderAdded.{changes_added, all_added, in_order_added, each_record, without_record, placed_record}
-use Rattle.revision_store.specs.Recorded.{LeaseRecord, cells_of, linked_of, lease_by, leases_of, with_lease, without_lease, AreCounted, ArePlain}
+use Rattle.revision_store.specs.Recorded.{LeaseRecord, cells_of, linked_of, lease_by, leases_of, with_lease_cell, without_lease_cell, AreCounted, ArePlain}
 use Rattle.revision_store.specs.Logged.{IsLog, AllStay}
 use Rattle.revision_store.specs.Plans.{change_in, cost_in, recorded_in}
 use Rattle.revision_store.specs.declared.plan.Write.{Write}
@@ -191,13 +191,13 @@ module _ {r0 : RegionState} (r1 : RegionState) {heads : Heads} {order : List ℕ
         order_capacity = omega (arith, reserved, log.order_capacity);
       }
 
-  pub lease_more : (l : LeaseRecord) (now : ℕ) → get r0.records c ≡ None → leases_of r1.records ≡ with_lease (leases_of r0.records) c l → r1.free + 1 ≡ r0.free → now ≡ leases + 1 → IsLog r1 heads order places now
+  pub lease_more : (l : LeaseRecord) (now : ℕ) → get r0.records c ≡ None → leases_of r1.records ≡ with_lease_cell (leases_of r0.records) c l → r1.free + 1 ≡ r0.free → now ≡ leases + 1 → IsLog r1 heads order places now
   lease_more l now fresh is free one =
       let none : leases_of r0.records c ≡ None = ap (option_and_then (λ (r : Record). lease_by r.kind r)) fresh in
       let counted = counted_more (leases_of r0.records) c l leases none log.leases in
       with_counted now (subst (λ (n : ℕ). AreCounted (leases_of r1.records) n) (sym one) (subst (λ m. AreCounted m (leases + 1)) (sym is) counted)) (omega (arith, free, one))
 
-  pub lease_fewer : (now : ℕ) → IsSome (leases_of r0.records c) → leases_of r1.records ≡ without_lease (leases_of r0.records) c → r1.free ≡ r0.free + 1 → now + 1 ≡ leases → IsLog r1 heads order places now
+  pub lease_fewer : (now : ℕ) → IsSome (leases_of r0.records c) → leases_of r1.records ≡ without_lease_cell (leases_of r0.records) c → r1.free ≡ r0.free + 1 → now + 1 ≡ leases → IsLog r1 heads order places now
   lease_fewer now some is free one =
       let counted = counted_fewer (leases_of r0.records) c leases now some one log.leases in
       with_counted now (subst (λ m. AreCounted m now) (sym is) counted) (omega (arith, free, one))

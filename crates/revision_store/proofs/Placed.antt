@@ -10,7 +10,7 @@ use Rattle.cell_arena.specs.declared.cell.Fields.{Fields}
 use Rattle.cell_arena.specs.Chain.{Record}
 use Rattle.key_index.specs.Links.{Linked}
 use Rattle.key_index.specs.Order.{with_record}
-use Rattle.revision_store.specs.Recorded.{linked_by, linked_of, cells_of, leases_of, with_lease, ArePlain}
+use Rattle.revision_store.specs.Recorded.{linked_by, linked_of, cells_of, leases_of, with_lease_cell, ArePlain}
 use Rattle.revision_store.specs.Plans.{key_at}
 use Rattle.revision_store.proofs.Recorded.{at_some, is_change, cells_placed, cells_beside, leases_placed, lease_placed, plain_placed}
 
@@ -103,7 +103,7 @@ module _ (m n : FinMap nat_cmp Record) (k : ℕ) (id : ℤ) (ttl : ℕ) (is : n 
   pub lease_cells : get m k ≡ None → cells_of n ≡ cells_of m
   lease_cells fresh = ap cells_of is ∙ cells_beside m k (lease_record id ttl) fresh refl
 
-  pub lease_leases : leases_of n ≡ with_lease (leases_of m) k (record { id = id; ttl = ttl })
+  pub lease_leases : leases_of n ≡ with_lease_cell (leases_of m) k (record { id = id; ttl = ttl })
   lease_leases = ap leases_of is ∙ lease_placed m k (lease_record id ttl) (record { id = id; ttl = ttl }) refl
 
   pub lease_plain : ArePlain m → ArePlain n

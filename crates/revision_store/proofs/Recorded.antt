@@ -16,7 +16,7 @@ use Rattle.key_index.specs.Compaction.{cost_of}
 use Rattle.key_index.specs.Links.{Linked, with_link, with_older, without}
 use Rattle.key_index.specs.Order.{with_record}
 use Rattle.key_index.proofs.Links.{if_same, if_other}
-use Rattle.revision_store.specs.Recorded.{LeaseRecord, linked_by, linked_of, cells_of, lease_by, leases_of, with_lease, without_lease, IsPlain, ArePlain}
+use Rattle.revision_store.specs.Recorded.{LeaseRecord, linked_by, linked_of, cells_of, lease_by, leases_of, with_lease_cell, without_lease_cell, IsPlain, ArePlain}
 
 through : {A B : Type 0} (f : A → B) (b : Bool) (x y : A) → f (cond b x y) ≡ cond b (f x) (f y)
 through f true x y = refl
@@ -79,7 +79,7 @@ module _ (m : FinMap nat_cmp Record) (k : ℕ) (r : Record) where
       let f : Record → Option LeaseRecord = λ r. lease_by r.kind r in
       seen_inserted f m k r q ∙ same_there (leases_of m) k q (lease_by r.kind r) (ap (option_and_then f) fresh ∙ sym none))
 
-  pub lease_placed : (l : LeaseRecord) → lease_by r.kind r ≡ Some l → leases_of (insert m k r) ≡ with_lease (leases_of m) k l
+  pub lease_placed : (l : LeaseRecord) → lease_by r.kind r ≡ Some l → leases_of (insert m k r) ≡ with_lease_cell (leases_of m) k l
   lease_placed l is = fun_ext (λ q.
       let f : Record → Option LeaseRecord = λ r. lease_by r.kind r in
       seen_inserted f m k r q ∙ ap (λ (o : Option LeaseRecord). cond (q == k) o (leases_of m q)) is)
@@ -174,7 +174,7 @@ module _ (m : FinMap nat_cmp Record) (k : ℕ) where
       let f : Record → Option LeaseRecord = λ r. lease_by r.kind r in
       fun_ext (λ q. seen_removed f m k q ∙ same_there (leases_of m) k q None (ap (option_and_then f) h.1 ∙ h.2))
 
-  pub lease_removed : leases_of (remove m k) ≡ without_lease (leases_of m) k
+  pub lease_removed : leases_of (remove m k) ≡ without_lease_cell (leases_of m) k
   lease_removed = fun_ext (λ q. seen_removed (λ r. lease_by r.kind r) m k q)
 
   pub cells_left : IsSome (leases_of m k) → cells_of (remove m k) ≡ cells_of m

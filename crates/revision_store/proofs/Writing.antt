@@ -10,7 +10,7 @@ use Rattle.revision_store.specs.declared.plan.Write.{Write}
 use Rattle.revision_store.specs.declared.plan.Write.TheVariants.{Put, Delete}
 use Rattle.revision_store.specs.Recorded.{cells_of}
 use Rattle.revision_store.specs.Logged.{LogState, AllStay}
-use Rattle.revision_store.specs.Plans.{AreFresh, IsOf, deletes, cost_in, key_at, recorded_in}
+use Rattle.revision_store.specs.Plans.{AreFresh, IsOf, head_deletes, cost_in, key_at, recorded_in}
 use Rattle.revision_store.specs.Appending.{CanAppend, Appends, IsAppending}
 
 change_there : (cells : Cells) (c : ℕ) → IsSome (cells c) → (x : Recorded) × (change_at cells c ≡ Some x)
@@ -105,5 +105,5 @@ next_fits old now revision writes ahead write before =
 pub ahead_here : (ws : List Write) (i : ℕ) (w : Write) → i < length ws → w ≡ get_or ws i w → drop i ws ≡ w ∷ drop (i + 1) ws
 ahead_here ws i w h is = rw (drop-cons ws i w h, ← is, add-one) refl
 
-pub deletes_here : (cs : List ℕ) (i : ℕ) (c : ℕ) → i < length cs → c ≡ get_or cs i c → deletes (drop i cs) ≡ Delete c ∷ deletes (drop (i + 1) cs)
+pub deletes_here : (cs : List ℕ) (i : ℕ) (c : ℕ) → i < length cs → c ≡ get_or cs i c → head_deletes (drop i cs) ≡ Delete c ∷ head_deletes (drop (i + 1) cs)
 deletes_here cs i c h is = rw (drop-cons cs i c h, ← is, add-one) refl

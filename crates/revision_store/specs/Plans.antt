@@ -30,8 +30,8 @@ IsOf cells revision (Put row) = row.mod_revision ≡ revision
 IsOf cells revision (Delete cell) = IsSome (cells cell)
 
 -- deletes of the keys of the changes under some cells
-abbrev pub deletes : List ℕ → List Write
-deletes heads = map Delete heads
+abbrev pub head_deletes : List ℕ → List Write
+head_deletes heads = map Delete heads
 
 -- the cells that a write takes, and that some take
 abbrev pub cost_in : Cells → Write → ℕ

@@ -56,11 +56,11 @@ abbrev pub leases_of : FinMap nat_cmp Record → LeaseCells
 leases_of records c = option_and_then (λ r. lease_by r.kind r) (get records c)
 
 -- the leases with one more, and without one
-abbrev pub with_lease : LeaseCells → ℕ → LeaseRecord → LeaseCells
-with_lease leases c lease b = if b == c then Some lease else leases b
+abbrev pub with_lease_cell : LeaseCells → ℕ → LeaseRecord → LeaseCells
+with_lease_cell leases c lease b = if b == c then Some lease else leases b
 
-abbrev pub without_lease : LeaseCells → ℕ → LeaseCells
-without_lease leases c b = if b == c then None else leases b
+abbrev pub without_lease_cell : LeaseCells → ℕ → LeaseCells
+without_lease_cell leases c b = if b == c then None else leases b
 
 -- a delete has no value, and a lease neither key nor value
 pub record IsPlain (r : Record) : Type 0 where

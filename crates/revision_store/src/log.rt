@@ -5,9 +5,9 @@ ghost use Rattle.std.specs.FinMap as finite;
 ghost use Rattle.cell_arena.specs.Loan.{IsLent, Settles, DrawsFor, DrawsNone, IsBusy};
 ghost use Rattle.etcd_model.specs.Changes.{OwnRow, Rises, kept};
 ghost use Rattle.etcd_model.specs.Store.{record_cells};
-ghost use Rattle.revision_store.specs.Recorded.{cells_of, leases_of, with_lease, without_lease};
+ghost use Rattle.revision_store.specs.Recorded.{cells_of, leases_of, with_lease_cell, without_lease_cell};
 ghost use Rattle.revision_store.specs.Logged.{empty_log, used_in};
-ghost use Rattle.revision_store.specs.Plans.{deletes};
+ghost use Rattle.revision_store.specs.Plans.{head_deletes};
 ghost use Rattle.revision_store.specs.Appending.{CanAppend, Appends};
 
 use crate::cutting::cut;
@@ -104,9 +104,9 @@ impl Log {
         heads: &[CellNo],
         revision: u64,
     )
-        requires takes { CanAppend self.old revision (deletes heads.now) }
+        requires takes { CanAppend self.old revision (head_deletes heads.now) }
         requires lent { IsLent self.old.share (S.loan segments.old) }
-        ensures appends { Appends self.old self.new revision (deletes heads.now) }
+        ensures appends { Appends self.old self.new revision (head_deletes heads.now) }
         ensures settles { Settles self.old.share (S.loan segments.old) self.new.share (S.loan segments.new) }
     {
         for head in heads {
@@ -138,7 +138,7 @@ impl Log {
         ensures changes { self.new.changes ≡ self.old.changes }
         ensures cells { cells_of self.new.records ≡ cells_of self.old.records }
         ensures leases { leases_of self.new.records
-            ≡ with_lease (leases_of self.old.records) result (record { id = id; ttl = ttl }) }
+            ≡ with_lease_cell (leases_of self.old.records) result (record { id = id; ttl = ttl }) }
         ensures lease_cells { self.new.lease_cells ≡ self.old.lease_cells + 1 }
         ensures free { self.new.free + 1 ≡ self.old.free }
         ensures draws { DrawsFor (used_in self.new) self.old.share self.new.share }
@@ -157,7 +157,7 @@ impl Log {
         requires lent { IsLent self.old.share (S.loan segments.old) }
         ensures changes { self.new.changes ≡ self.old.changes }
         ensures cells { cells_of self.new.records ≡ cells_of self.old.records }
-        ensures leases { leases_of self.new.records ≡ without_lease (leases_of self.old.records) cell }
+        ensures leases { leases_of self.new.records ≡ without_lease_cell (leases_of self.old.records) cell }
         ensures lease_cells { self.new.lease_cells + 1 ≡ self.old.lease_cells }
         ensures free { self.new.free ≡ self.old.free + 1 }
         ensures none_drawn { DrawsNone self.old.share self.new.share }

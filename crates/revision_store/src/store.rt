@@ -5,9 +5,9 @@ ghost use Rattle.std.specs.FinMap as map;
 ghost use Rattle.cell_arena.specs.Loan.{IsLent, Settles, DrawsNone};
 ghost use Rattle.etcd_model.specs.Store.{compact, record_cells};
 ghost use Rattle.etcd_model.specs.Stepping.{compact_refusal};
-ghost use Rattle.revision_store.specs.Recorded.{leases_of, with_lease, without_lease};
+ghost use Rattle.revision_store.specs.Recorded.{leases_of, with_lease_cell, without_lease_cell};
 ghost use Rattle.revision_store.specs.Stored.{CanCommit, Commits, cells, empty_state, reads};
-ghost use Rattle.revision_store.specs.Plans.{deletes};
+ghost use Rattle.revision_store.specs.Plans.{head_deletes};
 ghost use Rattle.revision_store.specs.Pending.{IsSound};
 
 use crate::log::Log;
@@ -93,9 +93,9 @@ impl Store {
     /// answers the revision. It takes no memory and cannot fail.
     pub fn delete_heads<S: Segments>(&mut self, segments: &mut S, heads: &[CellNo]) -> i64
         requires some { 0 < length heads.now }
-        requires fits { CanCommit self.old (deletes heads.now) }
+        requires fits { CanCommit self.old (head_deletes heads.now) }
         requires lent { IsLent self.old.share (S.loan segments.old) }
-        ensures commits { Commits self.old self.new (deletes heads.now) }
+        ensures commits { Commits self.old self.new (head_deletes heads.now) }
         ensures revision { result ≡ pos self.new.kept.current }
         ensures settles { Settles self.old.share (S.loan segments.old) self.new.share (S.loan segments.new) }
     {
@@ -150,7 +150,7 @@ impl Store {
         ensures kept { self.new.kept ≡ self.old.kept }
         ensures cells { cells self.new ≡ cells self.old }
         ensures leases { leases_of self.new.records
-            ≡ with_lease (leases_of self.old.records) result (record { id = id; ttl = ttl }) }
+            ≡ with_lease_cell (leases_of self.old.records) result (record { id = id; ttl = ttl }) }
         ensures lease_cells { self.new.lease_cells ≡ self.old.lease_cells + 1 }
         ensures free { self.new.free + 1 ≡ self.old.free }
         ensures settles { Settles self.old.share (S.loan segments.old) self.new.share (S.loan segments.new) }
@@ -164,7 +164,7 @@ impl Store {
         requires lent { IsLent self.old.share (S.loan segments.old) }
         ensures kept { self.new.kept ≡ self.old.kept }
         ensures cells { cells self.new ≡ cells self.old }
-        ensures leases { leases_of self.new.records ≡ without_lease (leases_of self.old.records) cell }
+        ensures leases { leases_of self.new.records ≡ without_lease_cell (leases_of self.old.records) cell }
         ensures lease_cells { self.new.lease_cells + 1 ≡ self.old.lease_cells }
         ensures free { self.new.free ≡ self.old.free + 1 }
         ensures none_drawn { DrawsNone self.old.share self.new.share }

@@ -1,5 +1,5 @@
 use Rattle.std.proofs.Common.{◌≡◌, true, false, ℕ, ◌+◌, ◌-◌, ◌<◌, ◌/◌, get_or, length, take, ap, sym, arith, subst}
-use Rattle.chunk_list.specs.Chunks.{items_of, chunk_at}
+use Rattle.chunk_list.specs.Chunks.{chunk_items, chunk_at}
 use Rattle.chunk_list.proofs.Chunks.{chunk_read, dense_here}
 use Rattle.chunk_list.proofs.Turns.{can_chunk, chunk_holds, chunk_fails}
 use Rattle.chunk_list.proofs.search.first_chunk.Goals as goal
@@ -55,5 +55,5 @@ returns g c =
     record {
       in_range = omega arith;
       from = c.loop-low.invariant.from;
-      to = λ k turn more. subst (λ n. k < length (items_of (take (n + 1) c.args.chunks.now))) e (c.loop-low.invariant.to k turn (omega (arith, more)));
+      to = λ k turn more. subst (λ n. k < length (chunk_items (take (n + 1) c.args.chunks.now))) e (c.loop-low.invariant.to k turn (omega (arith, more)));
     }

@@ -1,5 +1,5 @@
 use Rattle.std.proofs.Common.{◌≡◌, length, take, refl, ap, arith}
-use Rattle.chunk_list.specs.Chunks.{items_of}
+use Rattle.chunk_list.specs.Chunks.{chunk_items}
 use Rattle.chunk_list.proofs.Chunks.{chunk_read, place_in}
 use Rattle.chunk_list.proofs.Lists.{seen}
 use Rattle.chunk_list.proofs.Walks.{start_below, start_later}
@@ -21,7 +21,7 @@ overflow_add-result g c =
     let saw = seen c.self.inside.chunks.items c.self.inside.room _ c.args.self.now c.self.view_is refl refl in
     let q = place_in chunks v.sizes c.args.to saw.sizes c.requires.to in
     let e : c.adding.chunk ≡ c.args.to.chunk = omega arith in
-    let s = ap (λ n. length (items_of (take n chunks))) e in
+    let s = ap (λ n. length (chunk_items (take n chunks))) e in
     omega (arith, s, q.offset_in, start_below chunks c.args.to.chunk q.chunk_in, c.self.invariant.len)
 
 pub overflow_sub-result : goal.overflow_sub-result
@@ -32,7 +32,7 @@ overflow_sub-result g c =
     let p = place_in chunks v.sizes c.args.from saw.sizes c.requires.from in
     let q = place_in chunks v.sizes c.args.to saw.sizes c.requires.to in
     let e : c.adding.chunk ≡ c.args.to.chunk = omega arith in
-    let s = ap (λ n. length (items_of (take n chunks))) e in
+    let s = ap (λ n. length (chunk_items (take n chunks))) e in
     omega (arith, s, p.position_is, q.position_is, c.requires.ordered)
 
 pub returns-then-to-from : goal.returns-then-to-from
@@ -52,5 +52,5 @@ returns g c =
     let p = place_in chunks v.sizes c.args.from saw.sizes c.requires.from in
     let q = place_in chunks v.sizes c.args.to saw.sizes c.requires.to in
     let e : c.adding.chunk ≡ c.args.to.chunk = omega arith in
-    let s = ap (λ n. length (items_of (take n chunks))) e in
+    let s = ap (λ n. length (chunk_items (take n chunks))) e in
     omega (arith, s, p.position_is, q.position_is)

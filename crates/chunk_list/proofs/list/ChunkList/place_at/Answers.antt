@@ -1,5 +1,5 @@
 use Rattle.std.proofs.Common.{◌≡◌, ◌-◌, ◌<◌, length, take, refl, ap, arith}
-use Rattle.chunk_list.specs.Chunks.{items_of}
+use Rattle.chunk_list.specs.Chunks.{chunk_items}
 use Rattle.chunk_list.proofs.Chunks.{chunk_read}
 use Rattle.chunk_list.proofs.Lists.{seen}
 use Rattle.chunk_list.proofs.Walks.{start_last, place_from_chunk}
@@ -20,7 +20,7 @@ returns g c =
     let v = c.args.self.now in
     let saw = seen c.self.inside.chunks.items c.self.inside.room _ c.args.self.now c.self.view_is refl refl in
     let e : c.passing.chunk ≡ c.len-last.result - 1 = omega arith in
-    let s = ap (λ n. length (items_of (take n chunks))) e in
+    let s = ap (λ n. length (chunk_items (take n chunks))) e in
     place_from_chunk chunks v (c.len-last.result - 1) c.passing.left c.args.position saw (omega (arith, c.self.invariant.some))
     (omega (arith, s, start_last chunks (c.len-last.result - 1) (omega (arith, c.self.invariant.some)), ap length saw.items, c.requires))
     (omega (arith, s))

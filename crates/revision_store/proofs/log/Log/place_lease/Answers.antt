@@ -2,7 +2,7 @@ use Rattle.std.proofs.Common.{◌+◌, refl, ap, ◌∙◌, arith, w64, to_z, of
 use Rattle.std.proofs.lemmas.Int.{to_z-of_z}
 use Rattle.key_index.specs.Links.{Cells}
 use Rattle.key_index.specs.Order.{changes_in}
-use Rattle.revision_store.specs.Recorded.{cells_of, leases_of, with_lease}
+use Rattle.revision_store.specs.Recorded.{cells_of, leases_of, with_lease_cell}
 use Rattle.revision_store.specs.Logged.{LogState}
 use Rattle.revision_store.proofs.Placed.{lease_parts, lease_cells, lease_leases, lease_plain}
 use Rattle.revision_store.proofs.Logged.{lease_more}
@@ -43,4 +43,4 @@ returns-clause-leases g c =
     let n = c.place-cell.new.self.records in
     let id = c.args.id in
     let is = lease_parts m n c.place-cell.result c.lease_fields.result id (to_z w64 (of_z w64 id)) c.args.ttl c.place-cell.ensures.placed c.lease_fields.ensures (to_z-of_z w64 id c.ranges.id) in
-    lease_leases m n c.place-cell.result id c.args.ttl is ∙ ap (λ (l : LogState). with_lease (leases_of l.records) c.place-cell.result (record { id = id; ttl = c.args.ttl })) c.self.view_is
+    lease_leases m n c.place-cell.result id c.args.ttl is ∙ ap (λ (l : LogState). with_lease_cell (leases_of l.records) c.place-cell.result (record { id = id; ttl = c.args.ttl })) c.self.view_is

@@ -1,7 +1,7 @@
 use Rattle.std.proofs.Common.{◌+◌, ◌-◌, IsSome, sym, ap, subst, ◌∙◌, arith}
 use Rattle.key_index.specs.Links.{Cells}
 use Rattle.key_index.specs.Order.{changes_in}
-use Rattle.revision_store.specs.Recorded.{ArePlain, cells_of, leases_of, without_lease}
+use Rattle.revision_store.specs.Recorded.{ArePlain, cells_of, leases_of, without_lease_cell}
 use Rattle.revision_store.specs.Logged.{LogState}
 use Rattle.revision_store.proofs.Recorded.{cells_left, lease_removed, plain_removed, lease_freed}
 use Rattle.revision_store.proofs.Counted.{counted_some}
@@ -38,7 +38,7 @@ returns-clause-cells g c =
 
 pub returns-clause-leases : goal.returns-clause-leases
 returns-clause-leases g c =
-    ap leases_of c.release.ensures.gone ∙ lease_removed c.self.inside.region.records c.args.cell ∙ ap (λ (l : LogState). without_lease (leases_of l.records) c.args.cell) c.self.view_is
+    ap leases_of c.release.ensures.gone ∙ lease_removed c.self.inside.region.records c.args.cell ∙ ap (λ (l : LogState). without_lease_cell (leases_of l.records) c.args.cell) c.self.view_is
 
 pub returns-clause-free : goal.returns-clause-free
 returns-clause-free g c =
