@@ -9,7 +9,7 @@ use Rattle.std.proofs.lemmas.Bool.{cases_eq}
 use Rattle.cell_arena.specs.declared.cell.Kind.{Kind}
 use Rattle.cell_arena.specs.declared.cell.Kind.TheVariants.{Put, Delete, Lease}
 use Rattle.cell_arena.specs.Chain.{Record}
-use Rattle.cell_arena.specs.Region.{cost}
+use Rattle.cell_arena.specs.Region.{record_cost}
 use Rattle.etcd_model.specs.Changes.{change_of}
 use Rattle.etcd_model.specs.Kept.{cost as cost_of_change}
 use Rattle.key_index.specs.Compaction.{cost_of}
@@ -155,13 +155,13 @@ no_pieces : (k v : ℕ) → k ≡ 0 → v ≡ 0 → 1 + (k + v + 47) / 48 ≡ 1
 no_pieces k v no_key none = omega arith
 
 -- what the record of a change costs
-linked_cost : (kind : Kind) (r : Record) → r.kind ≡ kind → IsPlain r → IsSome (linked_by kind r) → cost r ≡ cost_of (λ x. cost_of_change (change_of x)) (linked_by kind r)
+linked_cost : (kind : Kind) (r : Record) → r.kind ≡ kind → IsPlain r → IsSome (linked_by kind r) → record_cost r ≡ cost_of (λ x. cost_of_change (change_of x)) (linked_by kind r)
 linked_cost Put r is plain some = both_pieces (length r.key) (length r.value)
 linked_cost Delete r is plain some = key_pieces (length r.key) (length r.value) (ap length (plain.delete is))
 linked_cost Lease r is plain some = absurd (cc)
 
 -- a lease takes one cell
-lease_cost : (r : Record) → r.kind ≡ Lease → IsPlain r → cost r ≡ 1
+lease_cost : (r : Record) → r.kind ≡ Lease → IsPlain r → record_cost r ≡ 1
 lease_cost r is plain = no_pieces (length r.key) (length r.value) (ap length (plain.lease is).0) (ap length (plain.lease is).1)
 
 module _ (m : FinMap nat_cmp Record) (k : ℕ) where
@@ -189,26 +189,26 @@ module _ (m : FinMap nat_cmp Record) (k : ℕ) where
       by_case true is = absurd (cc)
       by_case false is = plain q x is
 
-  module _ (plain : ArePlain m) (free_old free_new : ℕ) (free : IfSome (get m k) (λ r. free_new ≡ free_old + cost r)) where
+  module _ (plain : ArePlain m) (free_old free_new : ℕ) (free : IfSome (get m k) (λ r. free_new ≡ free_old + record_cost r)) where
     -- it gives back what it costs
     pub change_freed : IsSome (cells_of m k) → free_new ≡ free_old + cost_of (λ x. cost_of_change (change_of x)) (cells_of m k)
     change_freed some =
         let h = is_change (get m k) some in
         let r = h.0 in
         let here : cells_of m k ≡ linked_of r = ap (option_and_then linked_of) h.1 in
-        let back : free_new ≡ free_old + cost r = at_some (get m k) (λ (r : Record). free_new ≡ free_old + cost r) r h.1 free in
-        let same : cost r ≡ cost_of (λ x. cost_of_change (change_of x)) (linked_of r) = linked_cost r.kind r refl (plain k r h.1) (subst IsSome here some) in
+        let back : free_new ≡ free_old + record_cost r = at_some (get m k) (λ (r : Record). free_new ≡ free_old + record_cost r) r h.1 free in
+        let same : record_cost r ≡ cost_of (λ x. cost_of_change (change_of x)) (linked_of r) = linked_cost r.kind r refl (plain k r h.1) (subst IsSome here some) in
         back ∙ ap (λ (n : ℕ). free_old + n) (same ∙ ap (cost_of (λ x. cost_of_change (change_of x))) (sym here))
 
     pub freed_some : IsSome (cells_of m k) → free_old < free_new
     freed_some some =
         let h = is_change (get m k) some in
         let r = h.0 in
-        let back : free_new ≡ free_old + cost r = at_some (get m k) (λ (r : Record). free_new ≡ free_old + cost r) r h.1 free in
+        let back : free_new ≡ free_old + record_cost r = at_some (get m k) (λ (r : Record). free_new ≡ free_old + record_cost r) r h.1 free in
         omega (arith, back)
 
     pub lease_freed : IsSome (leases_of m k) → free_new ≡ free_old + 1
     lease_freed some =
         let h = is_lease (get m k) some in
-        let back : free_new ≡ free_old + cost h.0 = at_some (get m k) (λ (r : Record). free_new ≡ free_old + cost r) h.0 h.1 free in
+        let back : free_new ≡ free_old + record_cost h.0 = at_some (get m k) (λ (r : Record). free_new ≡ free_old + record_cost r) h.0 h.1 free in
         back ∙ ap (λ (n : ℕ). free_old + n) (lease_cost h.0 h.2 (plain k h.0 h.1))
