@@ -1,1 +1,3 @@
 mod Standing
+mod Chosen
+mod Granted

@@ -1,5 +1,5 @@
 -- Where a lease stands in a list by ascending ID.
-use Rattle.std.proofs.Common.{◌≡◌, ℕ, zero, suc, ◌+◌, ◌<◌, ◌≤◌, List, [], ◌∷◌, length, get_or, set, refl, sym, ap, subst, ◌∙◌, arith, inl, inr, ◌⊎◌, ◌≢◌}
+use Rattle.std.proofs.Common.{◌≡◌, ℕ, zero, suc, ◌+◌, ◌<◌, ◌≤◌, List, [], ◌∷◌, length, get_or, set, drop, add-one, refl, sym, ap, subst, ◌∙◌, arith, inl, inr, ◌⊎◌, ◌≢◌}
 use Rattle.std.specs.Prelude.{ℤ, ◌<ℤ◌, Bool, true, false, not, cond, ◌||◌, int_lt, Option, Some, None, is_some}
 use Rattle.std.specs.List.{AllByRecursion, prefix_len, insert, remove}
 use Rattle.std.specs.List.Sorted.{IsStrictlySortedBy}
@@ -104,12 +104,12 @@ lacks l (m ∷ ms) id h all =
     }
 
 module _ (l : Lease) (ls : List Lease) (id : ℤ) where
-  one_more : int_lt l.id id ≡ true → suc (ids_below ls id) ≡ ids_below (l ∷ ls) id
+  pub one_more : int_lt l.id id ≡ true → suc (ids_below ls id) ≡ ids_below (l ∷ ls) id
   one_more e =
       let next : suc (ids_below ls id) ≡ 1 + ids_below ls id = omega arith in
       next ∙ sym (ap (λ b. cond b (1 + ids_below ls id) 0) e)
 
-  none_below : int_lt l.id id ≡ false → 0 ≡ ids_below (l ∷ ls) id
+  pub none_below : int_lt l.id id ≡ false → 0 ≡ ids_below (l ∷ ls) id
   none_below e = sym (ap (λ b. cond b (1 + ids_below ls id) 0) e)
 
   put_after : (x : Lease) (ys : List Lease) → IsBelow l.id id → x.id ≡ id → put_in by_id ls x ≡ ys → put_in by_id (l ∷ ls) x ≡ l ∷ ys
@@ -250,3 +250,17 @@ has_is (l ∷ ls) id = step (int_eq l.id id) (has_is ls id)
     step : (b : Bool) → is_some (lease_at ls id) ≡ has_lease ls id → is_some (cond b (Some l) (lease_at ls id)) ≡ (b || has_lease ls id)
     step true rest = refl
     step false rest = rest
+
+pub leases_from : (bs : List Booked) (i : ℕ) (x : Booked) → i < length bs → x ≡ get_or bs i x → drop i (leases_of bs) ≡ x.lease ∷ drop (i + 1) (leases_of bs)
+leases_from bs i x lt is = rw add-one (from_suc bs i lt is)
+  where
+    from_suc : (bs : List Booked) (i : ℕ) → i < length bs → x ≡ get_or bs i x → drop i (leases_of bs) ≡ x.lease ∷ drop (suc i) (leases_of bs)
+    from_suc [] i lt is = absurd (omega (arith, lt))
+    from_suc (b ∷ bs) zero lt is = ap (λ z. z.lease ∷ leases_of bs) (sym is)
+    from_suc (b ∷ bs) (suc i) lt is = from_suc bs i (omega (arith, lt)) is
+
+pub none_from : (bs : List Booked) (i : ℕ) → length bs ≤ i → drop i (leases_of bs) ≡ []
+none_from [] zero le = refl
+none_from [] (suc i) le = refl
+none_from (b ∷ bs) zero le = absurd (omega (arith, le))
+none_from (b ∷ bs) (suc i) le = none_from bs i (omega (arith, le))

@@ -35,10 +35,12 @@ pub record IsWithin (soonest : ℕ) (l : Lease) : Type 0 where
   pub end : soonest ≤ l.end
   pub ttl : int_le (pos l.ttl) max_ttl ≡ true
 
--- what always holds of a book: the leases strictly ascend, and none ends before its soonest moment
+-- what always holds of a book: the leases strictly ascend, none ends before its soonest moment, and there is
+-- room for them all
 pub record IsBook (leases : List Lease) (soonest most : ℕ) : Type 0 where
   pub ascend : IsStrictlySortedBy by_id leases
   pub within : AllByRecursion (IsWithin soonest) leases
+  pub count : length leases ≤ most
   pub room : most ≤ 4294967295
 
 -- the lease with an ID stands at a place, which is its own

@@ -1,13 +1,16 @@
 //! The book.
-ghost use Rattle.std.specs.Prelude.{◌≡◌, ◌≤◌, [], length, IfOk};
+ghost use Rattle.std.specs.Prelude.{◌≡◌, ◌≤◌, [], length, IfOk, MatchResult, Some};
 ghost use Rattle.etcd_model.specs.Leases.{lease_at};
 ghost use Rattle.etcd_model.specs.Operations.{has_lease};
 ghost use Rattle.lease_book.specs.Book.{Book};
+ghost use Rattle.lease_book.specs.Granting.{IsIdOf, id_refusal};
 
+use crate::choosing::choose_id;
 use crate::places::find;
 use chunk_list::ChunkList;
 use etcd_model::state::Lease;
-use etcd_types::{CellNo, Mem};
+use etcd_types::limits::LAST_LEASE_ID;
+use etcd_types::{CellNo, Mem, Refusal};
 use std::alloc::Global;
 use std::marker::Model;
 
@@ -78,5 +81,23 @@ impl LeaseBook {
         ensures { result ≡ has_lease self.now.leases id }
     {
         self.lease(id).is_some()
+    }
+
+    /// The ID of a grant, its own or the one that is chosen for it, and the counter afterwards.
+    pub(crate) fn plan_id(&self, wanted: i64) -> Result<(i64, u64), Refusal>
+        ensures { MatchResult result (IsIdOf self.now wanted) (λ refusal. id_refusal self.now wanted ≡ Some refusal) }
+    {
+        if wanted != 0 {
+            return if self.has(wanted) {
+                Err(Refusal::LeaseExists)
+            } else {
+                Ok((wanted, self.counter))
+            };
+        }
+        if self.counter >= LAST_LEASE_ID {
+            return Err(Refusal::UsedUp);
+        }
+        let id = choose_id(&self.list, self.counter);
+        Ok((id as i64, id + 1))
     }
 }

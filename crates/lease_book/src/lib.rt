@@ -17,6 +17,9 @@
 #![tactic(auto)]
 
 mod book;
+mod choosing;
+mod granting;
 mod places;
 
 pub use book::{Booked, LeaseBook};
+pub use granting::NewLease;
