@@ -1,3 +1,5 @@
 mod Standing
 mod Chosen
 mod Granted
+mod Due
+mod Changed

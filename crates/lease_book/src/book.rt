@@ -1,12 +1,20 @@
 //! The book.
-ghost use Rattle.std.specs.Prelude.{◌≡◌, ◌≤◌, [], length, IfOk, MatchResult, Some};
-ghost use Rattle.etcd_model.specs.Leases.{lease_at};
+ghost use Rattle.std.specs.Prelude.{◌≡◌, ◌<◌, ◌≤◌, [], length, true, slice_get, slice_index_or};
+ghost use Rattle.std.specs.Prelude.{IfOk, IfSome, MatchResult, Some, option_map};
+ghost use Rattle.std.specs.List.{insert, remove};
+ghost use Rattle.etcd_types.specs.Limits.{last_moment};
+ghost use Rattle.etcd_model.specs.Held.{by_id};
+ghost use Rattle.etcd_model.specs.Leases.{lease_at, put_lease, run_out};
 ghost use Rattle.etcd_model.specs.Operations.{has_lease};
-ghost use Rattle.lease_book.specs.Book.{Book};
-ghost use Rattle.lease_book.specs.Granting.{IsIdOf, id_refusal};
+ghost use Rattle.etcd_model.specs.Order.{put_in};
+ghost use Rattle.model_laws.specs.Leases.{without_lease};
+ghost use Rattle.lease_book.specs.Book.{Book, ids_below};
+ghost use Rattle.lease_book.specs.Granting.{Fits, IsIdOf, id_refusal};
 
 use crate::choosing::choose_id;
-use crate::places::find;
+use crate::ending::first_due;
+use crate::granting::NewLease;
+use crate::places::{find, place_of, place_with};
 use chunk_list::ChunkList;
 use etcd_model::state::Lease;
 use etcd_types::limits::LAST_LEASE_ID;
@@ -99,5 +107,67 @@ impl LeaseBook {
         }
         let id = choose_id(&self.list, self.counter);
         Ok((id as i64, id + 1))
+    }
+
+    /// Takes up a lease that is to be granted, with the cell of its record.
+    pub fn grant(&mut self, new: NewLease, cell: CellNo)
+        requires fits { Fits self.old new }
+        requires room { length self.old.leases < self.old.room }
+        ensures leases { self.new.leases ≡ put_in by_id self.old.leases new.lease }
+        ensures cells { self.new.cells ≡ insert self.old.cells (ids_below self.old.leases new.lease.id) cell }
+        ensures counter { self.new.counter ≡ new.counter }
+        ensures room { self.new.room ≡ self.old.room }
+    {
+        let place = place_of(&self.list, new.lease.id);
+        self.soonest = self.soonest.min(new.lease.end);
+        self.counter = new.counter;
+        self.list.insert(
+            place,
+            Booked {
+                lease: new.lease,
+                cell,
+            },
+        );
+    }
+
+    /// Gives a lease the end that it would have if it was granted at this moment.
+    pub fn renew(&mut self, id: i64, moment: u64)
+        requires has { has_lease self.old.leases id ≡ true }
+        requires moment { moment ≤ last_moment }
+        ensures leases { IfSome (lease_at self.old.leases id)
+            (λ lease. self.new.leases ≡ put_lease moment self.old.leases id lease.ttl) }
+        ensures cells { self.new.cells ≡ self.old.cells }
+        ensures counter { self.new.counter ≡ self.old.counter }
+        ensures room { self.new.room ≡ self.old.room }
+    {
+        let place = place_with(&self.list, id);
+        let mut booked = self.list.get(place);
+        booked.lease.end = moment + booked.lease.ttl;
+        self.soonest = self.soonest.min(booked.lease.end);
+        self.list.set(place, booked);
+    }
+
+    /// Takes a lease away, and gives the cell of its record.
+    pub fn end(&mut self, id: i64) -> CellNo
+        requires { has_lease self.old.leases id ≡ true }
+        ensures value { result ≡ slice_index_or self.old.cells (ids_below self.old.leases id) result }
+        ensures leases { self.new.leases ≡ without_lease self.old.leases id }
+        ensures cells { self.new.cells ≡ remove self.old.cells (ids_below self.old.leases id) }
+        ensures counter { self.new.counter ≡ self.old.counter }
+        ensures room { self.new.room ≡ self.old.room }
+    {
+        let place = place_with(&self.list, id);
+        self.list.remove(place).cell
+    }
+
+    /// Of the leases that have run out at a moment, the one that ends first.
+    pub fn due(&self, moment: u64) -> Option<i64>
+        ensures { result ≡ option_map (λ lease. lease.id) (slice_get (run_out moment self.now.leases) 0) }
+    {
+        if moment < self.soonest {
+            return None;
+        }
+        let lease = first_due(&self.list, moment)?;
+        Some(lease.id)
     }
 }

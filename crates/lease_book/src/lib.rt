@@ -18,6 +18,7 @@
 
 mod book;
 mod choosing;
+mod ending;
 mod granting;
 mod places;
 

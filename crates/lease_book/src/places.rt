@@ -1,9 +1,10 @@
 //! Where a lease stands in a list by ascending ID.
-ghost use Rattle.std.specs.Prelude.{◌≡◌, ℕ, ◌<◌, ◌≤◌, length, map, slice_index_or, false, true, pos, MatchOption, None};
+ghost use Rattle.std.specs.Prelude.{◌≡◌, true, MatchOption, None};
 ghost use Rattle.std.specs.List.Sorted.{IsStrictlySortedBy};
-ghost use Rattle.chunk_list.specs.Chunked.{HasItem, IsPlaceAt, position_of};
+ghost use Rattle.chunk_list.specs.Chunked.{IsPlaceAt};
 ghost use Rattle.etcd_model.specs.Held.{by_id};
-ghost use Rattle.etcd_model.specs.Leases.{lease_at, free_id};
+ghost use Rattle.etcd_model.specs.Leases.{lease_at};
+ghost use Rattle.etcd_model.specs.Operations.{has_lease};
 ghost use Rattle.lease_book.specs.Book.{leases_of, ids_below, IsFoundAt};
 
 use crate::book::Booked;
@@ -31,6 +32,15 @@ pub(crate) fn place_of(list: &ChunkList<Booked>, id: i64) -> Place
     ensures { IsPlaceAt list.now result (ids_below (leases_of list.now.items) id) }
 {
     list.search(&IdBelow(id))
+}
+
+/// The place of the lease with this ID, which is there.
+pub(crate) fn place_with(list: &ChunkList<Booked>, id: i64) -> Place
+    requires ascend { IsStrictlySortedBy by_id (leases_of list.now.items) }
+    requires has { has_lease (leases_of list.now.items) id ≡ true }
+    ensures { IsFoundAt list.now id result }
+{
+    place_of(list, id)
 }
 
 /// The place of the lease with this ID.

@@ -1,0 +1,49 @@
+//! The lease that ends first.
+ghost use Rattle.std.specs.Prelude.{◌≡◌, slice_get};
+ghost use Rattle.etcd_model.specs.Leases.{end_cmp, run_out};
+ghost use Rattle.lease_book.specs.Book.{leases_of};
+ghost use Rattle.lease_book.specs.Ending.{sooner_due};
+
+use crate::book::Booked;
+use chunk_list::ChunkList;
+use etcd_model::state::Lease;
+use std::cmp::Ordering;
+
+/// Of the leases that have run out at a moment, the one that ends first.
+pub(crate) fn first_due(list: &ChunkList<Booked>, moment: u64) -> Option<Lease>
+    ensures { result ≡ slice_get (run_out moment (leases_of list.now.items)) 0 }
+{
+    let mut first = None;
+    let mut place = list.start();
+    'passing: while list.has_item(place) {
+        first = first_of_two(moment, first, list.get(place).lease);
+        place = list.next(place);
+    }
+    first
+}
+
+/// The first so far, or a lease that has run out and ends before it.
+fn first_of_two(moment: u64, first: Option<Lease>, lease: Lease) -> Option<Lease>
+    ensures { result ≡ sooner_due moment first lease }
+{
+    if lease.end > moment {
+        return first;
+    }
+    match first {
+        Some(other) => {
+            if compare_ends(lease, other) == Ordering::Greater {
+                Some(other)
+            } else {
+                Some(lease)
+            }
+        }
+        None => Some(lease),
+    }
+}
+
+/// How two leases stand in the order in which they end: by their ends, and then by their IDs.
+fn compare_ends(lease: Lease, other: Lease) -> Ordering
+    ensures { result ≡ end_cmp lease other }
+{
+    lease.end.cmp(&other.end).then(lease.id.cmp(&other.id))
+}
