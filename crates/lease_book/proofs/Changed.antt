@@ -1,6 +1,6 @@
 -- A lease that goes into a book, has another end, or leaves it.
 use Rattle.std.proofs.Common.{◌≡◌, ℕ, zero, suc, ◌+◌, ◌<◌, ◌≤◌, List, [], ◌∷◌, length, get_or, set, map, refl, sym, ap, subst, ◌∙◌, arith, inl, inr}
-use Rattle.std.specs.Prelude.{ℤ, pos, Bool, true, false, not, cond, int_le, filter, IfSome, Option, Some, None}
+use Rattle.std.specs.Prelude.{ℤ, pos, true, false, not, cond, int_le, IfSome, Some}
 use Rattle.std.specs.List.{AllByRecursion, insert, remove}
 use Rattle.std.specs.List.Sorted.{IsStrictlySortedBy}
 use Rattle.std.specs.Ordering.{int_eq}

@@ -1,6 +1,6 @@
 -- The lease that ends first, by one pass over all of them.
 use Rattle.std.proofs.Common.{◌≡◌, ℕ, ◌<◌, ◌≤◌, List, [], ◌∷◌, refl, sym, ap, ◌∙◌, arith, fold, slice_get}
-use Rattle.std.specs.Prelude.{Bool, true, false, cond, nat_le, filter, Option, Some, None}
+use Rattle.std.specs.Prelude.{Bool, true, false, cond, nat_le, filter, Some, None}
 use Rattle.std.specs.List.{AllByRecursion}
 use Rattle.std.specs.Ordering.{is_gt}
 use Rattle.std.specs.declared.cmp.Ordering.TheVariants.{Less, Equal, Greater}

@@ -1,19 +1,16 @@
 -- The ID that a grant gets.
-use Rattle.std.proofs.Common.{◌≡◌, ℕ, ◌+◌, ◌<◌, ◌≤◌, List, refl, sym, ap, subst, ◌∙◌, arith}
-use Rattle.std.specs.Prelude.{ℤ, pos, Bool, true, false, not, cond, nat_le, Some, None, Option, ◌&&◌}
+use Rattle.std.proofs.Common.{◌≡◌, ℕ, ◌+◌, ◌<◌, sym, ap, subst, ◌∙◌, arith}
+use Rattle.std.specs.Prelude.{ℤ, pos, true, false, cond, nat_le, Some, None, ◌&&◌}
 use Rattle.std.specs.List.Sorted.{IsStrictlySortedBy}
-use Rattle.std.specs.Ordering.{int_eq}
 use Rattle.std.proofs.lemmas.Bool.Decides.{nat_tests}
 use Rattle.etcd_types.specs.Limits.{last_lease_id}
-use Rattle.etcd_types.specs.declared.refusal.Refusal.{Refusal}
-use Rattle.etcd_types.specs.declared.refusal.Refusal.TheVariants.{UsedUp, LeaseExists}
+use Rattle.etcd_types.specs.declared.refusal.Refusal.TheVariants.{UsedUp}
 use Rattle.etcd_model.specs.Held.{by_id}
 use Rattle.etcd_model.specs.Leases.{free_id}
 use Rattle.etcd_model.specs.Operations.{has_lease}
-use Rattle.etcd_model.specs.Stepping.{is_taken_id}
 use Rattle.model_laws.proofs.LeaseLaws.{free_id_is_least}
 use Rattle.lease_book.specs.Book.{Book}
-use Rattle.lease_book.specs.Granting.{IsIdOf, id_refusal}
+use Rattle.lease_book.specs.Granting.{IsIdOf}
 
 not_at_end : (n m : ℕ) → n < m → nat_le m n ≡ false
 not_at_end n m lt = grind (arith, nat_tests)

@@ -1,7 +1,7 @@
 -- Where a lease stands in a list by ascending ID.
 use Rattle.std.proofs.Common.{◌≡◌, ℕ, zero, suc, ◌+◌, ◌<◌, ◌≤◌, List, [], ◌∷◌, length, get_or, set, drop, add-one, refl, sym, ap, subst, ◌∙◌, arith, inl, inr, ◌⊎◌, ◌≢◌}
-use Rattle.std.specs.Prelude.{ℤ, ◌<ℤ◌, Bool, true, false, not, cond, ◌||◌, int_lt, Option, Some, None, is_some}
-use Rattle.std.specs.List.{AllByRecursion, prefix_len, insert, remove}
+use Rattle.std.specs.Prelude.{ℤ, ◌<ℤ◌, Bool, true, false, not, cond, ◌||◌, int_lt, Some, None, is_some}
+use Rattle.std.specs.List.{AllByRecursion, insert, remove}
 use Rattle.std.specs.List.Sorted.{IsStrictlySortedBy}
 use Rattle.std.specs.Ordering.{int_cmp, int_eq, is_eq}
 use Rattle.std.specs.declared.cmp.Ordering.TheVariants.{Less, Equal, Greater}
@@ -185,6 +185,7 @@ turn_later id b bs p e r = record { in_range = omega (arith, r.in_range); before
     low : (i : ℕ) (d : Booked) → i < suc p → is_below id (get_or (b ∷ bs) i d) ≡ true
     low zero d lt = e
     low (suc i) d lt = r.before i d (omega (arith, lt))
+
     high : (i : ℕ) (d : Booked) → suc p ≤ i → i < length (b ∷ bs) → is_below id (get_or (b ∷ bs) i d) ≡ false
     high zero d le lt = absurd (omega (arith, le))
     high (suc i) d le lt = r.after i d (omega (arith, le)) (omega (arith, lt))

@@ -1,9 +1,8 @@
 -- What a contract sees of a book of leases.
-use Rattle.std.specs.Prelude.{◌≡◌, ℕ, ◌≤◌, ℤ, pos, true, ◌&&◌, nat_le, int_lt, int_le, List, length, map}
-use Rattle.std.specs.Prelude.{slice_index_or, Option, Some, None, if◌then◌else◌}
+use Rattle.std.specs.Prelude.{◌≡◌, ℕ, ◌≤◌, ℤ, pos, true, int_lt, int_le, List, length, map}
+use Rattle.std.specs.Prelude.{slice_index_or, Some}
 use Rattle.std.specs.List.{AllByRecursion, prefix_len}
 use Rattle.std.specs.List.Sorted.{IsStrictlySortedBy}
-use Rattle.std.specs.Ordering.{int_eq}
 use Rattle.etcd_types.specs.Limits.{max_ttl}
 use Rattle.chunk_list.specs.Chunked.{Chunked, HasItem, position_of}
 use Rattle.chunk_list.specs.declared.place.Place.{Place}
@@ -48,4 +47,5 @@ pub record IsFoundAt (list : Chunked Booked) (id : ℤ) (place : Place) : Type 0
   pub item : HasItem list.sizes place
   pub position : position_of list.sizes place ≡ ids_below (leases_of list.items) id
   pub is : (d : Booked)
-      → lease_at (leases_of list.items) id ≡ Some (slice_index_or list.items (position_of list.sizes place) d).lease
+      → lease_at (leases_of list.items) id
+      ≡ Some (slice_index_or list.items (position_of list.sizes place) d).lease

@@ -1,12 +1,11 @@
 -- A lease that is to be granted.
-use Rattle.std.specs.Prelude.{◌≡◌, ℕ, ◌+◌, ℤ, pos, true, false, ◌&&◌, nat_le, int_lt, int_le, Option, Some, None}
-use Rattle.std.specs.Prelude.{if◌then◌else◌}
+use Rattle.std.specs.Prelude.{◌≡◌, ℕ, ◌+◌, ℤ, pos, true, false, ◌&&◌, nat_le, int_lt, int_le}
+use Rattle.std.specs.Prelude.{Option, Some, None, if◌then◌else◌}
 use Rattle.std.specs.Ordering.{int_eq}
 use Rattle.etcd_types.specs.Limits.{max_ttl, last_lease_id}
 use Rattle.etcd_types.specs.declared.lease.GrantReq.{GrantReq}
 use Rattle.etcd_types.specs.declared.refusal.Refusal.{Refusal}
 use Rattle.etcd_types.specs.declared.refusal.Refusal.TheVariants.{TtlTooLarge, UsedUp, LeaseExists}
-use Rattle.etcd_model.specs.declared.state.Lease.{Lease}
 use Rattle.etcd_model.specs.Leases.{granted_ttl}
 use Rattle.etcd_model.specs.Operations.{has_lease}
 use Rattle.etcd_model.specs.Stepping.{is_taken_id, grant_id, counter_after}

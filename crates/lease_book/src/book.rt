@@ -8,14 +8,14 @@ ghost use Rattle.etcd_model.specs.Leases.{lease_at, put_lease, run_out};
 ghost use Rattle.etcd_model.specs.Operations.{has_lease};
 ghost use Rattle.etcd_model.specs.Order.{put_in};
 ghost use Rattle.model_laws.specs.Leases.{without_lease};
-ghost use Rattle.lease_book.specs.Book.{Book, ids_below};
+ghost use Rattle.lease_book.specs.Book.{Book, cells_of, ids_below, leases_of};
 ghost use Rattle.lease_book.specs.Granting.{Fits, IsIdOf, id_refusal};
 
 use crate::choosing::choose_id;
 use crate::ending::first_due;
 use crate::granting::NewLease;
 use crate::places::{find, place_of, place_with};
-use chunk_list::ChunkList;
+use chunk_list::{ChunkList, Walk};
 use etcd_model::state::Lease;
 use etcd_types::limits::LAST_LEASE_ID;
 use etcd_types::{CellNo, Mem, Refusal};
@@ -58,7 +58,8 @@ impl Model for LeaseBook {
 impl LeaseBook {
     /// A book with no lease, and room for so many.
     pub fn new(alloc: Global, leases: u32) -> Mem<LeaseBook>
-        ensures { IfOk result (λ book. book ≡ record { leases = []; cells = []; counter = 1; room = leases }) }
+        ensures { IfOk result (λ book.
+            book ≡ record { leases = []; cells = []; counter = 1; room = leases }) }
     {
         Ok(LeaseBook {
             list: ChunkList::new(alloc, leases as usize)?,
@@ -74,6 +75,21 @@ impl LeaseBook {
         ensures within { result ≤ self.now.room }
     {
         self.list.len()
+    }
+
+    /// For how many leases there is room in all.
+    pub fn room(&self) -> usize
+        ensures { result ≡ self.now.room }
+    {
+        self.list.room()
+    }
+
+    /// The leases by ascending ID, each with the cell of its record.
+    pub fn walk(&self) -> Walk<'_, Booked>
+        ensures leases { leases_of result ≡ self.now.leases }
+        ensures cells { cells_of result ≡ self.now.cells }
+    {
+        self.list.walk(self.list.start(), self.list.len())
     }
 
     /// The lease with this ID.
@@ -93,7 +109,8 @@ impl LeaseBook {
 
     /// The ID of a grant, its own or the one that is chosen for it, and the counter afterwards.
     pub(crate) fn plan_id(&self, wanted: i64) -> Result<(i64, u64), Refusal>
-        ensures { MatchResult result (IsIdOf self.now wanted) (λ refusal. id_refusal self.now wanted ≡ Some refusal) }
+        ensures { MatchResult result (IsIdOf self.now wanted)
+            (λ refusal. id_refusal self.now wanted ≡ Some refusal) }
     {
         if wanted != 0 {
             return if self.has(wanted) {

@@ -10,7 +10,7 @@ use crate::book::Booked;
 use crate::places::place_of;
 use chunk_list::ChunkList;
 
-/// The least number from the counter on that no lease has as its ID. It passes the run of those that are taken.
+/// The least number from the counter on that no lease has as its ID: the walk passes those that are taken.
 pub(crate) fn choose_id(list: &ChunkList<Booked>, counter: u64) -> u64
     requires ascend { IsStrictlySortedBy by_id (leases_of list.now.items) }
     requires counter { counter ≤ last_lease_id }

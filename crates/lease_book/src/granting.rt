@@ -17,8 +17,9 @@ pub struct NewLease {
 }
 
 impl LeaseBook {
-    /// The lease that a grant adds at a moment, with its own ID or, for 0, the one that is chosen for it. Refused are
-    /// a time to live above the longest, an ID that is in use, and an ID to choose once the counter is at its end.
+    /// The lease that a grant adds at a moment, with its own ID or, for 0, the one that is chosen for it.
+    /// Refused are a time to live above the longest, an ID to choose once the counter is at its end, and an
+    /// ID that is in use.
     pub fn plan_grant(&self, moment: u64, request: &GrantReq) -> Result<NewLease, Refusal>
         requires { moment ≤ last_moment }
         ensures { MatchResult result (IsGrant self.now moment request.now)

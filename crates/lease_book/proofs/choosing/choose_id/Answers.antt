@@ -1,6 +1,6 @@
 use Rattle.std.proofs.Common.{◌≡◌, ◌≢◌, ◌+◌, ◌<◌, ℤ, pos, length, drop, ap, sym, subst, ◌∙◌, to_z, w64, arith, rules}
 use Rattle.std.proofs.lemmas.Int.{to_z_pos}
-use Rattle.chunk_list.specs.Chunked.{position_of, HasItem}
+use Rattle.chunk_list.specs.Chunked.{position_of}
 use Rattle.lease_book.specs.Book.{leases_of, ids_below}
 use Rattle.lease_book.proofs.Chosen.{IsRun, begins, goes_on, stops}
 use Rattle.lease_book.proofs.Standing.{turns, leases_from}

@@ -1,4 +1,4 @@
-use Rattle.std.proofs.Common.{◌≡◌, ◌<◌, ◌≢◌, length, rules, sym, arith, inl, inr, refl}
+use Rattle.std.proofs.Common.{◌≡◌, ◌<◌, ◌≢◌, length, rules, inl, inr}
 use Rattle.std.proofs.lemmas.Bool.{cases_lt}
 use Rattle.chunk_list.specs.Chunked.{position_of, HasItem}
 use Rattle.lease_book.proofs.Standing.{found, other_there, none_there}

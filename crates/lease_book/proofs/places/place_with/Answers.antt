@@ -1,5 +1,5 @@
-use Rattle.std.proofs.Common.{◌≡◌, ◌<◌, length, Some, get_or, sym, ap, ◌∙◌, rules, arith}
-use Rattle.chunk_list.specs.Chunked.{position_of, HasItem}
+use Rattle.std.proofs.Common.{◌≡◌, Some, get_or, sym, ap, ◌∙◌, rules, arith}
+use Rattle.chunk_list.specs.Chunked.{position_of}
 use Rattle.lease_book.proofs.Changed.{here}
 use Rattle.lease_book.proofs.Standing.{lease_read, count_leases}
 use Rattle.lease_book.specs.Book.{leases_of, ids_below}

@@ -1,4 +1,4 @@
-use Rattle.std.proofs.Common.{◌≡◌, ap, sym, slice_get, option_map, arith}
+use Rattle.std.proofs.Common.{ap, sym, slice_get, option_map, arith}
 use Rattle.etcd_model.specs.declared.state.Lease.{Lease}
 use Rattle.lease_book.specs.Book.{leases_of}
 use Rattle.lease_book.proofs.Due.{none_due}

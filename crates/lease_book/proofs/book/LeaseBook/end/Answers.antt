@@ -1,4 +1,4 @@
-use Rattle.std.proofs.Common.{◌≡◌, true, get_or, ap, sym, subst, ◌∙◌, arith, rules}
+use Rattle.std.proofs.Common.{◌≡◌, true, get_or, ap, sym, subst, ◌∙◌, rules}
 use Rattle.std.specs.List.{remove}
 use Rattle.etcd_model.specs.Operations.{has_lease}
 use Rattle.chunk_list.specs.Chunked.{position_of}

@@ -2,7 +2,7 @@ use Rattle.std.proofs.Common.{◌≡◌, ◌<◌, false, length, ap, sym, subst,
 use Rattle.std.specs.List.{insert}
 use Rattle.etcd_model.specs.Operations.{has_lease}
 use Rattle.lease_book.specs.declared.book.Booked.{Booked}
-use Rattle.lease_book.specs.Book.{Book, leases_of, cells_of, ids_below, IsBook}
+use Rattle.lease_book.specs.Book.{Book, leases_of, cells_of, ids_below}
 use Rattle.lease_book.proofs.Changed.{added, added_book, map_insert}
 use Rattle.lease_book.proofs.book.LeaseBook.grant.Goals as goal
 

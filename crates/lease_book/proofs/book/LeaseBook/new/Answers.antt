@@ -1,5 +1,4 @@
-use Rattle.std.proofs.Common.{◌≡◌, [], sym, subst, arith}
-use Rattle.lease_book.specs.Book.{IsBook, leases_of}
+use Rattle.std.proofs.Common.{arith}
 use Rattle.lease_book.proofs.book.LeaseBook.new.Goals as goal
 
 pub invariant_of-result : goal.invariant_of-result

@@ -1,4 +1,4 @@
-use Rattle.std.proofs.Common.{◌≡◌, pos, to_z, w64, arith, rules, ap}
+use Rattle.std.proofs.Common.{◌≡◌, pos, to_z, w64, arith, rules}
 use Rattle.std.proofs.lemmas.Int.{to_z_pos}
 use Rattle.lease_book.proofs.Granted.{chosen}
 use Rattle.lease_book.proofs.Standing.{count_leases}

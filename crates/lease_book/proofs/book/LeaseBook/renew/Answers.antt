@@ -1,8 +1,7 @@
-use Rattle.std.proofs.Common.{◌≡◌, ◌+◌, ◌≤◌, pos, true, set, length, ap, sym, subst, ◌∙◌, arith, rules}
+use Rattle.std.proofs.Common.{◌≡◌, ◌+◌, true, sym, subst, arith, rules}
 use Rattle.etcd_model.specs.Operations.{has_lease}
 use Rattle.chunk_list.specs.Chunked.{position_of}
-use Rattle.lease_book.specs.declared.book.Booked.{Booked}
-use Rattle.lease_book.specs.Book.{Book, leases_of, cells_of, ids_below, IsBook}
+use Rattle.lease_book.specs.Book.{Book, leases_of, ids_below}
 use Rattle.lease_book.proofs.Changed.{lease_within, ttl_within, renewed, renewed_cells, renewed_book}
 use Rattle.lease_book.proofs.book.LeaseBook.renew.Goals as goal
 
