@@ -9,10 +9,11 @@ ghost use Rattle.etcd_model.specs.Operations.{has_lease};
 ghost use Rattle.etcd_model.specs.Order.{put_in};
 ghost use Rattle.model_laws.specs.Leases.{without_lease};
 ghost use Rattle.lease_book.specs.Book.{Book, cells_of, ids_below, leases_of};
+ghost use Rattle.lease_book.specs.Ending.{running, running_cells};
 ghost use Rattle.lease_book.specs.Granting.{Fits, IsIdOf, id_refusal};
 
 use crate::choosing::choose_id;
-use crate::ending::first_due;
+use crate::ending::{RunsAt, first_due, soonest_end};
 use crate::granting::NewLease;
 use crate::places::{find, place_of, place_with};
 use chunk_list::{ChunkList, Walk};
@@ -186,5 +187,19 @@ impl LeaseBook {
         }
         let lease = first_due(&self.list, moment)?;
         Some(lease.id)
+    }
+
+    /// Takes away all leases that have run out at a moment, in one pass.
+    pub fn end_due(&mut self, moment: u64)
+        ensures leases { self.new.leases ≡ running moment self.old.leases }
+        ensures cells { self.new.cells ≡ running_cells moment self.old.leases self.old.cells }
+        ensures counter { self.new.counter ≡ self.old.counter }
+        ensures room { self.new.room ≡ self.old.room }
+    {
+        if moment < self.soonest {
+            return;
+        }
+        self.list.retain(&RunsAt(moment));
+        self.soonest = soonest_end(&self.list);
     }
 }

@@ -2,10 +2,10 @@
 ghost use Rattle.std.specs.Prelude.{◌≡◌, slice_get};
 ghost use Rattle.etcd_model.specs.Leases.{end_cmp, run_out};
 ghost use Rattle.lease_book.specs.Book.{leases_of};
-ghost use Rattle.lease_book.specs.Ending.{sooner_due};
+ghost use Rattle.lease_book.specs.Ending.{first_end, sooner_due};
 
 use crate::book::Booked;
-use chunk_list::ChunkList;
+use chunk_list::{ChunkList, Test};
 use etcd_model::state::Lease;
 use std::cmp::Ordering;
 
@@ -20,6 +20,35 @@ pub(crate) fn first_due(list: &ChunkList<Booked>, moment: u64) -> Option<Lease>
         place = list.next(place);
     }
     first
+}
+
+/// Whether a lease runs on at a moment.
+#[derive(Clone, Copy)]
+pub(crate) struct RunsAt(pub(crate) u64);
+
+impl Test<Booked> for RunsAt {
+    ghost use Rattle.std.specs.Prelude.{nat_lt};
+
+    ghost can = { λ s b. Unit {0} };
+
+    ghost test = { λ s b. nat_lt s.0 b.lease.end };
+
+    fn holds(&self, booked: Booked) -> bool {
+        self.0 < booked.lease.end
+    }
+}
+
+/// The end that comes first, or the last moment of a `u64`.
+pub(crate) fn soonest_end(list: &ChunkList<Booked>) -> u64
+    ensures { result ≡ first_end 18446744073709551615 (leases_of list.now.items) }
+{
+    let mut soonest = u64::MAX;
+    let mut place = list.start();
+    'passing: while list.has_item(place) {
+        soonest = soonest.min(list.get(place).lease.end);
+        place = list.next(place);
+    }
+    soonest
 }
 
 /// The first so far, or a lease that has run out and ends before it.
