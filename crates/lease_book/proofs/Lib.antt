@@ -3,3 +3,4 @@ mod Chosen
 mod Granted
 mod Due
 mod Changed
+mod Ended

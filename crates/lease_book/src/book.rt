@@ -1,6 +1,6 @@
 //! The book.
 ghost use Rattle.std.specs.Prelude.{◌≡◌, ◌<◌, ◌≤◌, [], length, true, slice_get, slice_index_or};
-ghost use Rattle.std.specs.Prelude.{IfOk, IfSome, MatchResult, Some, option_map};
+ghost use Rattle.std.specs.Prelude.{IfOk, IfSome, MatchResult, Some, option_map, vec_capacity};
 ghost use Rattle.std.specs.List.{insert, remove};
 ghost use Rattle.etcd_types.specs.Limits.{last_moment};
 ghost use Rattle.etcd_model.specs.Held.{by_id};
@@ -13,7 +13,7 @@ ghost use Rattle.lease_book.specs.Ending.{running, running_cells};
 ghost use Rattle.lease_book.specs.Granting.{Fits, IsIdOf, id_refusal};
 
 use crate::choosing::choose_id;
-use crate::ending::{RunsAt, first_due, soonest_end};
+use crate::ending::{RunsAt, collect, first_due, soonest_end, sort_by_end};
 use crate::granting::NewLease;
 use crate::places::{find, place_of, place_with};
 use chunk_list::{ChunkList, Walk};
@@ -165,6 +165,14 @@ impl LeaseBook {
         self.list.set(place, booked);
     }
 
+    /// The cell of a lease's record.
+    pub fn cell(&self, id: i64) -> CellNo
+        requires { has_lease self.now.leases id ≡ true }
+        ensures { result ≡ slice_index_or self.now.cells (ids_below self.now.leases id) result }
+    {
+        self.list.get(place_with(&self.list, id)).cell
+    }
+
     /// Takes a lease away, and gives the cell of its record.
     pub fn end(&mut self, id: i64) -> CellNo
         requires { has_lease self.old.leases id ≡ true }
@@ -187,6 +195,20 @@ impl LeaseBook {
         }
         let lease = first_due(&self.list, moment)?;
         Some(lease.id)
+    }
+
+    /// Puts the leases that have run out at a moment into a vector, in the order in which they end. What stood
+    /// in it goes, and its room, for all leases, stays.
+    pub fn collect_due(&self, moment: u64, ended: &mut Vec<Lease>)
+        requires { length self.now.leases ≤ vec_capacity ended.old }
+        ensures leases { ended.new.items ≡ run_out moment self.now.leases }
+        ensures capacity { vec_capacity ended.new ≡ vec_capacity ended.old }
+    {
+        ended.clear();
+        if self.soonest <= moment {
+            collect(&self.list, moment, ended);
+            sort_by_end(ended);
+        }
     }
 
     /// Takes away all leases that have run out at a moment, in one pass.

@@ -1,6 +1,9 @@
 //! The lease that ends first.
-ghost use Rattle.std.specs.Prelude.{◌≡◌, slice_get};
+ghost use Rattle.std.specs.Prelude.{◌≡◌, ◌≤◌, [], length, filter, nat_le, slice_get, vec_capacity};
+ghost use Rattle.std.specs.List.Sorted.{IsStrictlySortedBy};
+ghost use Rattle.etcd_model.specs.Held.{by_id};
 ghost use Rattle.etcd_model.specs.Leases.{end_cmp, run_out};
+ghost use Rattle.etcd_model.specs.Order.{in_order};
 ghost use Rattle.lease_book.specs.Book.{leases_of};
 ghost use Rattle.lease_book.specs.Ending.{first_end, sooner_due};
 
@@ -20,6 +23,31 @@ pub(crate) fn first_due(list: &ChunkList<Booked>, moment: u64) -> Option<Lease>
         place = list.next(place);
     }
     first
+}
+
+/// Puts the leases that have run out at a moment into an empty vector, in order of their IDs.
+pub(crate) fn collect(list: &ChunkList<Booked>, moment: u64, ended: &mut Vec<Lease>)
+    requires empty { ended.old.items ≡ [] }
+    requires room { length list.now.items ≤ vec_capacity ended.old }
+    ensures items { ended.new.items ≡ filter (λ l. nat_le l.end moment) (leases_of list.now.items) }
+    ensures capacity { vec_capacity ended.new ≡ vec_capacity ended.old }
+{
+    let mut place = list.start();
+    'passing: while list.has_item(place) {
+        let lease = list.get(place).lease;
+        place = list.next(place);
+        if lease.end <= moment {
+            ended.push_reserved(lease);
+        }
+    }
+}
+
+/// Puts leases of different IDs in the order in which they end.
+pub(crate) fn sort_by_end(leases: &mut [Lease])
+    requires { IsStrictlySortedBy by_id leases.old }
+    ensures { leases.new ≡ in_order end_cmp leases.old }
+{
+    leases.sort_unstable_by(|lease, other| compare_ends(*lease, *other));
 }
 
 /// Whether a lease runs on at a moment.
