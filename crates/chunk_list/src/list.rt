@@ -181,7 +181,8 @@ impl<T: Copy> ChunkList<T> {
 
     /// Whether an item stands at a place.
     pub fn has_item(&self, place: Place) -> bool
-        ensures { IsTrue result ↔ HasItem self.now.sizes place }
+        ensures item { IsTrue result ↔ HasItem self.now.sizes place }
+        ensures within { IsTrue result → position_of self.now.sizes place < length self.now.items }
     {
         place.chunk < self.chunks.len() && place.offset < self.chunks[place.chunk].len()
     }

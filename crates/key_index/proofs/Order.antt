@@ -1,7 +1,7 @@
 -- The cells of all records, in the order of their changes.
-use Rattle.std.proofs.Common.{◌≡◌, ℕ, suc, ◌+◌, ◌≤◌, List, [], ◌∷◌, length, get_or, Option, Some, None, IsSome, true, sym, ap, ◌∙◌, refl, subst, arith, inl, inr}
+use Rattle.std.proofs.Common.{◌≡◌, ℕ, ◌+◌, ◌≤◌, List, [], ◌∷◌, length, get_or, Option, Some, None, IsSome, true, sym, ap, ◌∙◌, refl, subst, arith, inl, inr}
 use Rattle.std.specs.Prelude.{nat_le, sum_by, option_map}
-use Rattle.std.specs.List.{AllByRecursion, Contains, cons_option}
+use Rattle.std.specs.List.{AllByRecursion, cons_option}
 use Rattle.std.specs.Str.{bytes_eq}
 use Rattle.std.proofs.lemmas.Bool.{le-leb, leb-true, and_parts, and_from}
 use Rattle.std.proofs.lemmas.Slice.Eq.{bytes_eq-Decides}
@@ -22,13 +22,6 @@ use Rattle.key_index.proofs.Times.{times_cases, times_rest, times_here, times_on
 pub all_from_each : {X : Type 0} (P : X → Type 0) (xs : List X) → ((x : X) → IsIn x xs → P x) → AllByRecursion P xs
 all_from_each P [] each = tt
 all_from_each P (x ∷ xs) each = (each x (inl refl), all_from_each P xs (λ y h. each y (inr h)))
-
-pub contains_from : {X : Type 0} (x : X) (xs : List X) → IsIn x xs → Contains xs x
-contains_from x [] h = absurd h
-contains_from x (y ∷ ys) h = elim h [
-  | inl eq ↦ (0, omega arith, sym eq)
-  | inr rest ↦ let c = contains_from x ys rest in (suc c.0, omega (arith, c.1), c.2)
-]
 
 -- ---- a cell and its change
 

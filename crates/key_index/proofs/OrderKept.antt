@@ -6,7 +6,7 @@ use Rattle.std.proofs.lemmas.Bool.{cases_Bool, cases_lt}
 use Rattle.std.proofs.lemmas.List.Elements.{All-head, All-tail, filter_passes}
 use Rattle.etcd_model.specs.Changes.{Recorded, Rises, keeps, kept}
 use Rattle.model_laws.proofs.LastLaws.{some_or_none}
-use Rattle.model_laws.proofs.LastIsLaws.{all_in}
+use Rattle.model_laws.proofs.LastIsLaws.{all_in, contains_from}
 use Rattle.model_laws.proofs.KeptLaws.{kept_true, kept_false, kept_rises}
 use Rattle.key_index.specs.Links.{Cells, Linked, IsChained, change_at}
 use Rattle.key_index.specs.Compaction.{IsCompacted, IsKept, HasLater, GivesBack, held, times}
@@ -15,7 +15,7 @@ use Rattle.key_index.proofs.Links.{one_linked}
 use Rattle.key_index.proofs.Compacted.{change_some, linked_some}
 use Rattle.key_index.proofs.Kept.{kept_as_defined}
 use Rattle.key_index.proofs.Times.{times_cases, times_rest, times_here, times_filter, filter_yes, filter_no}
-use Rattle.key_index.proofs.Order.{all_from_each, contains_from, which, changes_some, changes_none, change_in, cell_in, held_is}
+use Rattle.key_index.proofs.Order.{all_from_each, which, changes_some, changes_none, change_in, cell_in, held_is}
 
 -- ---- those that have a record
 

@@ -1,6 +1,6 @@
 -- The last change of a key is the one with the greatest revision.
-use Rattle.std.proofs.Common.{◌≡◌, ◌≤◌, List, [], ◌∷◌, Bool, true, false, Option, Some, None, if◌then◌else◌, sym, ap, ◌∙◌, subst, arith, inl, inr, ℕ}
-use Rattle.std.specs.List.{AllByRecursion}
+use Rattle.std.proofs.Common.{◌≡◌, suc, ◌≤◌, List, [], ◌∷◌, Bool, true, false, Option, Some, None, if◌then◌else◌, sym, ap, ◌∙◌, subst, arith, inl, inr, ℕ}
+use Rattle.std.specs.List.{AllByRecursion, Contains}
 use Rattle.std.proofs.lemmas.Option.{cond_some}
 use Rattle.etcd_model.specs.Changes.{Recorded, last_by, is_up_to, last, Rises}
 use Rattle.model_laws.specs.Recording.{IsIn}
@@ -10,6 +10,13 @@ use Rattle.model_laws.proofs.KeptLaws.{same_key, up_to_key}
 pub all_in : {X : Type 0} (P : X → Type 0) (xs : List X) (q : X) → AllByRecursion P xs → IsIn q xs → P q
 all_in P [] q all h = absurd h
 all_in P (x ∷ xs) q all h = elim h [ inl e ↦ subst P (sym e) all.0 | inr t ↦ all_in P xs q all.1 t ]
+
+pub contains_from : {X : Type 0} (x : X) (xs : List X) → IsIn x xs → Contains xs x
+contains_from x [] h = absurd h
+contains_from x (y ∷ ys) h = elim h [
+  | inl eq ↦ (0, omega arith, sym eq)
+  | inr rest ↦ let c = contains_from x ys rest in (suc c.0, omega (arith, c.1), c.2)
+]
 
 last_in : {X : Type 0} (p : X → Bool) (xs : List X) (y : X) → last_by p xs ≡ Some y → IsIn y xs
 last_in p [] y is = let bad : ⊥ = cc in absurd bad

@@ -22,3 +22,4 @@ pub mod OpeningLaws
 pub mod PendingLaws
 pub mod ApartLaws
 pub mod NumberLaws
+pub mod SortingLaws

@@ -10,7 +10,6 @@ pub mod ReadingRows
 pub mod ComparingReads
 pub mod Costs
 pub mod Walked
-pub mod SortingLaws
 pub mod SortingRows
 pub mod AnsweringLaws
 pub mod RangingCells

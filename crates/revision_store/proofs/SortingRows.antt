@@ -17,7 +17,7 @@ use Rattle.etcd_model.specs.Ranges.{row_cmp, target_cmp}
 use Rattle.model_laws.proofs.RecordedLaws.{all_weaker}
 use Rattle.model_laws.proofs.RowLaws.{by_key_total}
 use Rattle.revision_store.specs.Answering.{ascends_by_key}
-use Rattle.revision_store.proofs.SortingLaws.{sorted_is, length-in_order, already_in_order}
+use Rattle.model_laws.proofs.SortingLaws.{sorted_is, length-in_order, already_in_order}
 
 -- ---- total orders
 

@@ -14,8 +14,7 @@ use Rattle.std.proofs.lemmas.Map.Keys.{IsDistinct-IsPermutation, IsDistinct-from
 use Rattle.etcd_model.specs.Order.{beside, put_in, in_order}
 use Rattle.etcd_model.proofs.OrderLaws.{sorted-in_order}
 use Rattle.model_laws.specs.Recording.{IsIn}
-use Rattle.model_laws.proofs.LastIsLaws.{all_in}
-use Rattle.key_index.proofs.Order.{contains_from}
+use Rattle.model_laws.proofs.LastIsLaws.{all_in, contains_from}
 
 -- ---- members
 

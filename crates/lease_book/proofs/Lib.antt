@@ -1,0 +1,6 @@
+mod Standing
+mod Chosen
+mod Granted
+mod Due
+mod Changed
+mod Ended

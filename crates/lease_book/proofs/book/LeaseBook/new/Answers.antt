@@ -1,0 +1,7 @@
+use Rattle.std.proofs.Common.{arith}
+use Rattle.lease_book.proofs.book.LeaseBook.new.Goals as goal
+
+pub invariant_of-result : goal.invariant_of-result
+unfolding Rattle.std.specs.List.Sorted.IsStrictlySortedBy
+invariant_of-result c =
+    rw c.in_ok-new.ensures.items (record { ascend = tt; within = tt; count = omega arith; room = omega (arith, c.in_ok-new.ensures.room) })

@@ -1,0 +1,51 @@
+-- What a contract sees of a book of leases.
+use Rattle.std.specs.Prelude.{◌≡◌, ℕ, ◌≤◌, ℤ, pos, true, int_lt, int_le, List, length, map}
+use Rattle.std.specs.Prelude.{slice_index_or, Some}
+use Rattle.std.specs.List.{AllByRecursion, prefix_len}
+use Rattle.std.specs.List.Sorted.{IsStrictlySortedBy}
+use Rattle.etcd_types.specs.Limits.{max_ttl}
+use Rattle.chunk_list.specs.Chunked.{Chunked, HasItem, position_of}
+use Rattle.chunk_list.specs.declared.place.Place.{Place}
+use Rattle.etcd_model.specs.declared.state.Lease.{Lease}
+use Rattle.etcd_model.specs.Held.{by_id}
+use Rattle.etcd_model.specs.Leases.{lease_at}
+use Rattle.lease_book.specs.declared.book.Booked.{Booked}
+
+-- the leases by ascending ID, the cells of their records in the same order, the number from which IDs are
+-- chosen, and for how many leases there is room
+pub record Book : Type 0 where
+  pub leases : List Lease
+  pub cells : List ℕ
+  pub counter : ℕ
+  pub room : ℕ
+
+abbrev pub leases_of : List Booked → List Lease
+leases_of list = map (λ b. b.lease) list
+
+abbrev pub cells_of : List Booked → List ℕ
+cells_of list = map (λ b. b.cell) list
+
+-- how many of the leases have a lesser ID
+abbrev pub ids_below : List Lease → ℤ → ℕ
+ids_below leases id = prefix_len (λ l. int_lt l.id id) leases
+
+-- a lease with an end not before a moment, and with a time to live that can be granted
+pub record IsWithin (soonest : ℕ) (l : Lease) : Type 0 where
+  pub end : soonest ≤ l.end
+  pub ttl : int_le (pos l.ttl) max_ttl ≡ true
+
+-- what always holds of a book: the leases strictly ascend, none ends before its soonest moment, and there is
+-- room for them all
+pub record IsBook (leases : List Lease) (soonest most : ℕ) : Type 0 where
+  pub ascend : IsStrictlySortedBy by_id leases
+  pub within : AllByRecursion (IsWithin soonest) leases
+  pub count : length leases ≤ most
+  pub room : most ≤ 4294967295
+
+-- the lease with an ID stands at a place, which is its own
+pub record IsFoundAt (list : Chunked Booked) (id : ℤ) (place : Place) : Type 0 where
+  pub item : HasItem list.sizes place
+  pub position : position_of list.sizes place ≡ ids_below (leases_of list.items) id
+  pub is : (d : Booked)
+      → lease_at (leases_of list.items) id
+      ≡ Some (slice_index_or list.items (position_of list.sizes place) d).lease

@@ -1,0 +1,227 @@
+//! The book.
+ghost use Rattle.std.specs.Prelude.{◌≡◌, ◌<◌, ◌≤◌, [], length, true, slice_get, slice_index_or};
+ghost use Rattle.std.specs.Prelude.{IfOk, IfSome, MatchResult, Some, option_map, vec_capacity};
+ghost use Rattle.std.specs.List.{insert, remove};
+ghost use Rattle.etcd_types.specs.Limits.{last_moment};
+ghost use Rattle.etcd_model.specs.Held.{by_id};
+ghost use Rattle.etcd_model.specs.Leases.{lease_at, put_lease, run_out};
+ghost use Rattle.etcd_model.specs.Operations.{has_lease};
+ghost use Rattle.etcd_model.specs.Order.{put_in};
+ghost use Rattle.model_laws.specs.Leases.{without_lease};
+ghost use Rattle.lease_book.specs.Book.{Book, cells_of, ids_below, leases_of};
+ghost use Rattle.lease_book.specs.Ending.{running, running_cells};
+ghost use Rattle.lease_book.specs.Granting.{Fits, IsIdOf, id_refusal};
+
+use crate::choosing::choose_id;
+use crate::ending::{RunsAt, collect, first_due, soonest_end, sort_by_end};
+use crate::granting::NewLease;
+use crate::places::{find, place_of, place_with};
+use chunk_list::{ChunkList, Walk};
+use etcd_model::state::Lease;
+use etcd_types::limits::LAST_LEASE_ID;
+use etcd_types::{CellNo, Mem, Refusal};
+use std::alloc::Global;
+use std::marker::Model;
+
+/// A lease, and the cell of its record.
+#[derive(Clone, Copy)]
+pub struct Booked {
+    pub lease: Lease,
+    pub cell: CellNo,
+}
+
+/// One tenant's leases.
+#[derive(Drop)]
+pub struct LeaseBook {
+    /// By ascending ID.
+    list: ChunkList<Booked>,
+    /// The number from which IDs are chosen.
+    counter: u64,
+    /// No lease ends before this moment.
+    soonest: u64,
+}
+
+impl Model for LeaseBook {
+    ghost use Rattle.lease_book.specs.Book.{Book, IsBook, leases_of, cells_of};
+
+    ghost Value = { Book };
+
+    ghost view = { λ b. record {
+      leases = leases_of b.list.items;
+      cells = cells_of b.list.items;
+      counter = b.counter;
+      room = b.list.room;
+    } };
+
+    ghost invariant = { λ b. IsBook (leases_of b.list.items) b.soonest b.list.room };
+}
+
+impl LeaseBook {
+    /// A book with no lease, and room for so many.
+    pub fn new(alloc: Global, leases: u32) -> Mem<LeaseBook>
+        ensures { IfOk result (λ book.
+            book ≡ record { leases = []; cells = []; counter = 1; room = leases }) }
+    {
+        Ok(LeaseBook {
+            list: ChunkList::new(alloc, leases as usize)?,
+            counter: 1,
+            soonest: u64::MAX,
+        })
+    }
+
+    /// How many leases there are.
+    pub fn len(&self) -> usize
+        ensures leases { result ≡ length self.now.leases }
+        ensures cells { result ≡ length self.now.cells }
+        ensures within { result ≤ self.now.room }
+    {
+        self.list.len()
+    }
+
+    /// For how many leases there is room in all.
+    pub fn room(&self) -> usize
+        ensures { result ≡ self.now.room }
+    {
+        self.list.room()
+    }
+
+    /// The leases by ascending ID, each with the cell of its record.
+    pub fn walk(&self) -> Walk<'_, Booked>
+        ensures leases { leases_of result ≡ self.now.leases }
+        ensures cells { cells_of result ≡ self.now.cells }
+    {
+        self.list.walk(self.list.start(), self.list.len())
+    }
+
+    /// The lease with this ID.
+    pub fn lease(&self, id: i64) -> Option<Lease>
+        ensures { result ≡ lease_at self.now.leases id }
+    {
+        let place = find(&self.list, id)?;
+        Some(self.list.get(place).lease)
+    }
+
+    /// Whether a lease has this ID.
+    pub fn has(&self, id: i64) -> bool
+        ensures { result ≡ has_lease self.now.leases id }
+    {
+        self.lease(id).is_some()
+    }
+
+    /// The ID of a grant, its own or the one that is chosen for it, and the counter afterwards.
+    pub(crate) fn plan_id(&self, wanted: i64) -> Result<(i64, u64), Refusal>
+        ensures { MatchResult result (IsIdOf self.now wanted)
+            (λ refusal. id_refusal self.now wanted ≡ Some refusal) }
+    {
+        if wanted != 0 {
+            return if self.has(wanted) {
+                Err(Refusal::LeaseExists)
+            } else {
+                Ok((wanted, self.counter))
+            };
+        }
+        if self.counter >= LAST_LEASE_ID {
+            return Err(Refusal::UsedUp);
+        }
+        let id = choose_id(&self.list, self.counter);
+        Ok((id as i64, id + 1))
+    }
+
+    /// Takes up a lease that is to be granted, with the cell of its record.
+    pub fn grant(&mut self, new: NewLease, cell: CellNo)
+        requires fits { Fits self.old new }
+        requires room { length self.old.leases < self.old.room }
+        ensures leases { self.new.leases ≡ put_in by_id self.old.leases new.lease }
+        ensures cells { self.new.cells ≡ insert self.old.cells (ids_below self.old.leases new.lease.id) cell }
+        ensures counter { self.new.counter ≡ new.counter }
+        ensures room { self.new.room ≡ self.old.room }
+    {
+        let place = place_of(&self.list, new.lease.id);
+        self.soonest = self.soonest.min(new.lease.end);
+        self.counter = new.counter;
+        self.list.insert(
+            place,
+            Booked {
+                lease: new.lease,
+                cell,
+            },
+        );
+    }
+
+    /// Gives a lease the end that it would have if it was granted at this moment.
+    pub fn renew(&mut self, id: i64, moment: u64)
+        requires has { has_lease self.old.leases id ≡ true }
+        requires moment { moment ≤ last_moment }
+        ensures leases { IfSome (lease_at self.old.leases id)
+            (λ lease. self.new.leases ≡ put_lease moment self.old.leases id lease.ttl) }
+        ensures cells { self.new.cells ≡ self.old.cells }
+        ensures counter { self.new.counter ≡ self.old.counter }
+        ensures room { self.new.room ≡ self.old.room }
+    {
+        let place = place_with(&self.list, id);
+        let mut booked = self.list.get(place);
+        booked.lease.end = moment + booked.lease.ttl;
+        self.soonest = self.soonest.min(booked.lease.end);
+        self.list.set(place, booked);
+    }
+
+    /// The cell of a lease's record.
+    pub fn cell(&self, id: i64) -> CellNo
+        requires { has_lease self.now.leases id ≡ true }
+        ensures { result ≡ slice_index_or self.now.cells (ids_below self.now.leases id) result }
+    {
+        self.list.get(place_with(&self.list, id)).cell
+    }
+
+    /// Takes a lease away, and gives the cell of its record.
+    pub fn end(&mut self, id: i64) -> CellNo
+        requires { has_lease self.old.leases id ≡ true }
+        ensures value { result ≡ slice_index_or self.old.cells (ids_below self.old.leases id) result }
+        ensures leases { self.new.leases ≡ without_lease self.old.leases id }
+        ensures cells { self.new.cells ≡ remove self.old.cells (ids_below self.old.leases id) }
+        ensures counter { self.new.counter ≡ self.old.counter }
+        ensures room { self.new.room ≡ self.old.room }
+    {
+        let place = place_with(&self.list, id);
+        self.list.remove(place).cell
+    }
+
+    /// Of the leases that have run out at a moment, the one that ends first.
+    pub fn due(&self, moment: u64) -> Option<i64>
+        ensures { result ≡ option_map (λ lease. lease.id) (slice_get (run_out moment self.now.leases) 0) }
+    {
+        if moment < self.soonest {
+            return None;
+        }
+        let lease = first_due(&self.list, moment)?;
+        Some(lease.id)
+    }
+
+    /// Puts the leases that have run out at a moment into a vector, in the order in which they end. What stood
+    /// in it goes, and its room, for all leases, stays.
+    pub fn collect_due(&self, moment: u64, ended: &mut Vec<Lease>)
+        requires { length self.now.leases ≤ vec_capacity ended.old }
+        ensures leases { ended.new.items ≡ run_out moment self.now.leases }
+        ensures capacity { vec_capacity ended.new ≡ vec_capacity ended.old }
+    {
+        ended.clear();
+        if self.soonest <= moment {
+            collect(&self.list, moment, ended);
+            sort_by_end(ended);
+        }
+    }
+
+    /// Takes away all leases that have run out at a moment, in one pass.
+    pub fn end_due(&mut self, moment: u64)
+        ensures leases { self.new.leases ≡ running moment self.old.leases }
+        ensures cells { self.new.cells ≡ running_cells moment self.old.leases self.old.cells }
+        ensures counter { self.new.counter ≡ self.old.counter }
+        ensures room { self.new.room ≡ self.old.room }
+    {
+        if moment < self.soonest {
+            return;
+        }
+        self.list.retain(&RunsAt(moment));
+        self.soonest = soonest_end(&self.list);
+    }
+}

@@ -1,0 +1,144 @@
+//! The life of leases. What is wanted is told by the rules: a lease ends its time to live after the moment.
+use crate::{LeaseBook, NewLease};
+use etcd_model::state::Lease;
+use etcd_types::limits::{LAST_LEASE_ID, LAST_MOMENT};
+use etcd_types::{CellNo, GrantReq, Refusal};
+use std::test::Fail;
+
+/// A lease by its ID, its time to live and its end.
+type Told = (i64, u64, u64);
+
+fn told(lease: Lease) -> Told {
+    (lease.id, lease.ttl, lease.end)
+}
+
+/// What is granted, or why it is not: for want of room, `NoSpace`.
+fn grant(
+    book: &mut LeaseBook,
+    moment: u64,
+    request: GrantReq,
+    cell: CellNo,
+) -> Result<Told, Refusal> {
+    if moment > LAST_MOMENT || book.len() >= book.room() {
+        return Err(Refusal::NoSpace);
+    }
+    let new = book.plan_grant(moment, &request)?;
+    book.grant(new, cell);
+    Ok(told(new.lease))
+}
+
+/// Gives a lease that is there a new end.
+fn renew(book: &mut LeaseBook, id: i64, moment: u64) {
+    if moment <= LAST_MOMENT && book.has(id) {
+        book.renew(id, moment);
+    }
+}
+
+/// The cell of a lease that goes.
+fn end(book: &mut LeaseBook, id: i64) -> Option<CellNo> {
+    if book.has(id) {
+        Some(book.end(id))
+    } else {
+        None
+    }
+}
+
+/// Whether the leases are these, in this order.
+fn has_leases(book: &LeaseBook, wanted: &[Told]) -> bool {
+    let mut next = 0usize;
+    for booked in book.walk() {
+        if next >= wanted.len() || told(booked.lease) != wanted[next] {
+            return false;
+        }
+        next += 1;
+    }
+    next == wanted.len() && book.len() == next
+}
+
+/// Of each grant at moment 5 the time to live and the ID that are wanted, and what is answered.
+const GRANTS: [(i64, i64, Result<Told, Refusal>); 11] = [
+    (10, 0, Ok((1, 10, 15))),
+    (60, 2, Ok((2, 60, 65))),
+    (0, 0, Ok((3, 1, 6))),
+    (10, 5, Ok((5, 10, 15))),
+    (10, 5, Err(Refusal::LeaseExists)),
+    (9_000_000_001, 5, Err(Refusal::TtlTooLarge)),
+    (9_000_000_000, 0, Ok((4, 9_000_000_000, 9_000_000_005))),
+    (-3, -7, Ok((-7, 1, 6))),
+    (1, 0, Ok((6, 1, 6))),
+    (1, i64::MAX, Ok((i64::MAX, 1, 6))),
+    (1, 0, Err(Refusal::NoSpace)),
+];
+
+const GRANTED: [Told; 8] = [
+    (-7, 1, 6),
+    (1, 10, 15),
+    (2, 60, 65),
+    (3, 1, 6),
+    (4, 9_000_000_000, 9_000_000_005),
+    (5, 10, 15),
+    (6, 1, 6),
+    (i64::MAX, 1, 6),
+];
+
+/// The order in which the leases of `GRANTED` end at moment 65.
+const ENDED: [i64; 7] = [-7, 3, 6, i64::MAX, 1, 5, 2];
+
+#[test]
+fn leases_are_granted_and_end_in_order(rt: HostRuntime) -> Result<(), Fail> {
+    let mut book = LeaseBook::new(rt.alloc(), 8)?;
+    for (ttl, id, wanted) in GRANTS.iter() {
+        let request = GrantReq { ttl: *ttl, id: *id };
+        assert_eq!(rt; grant(&mut book, 5, request, CellNo::at(0, 40)), *wanted);
+    }
+    assert!(rt; has_leases(&book, &GRANTED));
+    assert_eq!(rt; book.due(5), None);
+    for id in ENDED.iter() {
+        assert_eq!(rt; book.due(65), Some(*id));
+        assert_eq!(rt; end(&mut book, *id), Some(CellNo::at(0, 40)));
+    }
+    assert_eq!(rt; book.due(65), None);
+    assert!(rt; has_leases(&book, &[(4, 9_000_000_000, 9_000_000_005)]));
+    Ok(())
+}
+
+#[test]
+fn a_renewed_lease_ends_later(rt: HostRuntime) -> Result<(), Fail> {
+    let mut book = LeaseBook::new(rt.alloc(), 2)?;
+    assert!(rt; grant(&mut book, 5, GrantReq { ttl: 10, id: 8 }, CellNo::at(0, 3)).is_ok());
+    assert!(rt; grant(&mut book, 5, GrantReq { ttl: 10, id: 9 }, CellNo::at(0, 4)).is_ok());
+    renew(&mut book, 8, 14);
+    assert!(rt; has_leases(&book, &[(8, 10, 24), (9, 10, 15)]));
+    assert_eq!(rt; book.due(14), None);
+    assert_eq!(rt; book.due(15), Some(9));
+    assert_eq!(rt; end(&mut book, 9), Some(CellNo::at(0, 4)));
+    assert_eq!(rt; book.due(23), None);
+    assert_eq!(rt; book.due(24), Some(8));
+    assert_eq!(rt; book.lease(8).map(told), Some((8, 10, 24)));
+    assert_eq!(rt; book.lease(9).map(told), None);
+    Ok(())
+}
+
+#[test]
+fn no_id_is_chosen_at_the_counters_end(rt: HostRuntime) -> Result<(), Fail> {
+    let mut book = LeaseBook::new(rt.alloc(), 3)?;
+    let lease = Lease {
+        id: 1,
+        ttl: 1,
+        end: 6,
+    };
+    if !book.has(1) && book.len() < book.room() {
+        let counter = LAST_LEASE_ID;
+        book.grant(NewLease { lease, counter }, CellNo::at(0, 3));
+    }
+    let cell = CellNo::at(0, 4);
+    assert_eq!(rt;
+        grant(&mut book, 5, GrantReq { ttl: 1, id: 0 }, cell),
+        Err(Refusal::UsedUp)
+    );
+    assert_eq!(rt;
+        grant(&mut book, 5, GrantReq { ttl: 1, id: 4 }, cell),
+        Ok((4, 1, 6))
+    );
+    Ok(())
+}
