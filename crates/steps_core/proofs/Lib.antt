@@ -1,0 +1,4 @@
+pub mod Shown
+pub mod Served
+pub mod Stepped
+pub mod Runs
