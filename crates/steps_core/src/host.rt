@@ -125,8 +125,9 @@ impl Host {
         ensures err { OnErr result (self.new ≡ self.old) }
     {
         let mut replies = Vec::with_capacity(alloc, calls.len())?;
-        for (tenant, step) in calls {
-            replies.push_reserved(self.step(alloc, tenant.as_slice(), step));
+        for call in calls {
+            let reply = self.step(alloc, call.0.as_slice(), &call.1);
+            replies.push_reserved(reply);
         }
         Ok(replies)
     }
