@@ -17,6 +17,7 @@ use Rattle.etcd_model.specs.Offered.{built_machine}
 use Rattle.tenant_machine.specs.Plans.{takes_memory}
 use Rattle.steps_core.specs.Hosts.{HostState, HoldsAt, StepsAt, machine_at, has_tenant}
 use Rattle.steps_core.specs.Isolation.{StepTurn, step_turn, step_event, step_turns, found_none, is_own_step, own_steps, steps_of, replies_of, built_replies, built_state, IsToldAlone, IsIsolated}
+use Rattle.steps_core.proofs.Lists.{all-push, all-front}
 
 built_replies-append : (S : State History) (xs ys : List Step) → built_replies S (xs ++ ys) ≡ built_replies S xs ++ built_replies (built_state S xs) ys
 built_replies-append S [] ys = refl
@@ -31,14 +32,6 @@ step_turns-push [] c [] r h = refl
 step_turns-push [] c (q ∷ rs) r h = absurd (omega arith)
 step_turns-push (d ∷ cs) c [] r h = absurd (omega arith)
 step_turns-push (d ∷ cs) c (q ∷ rs) r h = let same : length rs ≡ length cs = omega arith in ap (λ xs. step_turn d.0.items d.1 q ∷ xs) (step_turns-push cs c rs r same)
-
-all-push : {X : Type 0} (P : X → Type 0) (xs : List X) (x : X) → AllByRecursion P xs → P x → AllByRecursion P (xs ++ x ∷ [])
-all-push P [] x h k = (k, tt)
-all-push P (y ∷ xs) x h k = (h.0, all-push P xs x h.1 k)
-
-all-front : {X : Type 0} (P : X → Type 0) (xs : List X) (x : X) → AllByRecursion P (xs ++ x ∷ []) → AllByRecursion P xs × P x
-all-front P [] x h = (tt, h.0)
-all-front P (y ∷ xs) x h = let rest = all-front P xs x h.1 in ((h.0, rest.0), rest.1)
 
 none_there : {X : Type 0} (a b : Option X) → is_some a ≡ is_some b → b ≡ None → a ≡ None
 none_there None b h k = refl
@@ -102,8 +95,8 @@ one_more mid new t x S held steps = by (is_own_step t x) refl
     by true h = let in_list = taken_in mid new t x S held steps h in (ap (λ r. r ∷ []) in_list.0, in_list.1)
     by false h = (refl, left_out mid new t x S held steps h)
 
-alone_push : (old mid new : HostState) (xs : List StepTurn) (x : StepTurn) (t : List ℕ) (S : State History) → IsToldAlone old xs mid t S → StepsAt mid x.tenant x.step x.reply new → IsToldAlone old (xs ++ x ∷ []) new t S
-alone_push old mid new xs x t S before steps =
+alone_push : (mid new : HostState) (xs : List StepTurn) (x : StepTurn) (t : List ℕ) (S : State History) → IsToldAlone t S xs mid → StepsAt mid x.tenant x.step x.reply new → IsToldAlone t S (xs ++ x ∷ []) new
+alone_push mid new xs x t S before steps =
     let T = built_state S (steps_of (own_steps t xs)) in
     let one = one_more mid new t x T before.holds steps in
     let parts : own_steps t (xs ++ x ∷ []) ≡ own_steps t xs ++ own_steps t (x ∷ []) = filter-append (is_own_step t) xs (x ∷ []) in
@@ -125,7 +118,7 @@ there_push mid new x t own others = by (bytes_eq t x) refl
 
 isolated_push : (old mid new : HostState) (xs : List StepTurn) (x : StepTurn) → IsIsolated old xs mid → StepsAt mid x.tenant x.step x.reply new → IsIsolated old (xs ++ x ∷ []) new
 isolated_push old mid new xs x before steps = record {
-  alone = λ t S held. alone_push old mid new xs x t S (before.alone t S held) steps;
+  alone = λ t S held. alone_push mid new xs x t S (before.alone t S held) steps;
   nobody = all-push _ xs x before.nobody (λ none said. (steps.none (none_there _ _ (before.there x.tenant) none)).1 said);
   others = λ t unnamed. let parts = all-front _ xs x unnamed in steps.others.machines t parts.1 ∙ before.others t parts.0;
   there = λ t. there_push mid new x.tenant t steps.others.there steps.others.machines ∙ before.there t;

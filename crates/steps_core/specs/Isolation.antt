@@ -64,8 +64,7 @@ replies_of xs = map (λ x. x.reply) xs
 -- ---- isolation
 
 -- a tenant's replies are those of the machine to its own steps alone, and it holds the state after them
-pub record IsToldAlone (old : HostState) (xs : List StepTurn) (new : HostState) (t : List ℕ) (S : State History)
-    : Type 0 where
+pub record IsToldAlone (t : List ℕ) (S : State History) (xs : List StepTurn) (new : HostState) : Type 0 where
   pub replies : replies_of (own_steps t xs) ≡ built_replies S (steps_of (own_steps t xs))
   pub holds : HoldsAt new t (built_state S (steps_of (own_steps t xs)))
   -- a catch-up is answered as the machine answers it
@@ -74,7 +73,7 @@ pub record IsToldAlone (old : HostState) (xs : List StepTurn) (new : HostState) 
 
 -- That is so of each tenant that is there, and of no other anything is told or changed.
 pub record IsIsolated (old : HostState) (xs : List StepTurn) (new : HostState) : Type 0 where
-  pub alone : (t : List ℕ) (S : State History) → HoldsAt old t S → IsToldAlone old xs new t S
+  pub alone : (t : List ℕ) (S : State History) → HoldsAt old t S → IsToldAlone t S xs new
   pub nobody : AllByRecursion
       (λ x. machine_at old x.tenant ≡ None → x.reply ≢ Refused Memory → x.reply ≡ Refused NoTenant) xs
   -- a tenant that no step names has the machine that it had

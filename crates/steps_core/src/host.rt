@@ -1,19 +1,21 @@
 //! All tenants, by name, over one pool.
 ghost use Rattle.std.specs.Prelude.{◌≡◌, ◌≢◌, ◌≤◌, IfOk, IfErr, IsOk, OnErr, OnOk, true, false, length, vec_len};
-ghost use Rattle.std.specs.Prelude.{None, []};
+ghost use Rattle.std.specs.Prelude.{None, Some, []};
+ghost use Rattle.std.specs.List.{list_all};
 ghost use Rattle.etcd_types.specs.declared.refusal.Refusal.TheVariants.{NoTenant, Memory};
 ghost use Rattle.tenant_machine.specs.Plans.{takes_memory};
+ghost use Rattle.steps_core.specs.Adding.{add_fault, is_name, is_name_byte, within_limits, Adds};
 ghost use Rattle.steps_core.specs.Hosts.{machine_at, has_tenant, FitsAt, PlansAt, CommitsAt, StepsAt};
 ghost use Rattle.steps_core.specs.Isolation.{step_turns, IsIsolated};
 
 use crate::tenant::{Tenant, serve};
-use etcd_types::limits::MAX_SEGMENTS;
+use etcd_types::limits::{LAST_REVISION, MAX_NAME, MAX_QUOTA, MAX_SEGMENTS, MAX_TENANTS, MIN_QUOTA};
 use etcd_types::{Mem, Refusal, Reply, Step};
 use indexmap::IndexMap;
 use segment_pool::{Desk, Pool, Ticket};
 use std::alloc::Global;
 use std::marker::Model;
-use tenant_machine::Planned;
+use tenant_machine::{Machine, Planned, segments_for};
 
 /// Why an operator's call is refused, in the order in which the reasons count. Memory may stand in
 /// another's place.
@@ -67,6 +69,51 @@ impl Host {
                 ticket: Ticket::idle(),
             },
         })
+    }
+
+    /// Adds a tenant, whose empty store is at the first revision, and reserves the segments that its quota
+    /// takes. After a fault nothing changed.
+    pub fn add(
+        &mut self,
+        alloc: Global,
+        name: &[u8],
+        cluster: u64,
+        quota: u64,
+        first: u64,
+    ) -> Result<(), OperatorFault>
+        ensures adds { OnOk result (Adds self.old name.now cluster quota first self.new) }
+        ensures free { OnOk result (add_fault self.old name.now cluster quota first ≡ None) }
+        ensures fault { IfErr result
+            (λ f. f ≢ OperatorFault.Memory → add_fault self.old name.now cluster quota first ≡ Some f) }
+        ensures err { OnErr result (self.new ≡ self.old) }
+    {
+        if !is_name(name) {
+            return Err(OperatorFault::Name);
+        }
+        if !within_limits(cluster, quota, first) || self.tenants.len() >= MAX_TENANTS {
+            return Err(OperatorFault::Limits);
+        }
+        if self.tenants.contains_key(name) {
+            return Err(OperatorFault::Taken);
+        }
+        let quota = quota as u32;
+        let Ok(key) = Vec::from_slice(alloc, name) else {
+            return Err(OperatorFault::Memory);
+        };
+        let Ok(machine) = Machine::new(alloc, cluster, quota, first as i64) else {
+            return Err(OperatorFault::Memory);
+        };
+        let Ok(()) = self.tenants.reserve(1) else {
+            return Err(OperatorFault::Memory);
+        };
+        // From here on no memory is taken, so nothing has to be undone.
+        let Ok(ticket) = self.desk.pool.reserve(segments_for(quota)) else {
+            return Err(OperatorFault::Short);
+        };
+        let Ok(_) = self.tenants.insert(key, Tenant { machine, ticket }) else {
+            unreachable!()
+        };
+        Ok(())
     }
 
     /// A tenant of this name is there.
@@ -131,4 +178,24 @@ impl Host {
         }
         Ok(replies)
     }
+}
+
+fn is_name(name: &[u8]) -> bool
+    ensures { result ≡ is_name name.now }
+{
+    !name.is_empty() && name.len() <= MAX_NAME && are_name_bytes(name)
+}
+
+fn are_name_bytes(name: &[u8]) -> bool
+    ensures { result ≡ list_all is_name_byte name.now }
+{
+    name.iter().all(|byte| { byte.is_ascii_lowercase() || byte.is_ascii_digit() || *byte == b'-' })
+}
+
+fn within_limits(cluster: u64, quota: u64, first: u64) -> bool
+    ensures { result ≡ within_limits cluster quota first }
+{
+    cluster > 0
+        && (MIN_QUOTA <= quota && quota <= MAX_QUOTA)
+        && (first > 0 && first <= LAST_REVISION)
 }
