@@ -1,0 +1,6 @@
+pub mod Lists
+pub mod Shown
+pub mod Served
+pub mod Added
+pub mod Stepped
+pub mod Runs

@@ -1,0 +1,145 @@
+-- A run goes on step by step.
+use Rattle.std.proofs.Common.{◌≡◌, ◌≢◌, ◌∙◌, sym, ap, subst, refl, ℕ, ◌+◌, ◌<◌, Bool, true, false, cond, not, ◌&&◌, List, [], ◌∷◌, ◌++◌, Option, None, Some, is_some, Vec, length, take, get_or, map, filter, true≢false, arith, length-take-le}
+use Rattle.std.specs.Str.{bytes_eq}
+use Rattle.std.specs.Cmp.Lexicographic.{bytes_decides}
+use Rattle.std.specs.List.{AllByRecursion}
+use Rattle.std.proofs.lemmas.List.{take_more, map-append}
+use Rattle.std.proofs.lemmas.List.Elements.{filter-append}
+use Rattle.etcd_types.specs.declared.step.Step.{Step}
+use Rattle.etcd_types.specs.declared.step.Step.TheVariants.{CatchUp}
+use Rattle.etcd_types.specs.declared.refusal.Refusal.TheVariants.{NoTenant, Memory}
+use Rattle.etcd_types.specs.declared.reply.Reply.{Reply}
+use Rattle.etcd_types.specs.declared.reply.Reply.TheVariants.{Refused}
+use Rattle.etcd_model.specs.declared.state.History.{History}
+use Rattle.etcd_model.specs.declared.state.State.{State}
+use Rattle.etcd_model.specs.Alone.{is_catch_up}
+use Rattle.etcd_model.specs.Offered.{built_machine}
+use Rattle.tenant_machine.specs.Plans.{takes_memory}
+use Rattle.steps_core.specs.Hosts.{HostState, HoldsAt, StepsAt, machine_at, has_tenant}
+use Rattle.steps_core.specs.Isolation.{StepTurn, step_turn, step_event, step_turns, found_none, is_own_step, own_steps, steps_of, replies_of, built_replies, built_state, IsToldAlone, IsIsolated}
+use Rattle.steps_core.proofs.Lists.{all-push, all-front}
+
+built_replies-append : (S : State History) (xs ys : List Step) → built_replies S (xs ++ ys) ≡ built_replies S xs ++ built_replies (built_state S xs) ys
+built_replies-append S [] ys = refl
+built_replies-append S (x ∷ xs) ys = ap (λ rs. (built_machine S x).reply ∷ rs) (built_replies-append (built_machine S x).state xs ys)
+
+built_state-append : (S : State History) (xs ys : List Step) → built_state S (xs ++ ys) ≡ built_state (built_state S xs) ys
+built_state-append S [] ys = refl
+built_state-append S (x ∷ xs) ys = built_state-append (built_machine S x).state xs ys
+
+step_turns-push : {A : Type 0} (cs : List (Vec ℕ A × Step)) (c : Vec ℕ A × Step) (rs : List Reply) (r : Reply) → length rs ≡ length cs → step_turns (cs ++ c ∷ []) (rs ++ r ∷ []) ≡ step_turns cs rs ++ step_turn c.0.items c.1 r ∷ []
+step_turns-push [] c [] r h = refl
+step_turns-push [] c (q ∷ rs) r h = absurd (omega arith)
+step_turns-push (d ∷ cs) c [] r h = absurd (omega arith)
+step_turns-push (d ∷ cs) c (q ∷ rs) r h = let same : length rs ≡ length cs = omega arith in ap (λ xs. step_turn d.0.items d.1 q ∷ xs) (step_turns-push cs c rs r same)
+
+none_there : {X : Type 0} (a b : Option X) → is_some a ≡ is_some b → b ≡ None → a ≡ None
+none_there None b h k = refl
+none_there (Some x) b h k = absurd (true≢false (h ∙ ap is_some k))
+
+answered : (r : Reply) → found_none r ≡ false → r ≢ Refused Memory
+answered r h k = true≢false (sym (ap found_none k) ∙ h)
+
+unanswered : (r : Reply) → found_none r ≡ true → r ≡ Refused Memory
+unanswered (Refused Memory) h = refl
+unanswered r h = absurd (true≢false (sym h))
+
+-- a catch-up changes nothing, takes no memory, and is answered alike in all states
+catch_up : (S T : State History) (t : List ℕ) (step : Step) (r : Reply) → is_catch_up (step_event (step_turn t step r)) ≡ true → ((built_machine S step).reply ≡ (built_machine T step).reply) × ((built_machine S step).state ≡ S) × (takes_memory step ≡ false)
+catch_up S T t (CatchUp n) r h = (refl, refl, refl)
+catch_up S T t step r h = absurd (true≢false (sym h))
+
+-- what a step of the tenant that holds S leaves
+own_step : (mid new : HostState) (t : List ℕ) (step : Step) (reply : Reply) (S : State History) → reply ≢ Refused Memory → HoldsAt mid t S → StepsAt mid t step reply new → (reply ≡ (built_machine S step).reply) × HoldsAt new t (built_machine S step).state
+own_step mid new t step reply S said held steps =
+    let after = steps.own held.machine held.is in
+    (after.2.told S held.holds said, record { machine = after.0; is = after.1; holds = after.2.state S held.holds said })
+
+caught : (mid new : HostState) (t : List ℕ) (x : StepTurn) (S T : State History) → t ≡ x.tenant → is_catch_up (step_event x) ≡ true → HoldsAt mid t S → StepsAt mid x.tenant x.step x.reply new → (x.reply ≡ (built_machine T x.step).reply) × HoldsAt new t S
+caught mid new t x S T same catch held steps =
+    let c = catch_up S T x.tenant x.step x.reply catch in
+    let here : HoldsAt mid x.tenant S = subst (λ u. HoldsAt mid u S) same held in
+    let said : x.reply ≢ Refused Memory = steps.sure c.2 (ap is_some here.is) in
+    let after = own_step mid new x.tenant x.step x.reply S said here steps in
+    (after.0 ∙ c.0, subst (λ u. HoldsAt new u S) (sym same) (subst (HoldsAt new x.tenant) c.1 after.1))
+
+-- a step that is not in the tenant's list leaves its state
+left_out : (mid new : HostState) (t : List ℕ) (x : StepTurn) (S : State History) → HoldsAt mid t S → StepsAt mid x.tenant x.step x.reply new → is_own_step t x ≡ false → HoldsAt new t S
+left_out mid new t x S held steps h = by (bytes_eq t x.tenant) (is_catch_up (step_event x)) (found_none x.reply) refl refl refl h
+  where
+    by : (a b c : Bool) → bytes_eq t x.tenant ≡ a → is_catch_up (step_event x) ≡ b → found_none x.reply ≡ c → (a && (not b && not c)) ≡ false → HoldsAt new t S
+    by false b c i j k h =
+        let differ : t ≢ x.tenant = λ e. true≢false (sym ((bytes_decides t x.tenant).1 e) ∙ i) in
+        record { machine = held.machine; is = steps.others.machines t differ ∙ held.is; holds = held.holds }
+    by true true c i j k h = (caught mid new t x S S ((bytes_decides t x.tenant).0 i) j held steps).1
+    by true false true i j k h = subst (λ n. HoldsAt n t S) (sym (steps.memory (unanswered x.reply k))) held
+    by true false false i j k h = absurd (true≢false h)
+
+-- a step that is
+taken_in : (mid new : HostState) (t : List ℕ) (x : StepTurn) (S : State History) → HoldsAt mid t S → StepsAt mid x.tenant x.step x.reply new → is_own_step t x ≡ true → (x.reply ≡ (built_machine S x.step).reply) × HoldsAt new t (built_machine S x.step).state
+taken_in mid new t x S held steps h = by (bytes_eq t x.tenant) (is_catch_up (step_event x)) (found_none x.reply) refl refl h
+  where
+    by : (a b c : Bool) → bytes_eq t x.tenant ≡ a → found_none x.reply ≡ c → (a && (not b && not c)) ≡ true → (x.reply ≡ (built_machine S x.step).reply) × HoldsAt new t (built_machine S x.step).state
+    by false b c i k h = absurd (true≢false (sym h))
+    by true true c i k h = absurd (true≢false (sym h))
+    by true false true i k h = absurd (true≢false (sym h))
+    by true false false i k h =
+        let same : t ≡ x.tenant = (bytes_decides t x.tenant).0 i in
+        let after = own_step mid new x.tenant x.step x.reply S (answered x.reply k) (subst (λ u. HoldsAt mid u S) same held) steps in
+        (after.0, subst (λ u. HoldsAt new u (built_machine S x.step).state) (sym same) after.1)
+
+one_more : (mid new : HostState) (t : List ℕ) (x : StepTurn) (S : State History) → HoldsAt mid t S → StepsAt mid x.tenant x.step x.reply new → (replies_of (own_steps t (x ∷ [])) ≡ built_replies S (steps_of (own_steps t (x ∷ [])))) × HoldsAt new t (built_state S (steps_of (own_steps t (x ∷ []))))
+one_more mid new t x S held steps = by (is_own_step t x) refl
+  where
+    by : (b : Bool) → is_own_step t x ≡ b → (replies_of (cond b (x ∷ []) []) ≡ built_replies S (steps_of (cond b (x ∷ []) []))) × HoldsAt new t (built_state S (steps_of (cond b (x ∷ []) [])))
+    by true h = let in_list = taken_in mid new t x S held steps h in (ap (λ r. r ∷ []) in_list.0, in_list.1)
+    by false h = (refl, left_out mid new t x S held steps h)
+
+alone_push : (mid new : HostState) (xs : List StepTurn) (x : StepTurn) (t : List ℕ) (S : State History) → IsToldAlone t S xs mid → StepsAt mid x.tenant x.step x.reply new → IsToldAlone t S (xs ++ x ∷ []) new
+alone_push mid new xs x t S before steps =
+    let T = built_state S (steps_of (own_steps t xs)) in
+    let one = one_more mid new t x T before.holds steps in
+    let parts : own_steps t (xs ++ x ∷ []) ≡ own_steps t xs ++ own_steps t (x ∷ []) = filter-append (is_own_step t) xs (x ∷ []) in
+    let asked : steps_of (own_steps t (xs ++ x ∷ [])) ≡ steps_of (own_steps t xs) ++ steps_of (own_steps t (x ∷ [])) = ap steps_of parts ∙ map-append (λ (y : StepTurn). y.step) (own_steps t xs) (own_steps t (x ∷ [])) in
+    let told : replies_of (own_steps t (xs ++ x ∷ [])) ≡ replies_of (own_steps t xs) ++ replies_of (own_steps t (x ∷ [])) = ap replies_of parts ∙ map-append (λ (y : StepTurn). y.reply) (own_steps t xs) (own_steps t (x ∷ [])) in
+    record {
+      replies = told ∙ ap (λ rs. rs ++ replies_of (own_steps t (x ∷ []))) before.replies ∙ ap (λ rs. built_replies S (steps_of (own_steps t xs)) ++ rs) one.0
+          ∙ sym (built_replies-append S (steps_of (own_steps t xs)) (steps_of (own_steps t (x ∷ [])))) ∙ ap (built_replies S) (sym asked);
+      holds = subst (HoldsAt new t) (sym (ap (built_state S) asked ∙ built_state-append S (steps_of (own_steps t xs)) (steps_of (own_steps t (x ∷ []))))) one.1;
+      catch_ups = all-push _ xs x before.catch_ups (λ same catch. (caught mid new t x T S (sym same) catch before.holds steps).0);
+    }
+
+there_push : (mid new : HostState) (x t : List ℕ) → has_tenant new x ≡ has_tenant mid x → ((u : List ℕ) → u ≢ x → machine_at new u ≡ machine_at mid u) → has_tenant new t ≡ has_tenant mid t
+there_push mid new x t own others = by (bytes_eq t x) refl
+  where
+    by : (b : Bool) → bytes_eq t x ≡ b → has_tenant new t ≡ has_tenant mid t
+    by true h = subst (λ u. has_tenant new u ≡ has_tenant mid u) (sym ((bytes_decides t x).0 h)) own
+    by false h = ap is_some (others t (λ e. true≢false (sym ((bytes_decides t x).1 e) ∙ h)))
+
+isolated_push : (old mid new : HostState) (xs : List StepTurn) (x : StepTurn) → IsIsolated old xs mid → StepsAt mid x.tenant x.step x.reply new → IsIsolated old (xs ++ x ∷ []) new
+isolated_push old mid new xs x before steps = record {
+  alone = λ t S held. alone_push mid new xs x t S (before.alone t S held) steps;
+  nobody = all-push _ xs x before.nobody (λ none said. (steps.none (none_there _ _ (before.there x.tenant) none)).1 said);
+  others = λ t unnamed. let parts = all-front _ xs x unnamed in steps.others.machines t parts.1 ∙ before.others t parts.0;
+  there = λ t. there_push mid new x.tenant t steps.others.there steps.others.machines ∙ before.there t;
+  segments = steps.others.segments ∙ before.segments;
+}
+
+pub isolated_none : (h : HostState) → IsIsolated h [] h
+isolated_none h = record {
+  alone = λ t S held. record { replies = refl; holds = held; catch_ups = tt };
+  nobody = tt;
+  others = λ t unnamed. refl;
+  there = λ t. refl;
+  segments = refl;
+}
+
+-- one more step in a run
+pub isolated_more : {A : Type 0} (old mid new : HostState) (cs : List (Vec ℕ A × Step)) (i : ℕ) (c : Vec ℕ A × Step) (rs : List Reply) (r : Reply)
+    → IsIsolated old (step_turns (take i cs) rs) mid → StepsAt mid c.0.items c.1 r new → length rs ≡ i → i < length cs → c ≡ get_or cs i c
+    → IsIsolated old (step_turns (take (i + 1) cs) (rs ++ r ∷ [])) new
+isolated_more old mid new cs i c rs r before steps count within is =
+    let more : take (i + 1) cs ≡ take i cs ++ c ∷ [] = take_more cs i c within ∙ ap (λ d. take i cs ++ d ∷ []) (sym is) in
+    let e : step_turns (take (i + 1) cs) (rs ++ r ∷ []) ≡ step_turns (take i cs) rs ++ step_turn c.0.items c.1 r ∷ [] =
+    ap (λ ds. step_turns ds (rs ++ r ∷ [])) more ∙ step_turns-push (take i cs) c rs r (count ∙ sym (length-take-le i cs (omega arith))) in
+    subst (λ xs. IsIsolated old xs new) (sym e) (isolated_push old mid new (step_turns (take i cs) rs) _ before steps)

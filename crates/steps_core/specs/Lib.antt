@@ -1,0 +1,4 @@
+pub mod Hosts
+pub mod Sound
+pub mod Isolation
+pub mod Adding

@@ -1,0 +1,10 @@
+//! Many tenants over one pool of segments, as one value.
+//!
+//! Each tenant is answered what its machine answers to its own steps alone: nothing of another tenant can be
+//! seen in a reply. Want of memory apart, which changes nothing.
+#![tactic(auto)]
+
+mod host;
+mod tenant;
+
+pub use host::{Host, OperatorFault};
