@@ -21,7 +21,8 @@ running moment leases = filter (λ l. nat_lt moment l.end) leases
 -- the cells of those leases
 abbrev pub running_cells : ℕ → List Lease → List ℕ → List ℕ
 running_cells moment (l ∷ leases) (cell ∷ cells) =
-    if nat_lt moment l.end then cell ∷ running_cells moment leases cells else running_cells moment leases cells
+    if nat_lt moment l.end then cell ∷ running_cells moment leases cells
+    else running_cells moment leases cells
 running_cells moment leases cells = []
 
 -- the end that comes first, or a moment before all of them

@@ -197,8 +197,8 @@ impl LeaseBook {
         Some(lease.id)
     }
 
-    /// Puts the leases that have run out at a moment into a vector, in the order in which they end. What stood
-    /// in it goes, and its room, for all leases, stays.
+    /// Puts the leases that have run out at a moment into a vector, in the order in which they end. What
+    /// stood in it goes, and its room, which is for all leases, stays.
     pub fn collect_due(&self, moment: u64, ended: &mut Vec<Lease>)
         requires { length self.now.leases ≤ vec_capacity ended.old }
         ensures leases { ended.new.items ≡ run_out moment self.now.leases }

@@ -84,13 +84,21 @@ const GRANTED: [Told; 8] = [
 /// The order in which the leases of `GRANTED` end at moment 65.
 const ENDED: [i64; 7] = [-7, 3, 6, i64::MAX, 1, 5, 2];
 
+/// Whether the grants of `GRANTS` are answered as is wanted.
+fn grant_all(book: &mut LeaseBook) -> bool {
+    for (ttl, id, wanted) in GRANTS.iter() {
+        let request = GrantReq { ttl: *ttl, id: *id };
+        if grant(book, 5, request, CellNo::at(0, 40)) != *wanted {
+            return false;
+        }
+    }
+    true
+}
+
 #[test]
 fn leases_are_granted_and_end_in_order(rt: HostRuntime) -> Result<(), Fail> {
     let mut book = LeaseBook::new(rt.alloc(), 8)?;
-    for (ttl, id, wanted) in GRANTS.iter() {
-        let request = GrantReq { ttl: *ttl, id: *id };
-        assert_eq!(rt; grant(&mut book, 5, request, CellNo::at(0, 40)), *wanted);
-    }
+    assert!(rt; grant_all(&mut book));
     assert!(rt; has_leases(&book, &GRANTED));
     assert_eq!(rt; book.due(5), None);
     for id in ENDED.iter() {
@@ -99,6 +107,39 @@ fn leases_are_granted_and_end_in_order(rt: HostRuntime) -> Result<(), Fail> {
     }
     assert_eq!(rt; book.due(65), None);
     assert!(rt; has_leases(&book, &[(4, 9_000_000_000, 9_000_000_005)]));
+    Ok(())
+}
+
+/// How many leases have run out at a moment; none if they are not the first of `ENDED`, in that order.
+fn count_due(book: &LeaseBook, moment: u64, ended: &mut Vec<Lease>) -> usize {
+    if book.len() > ended.capacity() {
+        return 0;
+    }
+    book.collect_due(moment, ended);
+    let mut next = 0usize;
+    for lease in ended.iter() {
+        if next >= ENDED.len() || lease.id != ENDED[next] {
+            return 0;
+        }
+        next += 1;
+    }
+    next
+}
+
+/// Of the leases of `GRANTS` how many have run out at a moment, and how many are left once they have gone.
+const PASSES: [(u64, usize, usize); 5] = [(5, 0, 8), (6, 4, 4), (14, 4, 4), (15, 6, 2), (65, 7, 1)];
+
+#[test]
+fn what_has_run_out_goes_in_one_pass(rt: HostRuntime) -> Result<(), Fail> {
+    let mut ended = Vec::with_capacity(rt.alloc(), 8)?;
+    for (moment, due, left) in PASSES.iter() {
+        let mut book = LeaseBook::new(rt.alloc(), 8)?;
+        assert!(rt; grant_all(&mut book));
+        assert_eq!(rt; count_due(&book, *moment, &mut ended), *due);
+        book.end_due(*moment);
+        assert_eq!(rt; book.len(), *left);
+        assert_eq!(rt; book.due(*moment), None);
+    }
     Ok(())
 }
 

@@ -23,3 +23,4 @@ pub mod PendingLaws
 pub mod ApartLaws
 pub mod NumberLaws
 pub mod SortingLaws
+pub mod EndsLaws

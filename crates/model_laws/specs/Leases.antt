@@ -1,5 +1,5 @@
 -- Laws: the ID that is chosen for a lease, and the order in which leases end.
-use Rattle.std.specs.Prelude.{◌≡◌, ◌⊎◌, nat_le, ℕ, ◌+◌, ◌<◌, ◌≤◌, pos, ℤ, true, false, not, List, [], ◌∷◌}
+use Rattle.std.specs.Prelude.{◌≡◌, ◌⊎◌, nat_le, nat_lt, ℕ, ◌+◌, ◌<◌, ◌≤◌, pos, ℤ, true, false, not, List, [], ◌∷◌}
 use Rattle.std.specs.Prelude.{length, filter, fold, max, min}
 use Rattle.std.specs.List.Sorted.{IsStrictlySortedBy}
 use Rattle.std.specs.Ordering.{int_eq}
@@ -62,3 +62,6 @@ pub record LeaseLaws : Type 0 where
   pub ends_one_by_one : (t : State Store) (first : Lease) (rest : List Lease)
       → IsStrictlySortedBy by_id t.leases → run_out t.moment t.leases ≡ first ∷ rest
       → ends t ≡ ends (finish kept_store t first.id)
+  -- once they have ended, the leases that run on are left
+  pub ends_leave : (t : State Store) → IsStrictlySortedBy by_id t.leases
+      → (ends t).leases ≡ filter (λ l. nat_lt t.moment l.end) t.leases

@@ -3,6 +3,7 @@ use Rattle.model_laws.proofs.LeaseLaws.{free_id_is_least, with_lease_ascends, wi
 use Rattle.model_laws.proofs.CounterLaws.{free_id_within, grant_adds, renew_adds_none, finish_takes_one}
 use Rattle.model_laws.proofs.DueLaws.{run_out_first, run_out_none}
 use Rattle.model_laws.proofs.OpeningLaws.{ends_none, ends_one_by_one}
+use Rattle.model_laws.proofs.EndsLaws.{ends_leave}
 use Rattle.model_laws.proofs.lease_laws.Goals as goal
 
 pub returns : goal.returns
@@ -21,4 +22,5 @@ returns c = record {
   tick_is_ends = λ t m. refl;
   ends_none = ends_none;
   ends_one_by_one = ends_one_by_one;
+  ends_leave = ends_leave;
 }

@@ -1,6 +1,6 @@
-use Rattle.std.proofs.Common.{◌≡◌, ◌+◌, ◌<◌, ◌++◌, ◌∷◌, [], length, drop, ap, sym, ◌∙◌, arith, rules, subst}
+use Rattle.std.proofs.Common.{◌≡◌, ◌+◌, ◌<◌, ◌++◌, length, drop, ap, ◌∙◌, arith, rules}
 use Rattle.std.specs.Prelude.{filter, nat_le}
-use Rattle.chunk_list.specs.Chunked.{position_of, HasItem}
+use Rattle.chunk_list.specs.Chunked.{position_of}
 use Rattle.etcd_model.specs.declared.state.Lease.{Lease}
 use Rattle.lease_book.specs.Book.{leases_of}
 use Rattle.lease_book.proofs.Ended.{passes, fails, over, not_over}

@@ -1,4 +1,4 @@
-use Rattle.std.proofs.Common.{◌≡◌, ◌-◌, ◌<◌, length, drop, fold, None}
+use Rattle.std.proofs.Common.{◌≡◌, ◌-◌, ◌<◌, length, drop}
 use Rattle.chunk_list.specs.Chunked.{position_of, HasItem}
 use Rattle.lease_book.specs.Book.{leases_of}
 use Rattle.lease_book.specs.Ending.{first_end}

@@ -1,5 +1,5 @@
 use Rattle.std.proofs.Common.{◌≡◌, ap, sym, ◌∙◌, arith}
-use Rattle.lease_book.specs.Book.{leases_of, cells_of, IsBook}
+use Rattle.lease_book.specs.Book.{leases_of, cells_of}
 use Rattle.lease_book.specs.Ending.{running, first_end}
 use Rattle.lease_book.proofs.Due.{all_run, leases_running, cells_running, running_book}
 use Rattle.lease_book.proofs.book.LeaseBook.end_due.Goals as goal
