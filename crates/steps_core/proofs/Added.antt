@@ -18,10 +18,11 @@ use Rattle.tenant_machine.specs.Tenants.{MachineState, tenant}
 use Rattle.steps_core.specs.declared.tenant.Tenant.{Tenant}
 use Rattle.steps_core.specs.declared.host.OperatorFault.{OperatorFault}
 use Rattle.steps_core.specs.declared.host.OperatorFault.TheVariants.{Taken, Short}
-use Rattle.steps_core.specs.Hosts.{HostState, machine_at, has_tenant}
+use Rattle.steps_core.specs.Hosts.{HostState, machine_at, has_tenant, reserved_segments}
 use Rattle.steps_core.specs.Sound.{Agrees, IsIdle, IsHost, host_of, ticket_number, drawn_by, reserved_by}
-use Rattle.steps_core.specs.Adding.{first_fault, within_limits, reserved_segments, Adds}
+use Rattle.steps_core.specs.Adding.{first_fault, within_limits, Adds}
 use Rattle.steps_core.proofs.Shown.{test}
+use Rattle.steps_core.proofs.Served.{reserved_shown}
 use Rattle.steps_core.proofs.Lists.{all-push, lookup_last, lookup_others, values_push, sum_push, distinct_push, held_apart, held_still}
 
 -- ---- what holds of the host
@@ -119,13 +120,6 @@ few es d h n view same below =
     let many : length h.tenants ≡ n = sym (ap (λ (x : HostState). length x.tenants) view) ∙ length-map es _ ∙ sym same in
     let less : length h.tenants < MAX_TENANTS = omega (arith, many, below) in
     grind (arith, nat_tests)
-
--- the machines reserve what the tickets do
-reserved_shown : {A : Type 0} (es : List (Vec ℕ A × Tenant)) (d : Desk) → AllByRecursion (λ e. Agrees e.1) es → reserved_segments (host_of es d) ≡ sum_by reserved_by (values_of es)
-reserved_shown [] d agree = refl
-reserved_shown (e ∷ es) d agree = omega (arith,
-    sum_by-cons (λ (x : List ℕ × MachineState). x.1.store.share.reserved) (e.0.items, e.1.machine) (host_of es d).tenants,
-    sum_by-cons reserved_by e.1 (values_of es), agree.0.reserved, reserved_shown es d agree.1)
 
 -- the segments that are reserved, of all there are
 unreserved : {A : Type 0} (es : List (Vec ℕ A × Tenant)) (d : Desk) (h : HostState) → host_of es d ≡ h → IsHost es d → h.segments + d.pool.promised ≡ reserved_segments h + d.pool.free

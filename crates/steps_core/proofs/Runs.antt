@@ -122,7 +122,11 @@ isolated_push old mid new xs x before steps = record {
   nobody = all-push _ xs x before.nobody (λ none said. (steps.none (none_there _ _ (before.there x.tenant) none)).1 said);
   others = λ t unnamed. let parts = all-front _ xs x unnamed in steps.others.machines t parts.1 ∙ before.others t parts.0;
   there = λ t. there_push mid new x.tenant t steps.others.there steps.others.machines ∙ before.there t;
-  segments = steps.others.segments ∙ before.segments;
+  same = record {
+    names = steps.others.same.names ∙ before.same.names;
+    reserved = steps.others.same.reserved ∙ before.same.reserved;
+    segments = steps.others.same.segments ∙ before.same.segments;
+  };
 }
 
 pub isolated_none : (h : HostState) → IsIsolated h [] h
@@ -131,7 +135,7 @@ isolated_none h = record {
   nobody = tt;
   others = λ t unnamed. refl;
   there = λ t. refl;
-  segments = refl;
+  same = record { names = refl; reserved = refl; segments = refl };
 }
 
 -- one more step in a run

@@ -44,5 +44,5 @@ refused_at h t step r err sure = record {
   memory = λ _. refl;
   none = λ _. (refl, λ said. ap Refused (err (λ e. said (ap Refused e))).0);
   sure = λ none there. absurd (true≢false (sym (sure none there)));
-  others = record { machines = λ u differ. refl; there = refl; segments = refl };
+  others = record { machines = λ u differ. refl; there = refl; same = record { names = refl; reserved = refl; segments = refl } };
 }
