@@ -1,5 +1,5 @@
 -- Serving one tenant keeps what holds of the host.
-use Rattle.std.proofs.Common.{◌≡◌, ◌∙◌, sym, ap, subst, refl, ℕ, ◌+◌, ◌≤◌, Bool, true, false, cond, List, [], ◌∷◌, Option, Some, arith, Vec, sum_by, map, nat_eq, sum, replicate, None}
+use Rattle.std.proofs.Common.{◌≡◌, ◌∙◌, sym, ap, subst, refl, ℕ, ◌+◌, ◌≤◌, Bool, true, false, cond, List, [], ◌∷◌, Some, arith, Vec, sum_by, map, nat_eq, sum, replicate, None}
 use Rattle.std.specs.Prelude.{slice_get}
 use Rattle.std.specs.Map.{lookup, set_value, values_of}
 use Rattle.std.specs.List.{AllByRecursion, IsDistinct}
@@ -7,7 +7,7 @@ use Rattle.std.proofs.lemmas.List.Sums.{sum_by-cons}
 use Rattle.std.proofs.lemmas.List.Folds.{sum_by-replicate}
 use Rattle.std.proofs.lemmas.Map.Entries.{sum_by-set_value}
 use Rattle.etcd_types.specs.declared.limits.TheConstants.{MAX_SEGMENTS}
-use Rattle.etcd_model.specs.Pool.{PoolState, TicketState, IsHeld, AddsUp}
+use Rattle.etcd_model.specs.Pool.{PoolState, TicketState, IsHeld}
 use Rattle.segment_pool.specs.declared.desk.Desk.{Desk}
 use Rattle.steps_core.specs.declared.tenant.Tenant.{Tenant}
 use Rattle.tenant_machine.specs.Tenants.{MachineState}
@@ -97,14 +97,23 @@ served t es d f v w kept h left = record {
 -- the machines reserve what the tickets do
 pub reserved_shown : {A : Type 0} (es : List (Vec ℕ A × Tenant)) (d : Desk) → AllByRecursion (λ e. Agrees e.1) es → reserved_segments (host_of es d) ≡ sum_by reserved_by (values_of es)
 reserved_shown [] d agree = refl
-reserved_shown (e ∷ es) d agree = omega (arith,
-    sum_by-cons (λ (x : List ℕ × MachineState). x.1.store.share.reserved) (e.0.items, e.1.machine) (host_of es d).tenants,
-    sum_by-cons reserved_by e.1 (values_of es), agree.0.reserved, reserved_shown es d agree.1)
+reserved_shown (e ∷ es) d agree = omega (
+  arith,
+  sum_by-cons (λ (x : List ℕ × MachineState). x.1.store.share.reserved) (e.0.items, e.1.machine) (host_of es d).tenants,
+  sum_by-cons reserved_by e.1 (values_of es),
+  agree.0.reserved,
+  reserved_shown es d agree.1,
+)
 
 -- as many segments are reserved
 pub reserved_set : {A : Type 0} (t : List ℕ) (es : List (Vec ℕ A × Tenant)) (d f : Desk) (v w : Tenant) → IsHost es d → lookup (test t) es ≡ Some v → Leaves d v f w → reserved_segments (host_of (set_value (test t) es w) f) ≡ reserved_segments (host_of es d)
-reserved_set t es d f v w kept h left = omega (arith,
-    reserved_shown (set_value (test t) es w) f (all_set Agrees t es w kept.agree left.agrees), reserved_shown es d kept.agree, sum_by-set_value reserved_by (test t) es v w h, left.reserved)
+reserved_set t es d f v w kept h left = omega (
+  arith,
+  reserved_shown (set_value (test t) es w) f (all_set Agrees t es w kept.agree left.agrees),
+  reserved_shown es d kept.agree,
+  sum_by-set_value reserved_by (test t) es v w h,
+  left.reserved,
+)
 
 -- under the same names
 pub names_set : {A : Type 0} (t : List ℕ) (es : List (Vec ℕ A × Tenant)) (d f : Desk) (w : Tenant) → names_of (host_of (set_value (test t) es w) f) ≡ names_of (host_of es d)

@@ -9,7 +9,9 @@ ghost use Rattle.steps_core.specs.Hosts.{machine_at, has_tenant, FitsAt, PlansAt
 ghost use Rattle.steps_core.specs.Isolation.{step_turns, IsIsolated};
 
 use crate::tenant::{Tenant, serve};
-use etcd_types::limits::{LAST_REVISION, MAX_NAME, MAX_QUOTA, MAX_SEGMENTS, MAX_TENANTS, MIN_QUOTA};
+use etcd_types::limits::{
+    LAST_REVISION, MAX_NAME, MAX_QUOTA, MAX_SEGMENTS, MAX_TENANTS, MIN_QUOTA,
+};
 use etcd_types::{Mem, Refusal, Reply, Step};
 use indexmap::IndexMap;
 use segment_pool::{Desk, Pool, Ticket};

@@ -63,7 +63,11 @@ fn a_tenant_alone_is_told_the_same(rt: HostRuntime) -> Result<(), Fail> {
     let mut host = Host::new(rt.alloc(), 16)?;
     assert_eq!(rt; host.add(rt.alloc(), b"two", 8, 1024, 1), Ok(()));
     assert!(rt; host.has(b"two") && !host.has(b"one"));
-    let told = told_of(&mut host, rt.alloc(), ["two", "two", "two", "two"].as_slice())?;
+    let told = told_of(
+        &mut host,
+        rt.alloc(),
+        ["two", "two", "two", "two"].as_slice(),
+    )?;
     assert_eq!(rt; told.as_slice(), [2, 3, 4, 5].as_slice());
     Ok(())
 }
@@ -71,12 +75,30 @@ fn a_tenant_alone_is_told_the_same(rt: HostRuntime) -> Result<(), Fail> {
 #[test]
 fn tells_the_first_fault(rt: HostRuntime) -> Result<(), Fail> {
     let mut host = Host::new(rt.alloc(), 2)?;
-    assert_eq!(rt; host.add(rt.alloc(), b"one", 7, 129, 1), Err(OperatorFault::Short));
+    assert_eq!(rt;
+        host.add(rt.alloc(), b"one", 7, 129, 1),
+        Err(OperatorFault::Short)
+    );
     assert_eq!(rt; host.add(rt.alloc(), b"one", 7, 65, 1), Ok(()));
-    assert_eq!(rt; host.add(rt.alloc(), b"one", 7, 64, 1), Err(OperatorFault::Taken));
-    assert_eq!(rt; host.add(rt.alloc(), b"two", 8, 64, 1), Err(OperatorFault::Short));
-    assert_eq!(rt; host.add(rt.alloc(), b"Two", 8, 64, 1), Err(OperatorFault::Name));
-    assert_eq!(rt; host.add(rt.alloc(), b"two", 0, 64, 1), Err(OperatorFault::Limits));
-    assert_eq!(rt; host.add(rt.alloc(), b"one", 7, 3, 1), Err(OperatorFault::Limits));
+    assert_eq!(rt;
+        host.add(rt.alloc(), b"one", 7, 64, 1),
+        Err(OperatorFault::Taken)
+    );
+    assert_eq!(rt;
+        host.add(rt.alloc(), b"two", 8, 64, 1),
+        Err(OperatorFault::Short)
+    );
+    assert_eq!(rt;
+        host.add(rt.alloc(), b"Two", 8, 64, 1),
+        Err(OperatorFault::Name)
+    );
+    assert_eq!(rt;
+        host.add(rt.alloc(), b"two", 0, 64, 1),
+        Err(OperatorFault::Limits)
+    );
+    assert_eq!(rt;
+        host.add(rt.alloc(), b"one", 7, 3, 1),
+        Err(OperatorFault::Limits)
+    );
     Ok(())
 }

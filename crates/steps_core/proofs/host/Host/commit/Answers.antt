@@ -1,4 +1,4 @@
-use Rattle.std.proofs.Common.{◌≡◌, ◌∙◌, is_some, ap, sym, subst, refl, Some, None, arith, ◌+◌}
+use Rattle.std.proofs.Common.{◌≡◌, ◌∙◌, is_some, ap, sym, subst, Some, None, arith}
 use Rattle.std.specs.Option.{option_map}
 use Rattle.std.specs.Map.{lookup}
 use Rattle.tenant_machine.specs.Plans.{Fits, IsAfter}
