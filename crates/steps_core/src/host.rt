@@ -1,6 +1,6 @@
 //! All tenants, by name, over one pool.
-ghost use Rattle.std.specs.Prelude.{◌≡◌, ◌≢◌, ◌≤◌, IfOk, IfErr, IsOk, OnErr, OnOk, true, false, length, vec_len};
-ghost use Rattle.std.specs.Prelude.{None, Some, []};
+ghost use Rattle.std.specs.Prelude.{◌≡◌, ◌≢◌, ◌≤◌, IfOk, IfErr, IsOk, OnErr, OnOk, true, false};
+ghost use Rattle.std.specs.Prelude.{length, vec_len, None, Some, []};
 ghost use Rattle.std.specs.List.{list_all};
 ghost use Rattle.etcd_types.specs.declared.refusal.Refusal.TheVariants.{NoTenant, Memory};
 ghost use Rattle.tenant_machine.specs.Plans.{takes_memory};
