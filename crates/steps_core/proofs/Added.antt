@@ -157,7 +157,7 @@ both false b h = absurd (true≢false (sym h))
 pub first_fits : (cluster quota first : ℕ) → within_limits cluster quota first ≡ true → first < 2 ^ 63
 first_fits cluster quota first h =
     let firsts : (nat_lt 0 first && nat_le first (2 ^ 62)) ≡ true =
-        (both (nat_lt 0 cluster && (nat_le 4 quota && nat_le quota (2 ^ 20))) (nat_lt 0 first && nat_le first (2 ^ 62)) h).1 in
+    (both (nat_lt 0 cluster && (nat_le 4 quota && nat_le quota (2 ^ 20))) (nat_lt 0 first && nat_le first (2 ^ 62)) h).1 in
     let low : first ≤ 2 ^ 62 = leb-true first (2 ^ 62) (both (nat_lt 0 first) (nat_le first (2 ^ 62)) firsts).1 in
     omega (arith, low)
 
@@ -165,6 +165,6 @@ first_fits cluster quota first h =
 pub some_segments : (cluster quota first : ℕ) → within_limits cluster quota first ≡ true → 1 ≤ segments_for quota
 some_segments cluster quota first h =
     let quotas : (nat_le 4 quota && nat_le quota (2 ^ 20)) ≡ true =
-        (both (nat_lt 0 cluster) (nat_le 4 quota && nat_le quota (2 ^ 20)) (both (nat_lt 0 cluster && (nat_le 4 quota && nat_le quota (2 ^ 20))) (nat_lt 0 first && nat_le first (2 ^ 62)) h).0).1 in
+    (both (nat_lt 0 cluster) (nat_le 4 quota && nat_le quota (2 ^ 20)) (both (nat_lt 0 cluster && (nat_le 4 quota && nat_le quota (2 ^ 20))) (nat_lt 0 first && nat_le first (2 ^ 62)) h).0).1 in
     let least : 4 ≤ quota = leb-true 4 quota (both (nat_le 4 quota) (nat_le quota (2 ^ 20)) quotas).0 in
     omega (arith, least)
