@@ -1,5 +1,5 @@
 -- Adding a tenant keeps what holds of the host.
-use Rattle.std.proofs.Common.{◌≡◌, ◌≢◌, ◌∙◌, sym, ap, subst, refl, ℕ, ◌+◌, ◌<◌, ◌≤◌, Bool, true, false, not, ◌&&◌, ◌||◌, ◌^◌, cond, List, [], ◌∷◌, ◌++◌, Option, None, Some, is_some, Vec, map, nat_eq, nat_le, nat_lt, sum_by, length, set, get_or, slice_get, true≢false, arith, if◌then◌else◌}
+use Rattle.std.proofs.Common.{◌≡◌, ◌∙◌, sym, ap, subst, refl, ℕ, ◌+◌, ◌<◌, ◌≤◌, Bool, true, false, not, ◌&&◌, ◌||◌, ◌^◌, cond, List, [], ◌∷◌, ◌++◌, Option, None, Some, is_some, Vec, map, nat_eq, nat_le, nat_lt, sum_by, length, set, get_or, slice_get, true≢false, arith}
 use Rattle.std.specs.Str.{bytes_eq}
 use Rattle.std.specs.Map.{lookup, values_of}
 use Rattle.indexmap.specs.IndexMap.{insert_entry}
@@ -7,21 +7,20 @@ use Rattle.std.specs.List.{AllByRecursion, IsDistinct}
 use Rattle.std.proofs.lemmas.Bool.{ne_eqb, leb-true}
 use Rattle.std.proofs.lemmas.Bool.Decides.{nat_tests}
 use Rattle.std.proofs.lemmas.List.{map-append, length-map}
-use Rattle.std.proofs.lemmas.List.Sums.{sum_by-cons}
 use Rattle.etcd_types.specs.declared.limits.TheConstants.{MAX_TENANTS}
 use Rattle.cell_arena.specs.Loan.{Share, segments_for, undrawn}
 use Rattle.etcd_model.specs.Machine.{opening}
 use Rattle.etcd_model.specs.Held.{Holds}
 use Rattle.etcd_model.specs.Pool.{PoolState, TicketState, IsHeld, AddsUp, IsLeastUnheld}
 use Rattle.segment_pool.specs.declared.desk.Desk.{Desk}
-use Rattle.tenant_machine.specs.Tenants.{MachineState, tenant}
+use Rattle.tenant_machine.specs.Tenants.{tenant}
 use Rattle.steps_core.specs.declared.tenant.Tenant.{Tenant}
-use Rattle.steps_core.specs.declared.host.OperatorFault.{OperatorFault}
 use Rattle.steps_core.specs.declared.host.OperatorFault.TheVariants.{Taken, Short}
-use Rattle.steps_core.specs.Hosts.{HostState, machine_at, has_tenant}
+use Rattle.steps_core.specs.Hosts.{HostState, machine_at, reserved_segments}
 use Rattle.steps_core.specs.Sound.{Agrees, IsIdle, IsHost, host_of, ticket_number, drawn_by, reserved_by}
-use Rattle.steps_core.specs.Adding.{first_fault, within_limits, reserved_segments, Adds}
+use Rattle.steps_core.specs.Adding.{first_fault, within_limits, Adds}
 use Rattle.steps_core.proofs.Shown.{test}
+use Rattle.steps_core.proofs.Served.{reserved_shown}
 use Rattle.steps_core.proofs.Lists.{all-push, lookup_last, lookup_others, values_push, sum_push, distinct_push, held_apart, held_still}
 
 -- ---- what holds of the host
@@ -80,7 +79,7 @@ added es fs d e k v n kept entries share some least ticket idle pool held adds =
       some = omega (arith, reserved, some);
     } in
     let still : AllByRecursion (λ x. IsHeld e.pool x.1.ticket) es =
-        subst (λ (rs : List ℕ). AllByRecursion (λ x. slice_get rs x.1.ticket.number ≡ Some x.1.ticket.reserved) es) (sym reservations) (all_still d.pool.reservations v.ticket.number n es least.unheld kept.agree kept.held) in
+    subst (λ (rs : List ℕ). AllByRecursion (λ x. slice_get rs x.1.ticket.number ≡ Some x.1.ticket.reserved) es) (sym reservations) (all_still d.pool.reservations v.ticket.number n es least.unheld kept.agree kept.held) in
     let numbers : map ticket_number (values_of (es ++ (k, v) ∷ [])) ≡ map ticket_number (values_of es) ++ v.ticket.number ∷ [] = ap (map ticket_number) (values_push es k v) ∙ map-append ticket_number (values_of es) (v ∷ []) in
     subst (λ xs. IsHost xs e) (sym entries) (record {
       idle = subst IsIdle (sym idle) kept.idle;
@@ -98,8 +97,8 @@ pub adds : {A : Type 0} (es fs : List (Vec ℕ A × Tenant)) (d : Desk) (k : Vec
     → Holds (opening cluster quota first) (tenant v.machine) → v.machine.store.share ≡ undrawn (segments_for quota) → new.segments ≡ d.pool.free + d.pool.out → Adds old name cluster quota first new
 adds es fs d k v old new name cluster quota first view shows entries key none opens share whole =
     let tenants : new.tenants ≡ old.tenants ++ (name, v.machine) ∷ [] =
-        shows ∙ ap (map (λ x. (x.0.items, x.1.machine))) entries ∙ map-append (λ x. (x.0.items, x.1.machine)) es ((k, v) ∷ [])
-        ∙ ap (λ (h : HostState). h.tenants ++ (k.items, v.machine) ∷ []) view ∙ ap (λ (t : List ℕ). old.tenants ++ (t, v.machine) ∷ []) key in
+    shows ∙ ap (map (λ x. (x.0.items, x.1.machine))) entries ∙ map-append (λ x. (x.0.items, x.1.machine)) es ((k, v) ∷ [])
+    ∙ ap (λ (h : HostState). h.tenants ++ (k.items, v.machine) ∷ []) view ∙ ap (λ (t : List ℕ). old.tenants ++ (t, v.machine) ∷ []) key in
     let at : (t : List ℕ) → machine_at new t ≡ machine_at (record old { tenants = old.tenants ++ (name, v.machine) ∷ [] }) t = λ t. ap (λ xs. machine_at (record old { tenants = xs }) t) tenants in
     record {
       machine = v.machine;
@@ -119,13 +118,6 @@ few es d h n view same below =
     let many : length h.tenants ≡ n = sym (ap (λ (x : HostState). length x.tenants) view) ∙ length-map es _ ∙ sym same in
     let less : length h.tenants < MAX_TENANTS = omega (arith, many, below) in
     grind (arith, nat_tests)
-
--- the machines reserve what the tickets do
-reserved_shown : {A : Type 0} (es : List (Vec ℕ A × Tenant)) (d : Desk) → AllByRecursion (λ e. Agrees e.1) es → reserved_segments (host_of es d) ≡ sum_by reserved_by (values_of es)
-reserved_shown [] d agree = refl
-reserved_shown (e ∷ es) d agree = omega (arith,
-    sum_by-cons (λ (x : List ℕ × MachineState). x.1.store.share.reserved) (e.0.items, e.1.machine) (host_of es d).tenants,
-    sum_by-cons reserved_by e.1 (values_of es), agree.0.reserved, reserved_shown es d agree.1)
 
 -- the segments that are reserved, of all there are
 unreserved : {A : Type 0} (es : List (Vec ℕ A × Tenant)) (d : Desk) (h : HostState) → host_of es d ≡ h → IsHost es d → h.segments + d.pool.promised ≡ reserved_segments h + d.pool.free
@@ -164,11 +156,15 @@ both false b h = absurd (true≢false (sym h))
 -- a first revision within the limits fits a signed number
 pub first_fits : (cluster quota first : ℕ) → within_limits cluster quota first ≡ true → first < 2 ^ 63
 first_fits cluster quota first h =
-    let low : first ≤ 2 ^ 62 = leb-true first (2 ^ 62) (both _ _ (both _ _ h).1).1 in
+    let firsts : (nat_lt 0 first && nat_le first (2 ^ 62)) ≡ true =
+    (both (nat_lt 0 cluster && (nat_le 4 quota && nat_le quota (2 ^ 20))) (nat_lt 0 first && nat_le first (2 ^ 62)) h).1 in
+    let low : first ≤ 2 ^ 62 = leb-true first (2 ^ 62) (both (nat_lt 0 first) (nat_le first (2 ^ 62)) firsts).1 in
     omega (arith, low)
 
 -- a quota within the limits takes a segment
 pub some_segments : (cluster quota first : ℕ) → within_limits cluster quota first ≡ true → 1 ≤ segments_for quota
 some_segments cluster quota first h =
-    let least : 4 ≤ quota = leb-true 4 quota (both _ _ (both _ _ (both _ _ h).0).1).0 in
+    let quotas : (nat_le 4 quota && nat_le quota (2 ^ 20)) ≡ true =
+    (both (nat_lt 0 cluster) (nat_le 4 quota && nat_le quota (2 ^ 20)) (both (nat_lt 0 cluster && (nat_le 4 quota && nat_le quota (2 ^ 20))) (nat_lt 0 first && nat_le first (2 ^ 62)) h).0).1 in
+    let least : 4 ≤ quota = leb-true 4 quota (both (nat_le 4 quota) (nat_le quota (2 ^ 20)) quotas).0 in
     omega (arith, least)

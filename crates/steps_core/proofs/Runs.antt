@@ -1,13 +1,12 @@
 -- A run goes on step by step.
-use Rattle.std.proofs.Common.{◌≡◌, ◌≢◌, ◌∙◌, sym, ap, subst, refl, ℕ, ◌+◌, ◌<◌, Bool, true, false, cond, not, ◌&&◌, List, [], ◌∷◌, ◌++◌, Option, None, Some, is_some, Vec, length, take, get_or, map, filter, true≢false, arith, length-take-le}
+use Rattle.std.proofs.Common.{◌≡◌, ◌≢◌, ◌∙◌, sym, ap, subst, refl, ℕ, ◌+◌, ◌<◌, Bool, true, false, cond, not, ◌&&◌, List, [], ◌∷◌, ◌++◌, Option, None, Some, is_some, Vec, length, take, get_or, true≢false, arith, length-take-le}
 use Rattle.std.specs.Str.{bytes_eq}
 use Rattle.std.specs.Cmp.Lexicographic.{bytes_decides}
-use Rattle.std.specs.List.{AllByRecursion}
 use Rattle.std.proofs.lemmas.List.{take_more, map-append}
 use Rattle.std.proofs.lemmas.List.Elements.{filter-append}
 use Rattle.etcd_types.specs.declared.step.Step.{Step}
 use Rattle.etcd_types.specs.declared.step.Step.TheVariants.{CatchUp}
-use Rattle.etcd_types.specs.declared.refusal.Refusal.TheVariants.{NoTenant, Memory}
+use Rattle.etcd_types.specs.declared.refusal.Refusal.TheVariants.{Memory}
 use Rattle.etcd_types.specs.declared.reply.Reply.{Reply}
 use Rattle.etcd_types.specs.declared.reply.Reply.TheVariants.{Refused}
 use Rattle.etcd_model.specs.declared.state.History.{History}
@@ -122,7 +121,11 @@ isolated_push old mid new xs x before steps = record {
   nobody = all-push _ xs x before.nobody (λ none said. (steps.none (none_there _ _ (before.there x.tenant) none)).1 said);
   others = λ t unnamed. let parts = all-front _ xs x unnamed in steps.others.machines t parts.1 ∙ before.others t parts.0;
   there = λ t. there_push mid new x.tenant t steps.others.there steps.others.machines ∙ before.there t;
-  segments = steps.others.segments ∙ before.segments;
+  same = record {
+    names = steps.others.same.names ∙ before.same.names;
+    reserved = steps.others.same.reserved ∙ before.same.reserved;
+    segments = steps.others.same.segments ∙ before.same.segments;
+  };
 }
 
 pub isolated_none : (h : HostState) → IsIsolated h [] h
@@ -131,7 +134,7 @@ isolated_none h = record {
   nobody = tt;
   others = λ t unnamed. refl;
   there = λ t. refl;
-  segments = refl;
+  same = record { names = refl; reserved = refl; segments = refl };
 }
 
 -- one more step in a run

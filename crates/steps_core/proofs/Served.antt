@@ -1,5 +1,5 @@
 -- Serving one tenant keeps what holds of the host.
-use Rattle.std.proofs.Common.{◌≡◌, ◌∙◌, sym, ap, subst, refl, ℕ, ◌+◌, ◌≤◌, Bool, true, false, cond, List, [], ◌∷◌, Option, Some, arith, Vec, sum_by, map, nat_eq, sum, replicate, None}
+use Rattle.std.proofs.Common.{◌≡◌, ◌∙◌, sym, ap, subst, refl, ℕ, ◌+◌, ◌≤◌, Bool, true, false, cond, List, [], ◌∷◌, Some, arith, Vec, sum_by, map, nat_eq, sum, replicate, None}
 use Rattle.std.specs.Prelude.{slice_get}
 use Rattle.std.specs.Map.{lookup, set_value, values_of}
 use Rattle.std.specs.List.{AllByRecursion, IsDistinct}
@@ -7,10 +7,12 @@ use Rattle.std.proofs.lemmas.List.Sums.{sum_by-cons}
 use Rattle.std.proofs.lemmas.List.Folds.{sum_by-replicate}
 use Rattle.std.proofs.lemmas.Map.Entries.{sum_by-set_value}
 use Rattle.etcd_types.specs.declared.limits.TheConstants.{MAX_SEGMENTS}
-use Rattle.etcd_model.specs.Pool.{PoolState, TicketState, IsHeld, AddsUp}
+use Rattle.etcd_model.specs.Pool.{PoolState, TicketState, IsHeld}
 use Rattle.segment_pool.specs.declared.desk.Desk.{Desk}
 use Rattle.steps_core.specs.declared.tenant.Tenant.{Tenant}
-use Rattle.steps_core.specs.Sound.{Agrees, IsIdle, IsHost, CanServe, Leaves, ticket_number, drawn_by, reserved_by}
+use Rattle.tenant_machine.specs.Tenants.{MachineState}
+use Rattle.steps_core.specs.Hosts.{names_of, reserved_segments}
+use Rattle.steps_core.specs.Sound.{host_of, Agrees, IsIdle, IsHost, CanServe, Leaves, ticket_number, drawn_by, reserved_by}
 use Rattle.steps_core.proofs.Shown.{test}
 
 -- what holds of each tenant holds of one that is found
@@ -91,6 +93,36 @@ served t es d f v w kept h left = record {
   promised = omega (arith, kept.promised, sum_by-set_value drawn_by (test t) es v w h, sum_by-set_value reserved_by (test t) es v w h, left.reserved, left.promised);
   out = omega (arith, kept.out, sum_by-set_value drawn_by (test t) es v w h, left.out);
 }
+
+-- the machines reserve what the tickets do
+pub reserved_shown : {A : Type 0} (es : List (Vec ℕ A × Tenant)) (d : Desk) → AllByRecursion (λ e. Agrees e.1) es → reserved_segments (host_of es d) ≡ sum_by reserved_by (values_of es)
+reserved_shown [] d agree = refl
+reserved_shown (e ∷ es) d agree = omega (
+  arith,
+  sum_by-cons (λ (x : List ℕ × MachineState). x.1.store.share.reserved) (e.0.items, e.1.machine) (host_of es d).tenants,
+  sum_by-cons reserved_by e.1 (values_of es),
+  agree.0.reserved,
+  reserved_shown es d agree.1,
+)
+
+-- as many segments are reserved
+pub reserved_set : {A : Type 0} (t : List ℕ) (es : List (Vec ℕ A × Tenant)) (d f : Desk) (v w : Tenant) → IsHost es d → lookup (test t) es ≡ Some v → Leaves d v f w → reserved_segments (host_of (set_value (test t) es w) f) ≡ reserved_segments (host_of es d)
+reserved_set t es d f v w kept h left = omega (
+  arith,
+  reserved_shown (set_value (test t) es w) f (all_set Agrees t es w kept.agree left.agrees),
+  reserved_shown es d kept.agree,
+  sum_by-set_value reserved_by (test t) es v w h,
+  left.reserved,
+)
+
+-- under the same names
+pub names_set : {A : Type 0} (t : List ℕ) (es : List (Vec ℕ A × Tenant)) (d f : Desk) (w : Tenant) → names_of (host_of (set_value (test t) es w) f) ≡ names_of (host_of es d)
+names_set t [] d f w = refl
+names_set t (e ∷ es) d f w = by (test t e.0) (names_set t es d f w)
+  where
+    by : (b : Bool) → names_of (host_of (set_value (test t) es w) f) ≡ names_of (host_of es d) → names_of (host_of (cond b ((e.0, w) ∷ es) (e ∷ set_value (test t) es w)) f) ≡ e.0.items ∷ names_of (host_of es d)
+    by true rest = refl
+    by false rest = ap (λ ns. e.0.items ∷ ns) rest
 
 -- a host of no tenants
 none_held : {A : Type 0} (d : Desk) → IsIdle d.ticket → d.pool.promised ≡ 0 → d.pool.out ≡ 0 → sum d.pool.reservations ≡ 0 → IsHost {A = A} [] d

@@ -1,5 +1,5 @@
 -- A plan that is committed is a step of the tenant.
-use Rattle.std.proofs.Common.{◌≡◌, ◌≢◌, ◌∙◌, sym, ap, subst, refl, ℕ, List, Option, None, Some, is_some, true, false, true≢false}
+use Rattle.std.proofs.Common.{◌≡◌, ◌≢◌, ◌∙◌, sym, ap, subst, refl, ℕ, List, None, true, false, true≢false}
 use Rattle.etcd_types.specs.declared.step.Step.{Step}
 use Rattle.etcd_types.specs.declared.reply.Reply.{Reply}
 use Rattle.etcd_types.specs.declared.reply.Reply.TheVariants.{Refused}
@@ -35,14 +35,17 @@ stepped_at old new t step p reply at made is =
 pub refused_at : (h : HostState) (t : List ℕ) (step : Step) (r : Refusal) → (r ≢ Memory → (r ≡ NoTenant) × (machine_at h t ≡ None)) → (takes_memory step ≡ false → has_tenant h t ≡ true → false ≡ true) → StepsAt h t step (Refused r) h
 refused_at h t step r err sure = record {
   own = λ m found.
-      let mine : (r ≢ Memory → Refused r ≡ Refused Memory) = λ other. cc (found, (err other).1) in
-      (m, found, record {
-        told = λ S holds said. absurd (said (mine (λ e. said (ap Refused e))));
-        state = λ S holds said. absurd (said (mine (λ e. said (ap Refused e))));
-        memory = λ _. refl;
-      });
+      let mine : (r ≢ Memory → Refused r ≡ Refused Memory) = λ other. cc (found, (err other).1) in (
+        m,
+        found,
+        record {
+          told = λ S holds said. absurd (said (mine (λ e. said (ap Refused e))));
+          state = λ S holds said. absurd (said (mine (λ e. said (ap Refused e))));
+          memory = λ _. refl;
+        },
+      );
   memory = λ _. refl;
   none = λ _. (refl, λ said. ap Refused (err (λ e. said (ap Refused e))).0);
   sure = λ none there. absurd (true≢false (sym (sure none there)));
-  others = record { machines = λ u differ. refl; there = refl; segments = refl };
+  others = record { machines = λ u differ. refl; there = refl; same = record { names = refl; reserved = refl; segments = refl } };
 }

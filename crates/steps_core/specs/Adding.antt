@@ -1,5 +1,5 @@
 -- Adding a tenant: what speaks against it, and what it leaves.
-use Rattle.std.specs.Prelude.{◌≡◌, ◌≢◌, ℕ, ◌+◌, ◌==◌, ◌&&◌, ◌||◌, ◌++◌, not, Bool, List, [], ◌∷◌, length, sum_by}
+use Rattle.std.specs.Prelude.{◌≡◌, ◌≢◌, ℕ, ◌+◌, ◌==◌, ◌&&◌, ◌||◌, ◌++◌, not, Bool, List, [], ◌∷◌, length}
 use Rattle.std.specs.Prelude.{nat_lt, nat_le, Option, Some, None, if◌then◌else◌}
 use Rattle.std.specs.Char.{is_ascii_digit, is_ascii_lowercase}
 use Rattle.std.specs.List.{list_all}
@@ -11,7 +11,7 @@ use Rattle.etcd_model.specs.Held.{Holds}
 use Rattle.tenant_machine.specs.Tenants.{MachineState, tenant}
 use Rattle.steps_core.specs.declared.host.OperatorFault.{OperatorFault}
 use Rattle.steps_core.specs.declared.host.OperatorFault.TheVariants.{Name, Limits, Taken, Short}
-use Rattle.steps_core.specs.Hosts.{HostState, machine_at, has_tenant}
+use Rattle.steps_core.specs.Hosts.{HostState, machine_at, has_tenant, reserved_segments}
 
 abbrev pub is_name_byte : ℕ → Bool
 is_name_byte c = is_ascii_lowercase c || is_ascii_digit c || c == 45
@@ -24,10 +24,6 @@ abbrev pub within_limits : ℕ → ℕ → ℕ → Bool
 within_limits cluster quota first =
     nat_lt 0 cluster && (nat_le min_quota quota && nat_le quota max_quota)
     && (nat_lt 0 first && nat_le first last_revision)
-
--- the segments that the tenants' machines reserve
-abbrev pub reserved_segments : HostState → ℕ
-reserved_segments h = sum_by (λ e. e.1.store.share.reserved) h.tenants
 
 -- the first fault of four
 abbrev pub first_fault : Bool → Bool → Bool → Bool → Option OperatorFault

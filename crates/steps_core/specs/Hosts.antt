@@ -1,5 +1,6 @@
 -- What a contract sees of a host, and of a step of one of its tenants.
-use Rattle.std.specs.Prelude.{◌≡◌, ◌≢◌, ℕ, Bool, true, false, List, Option, Some, None, is_some, refl}
+use Rattle.std.specs.Prelude.{◌≡◌, ◌≢◌, ℕ, Bool, true, false, List, map, sum_by, Option, Some, None}
+use Rattle.std.specs.Prelude.{is_some, refl}
 use Rattle.std.specs.Str.{bytes_eq}
 use Rattle.std.specs.Map.{lookup}
 use Rattle.std.specs.Coded.{Coded, code_by, coded×, coded_ℕ, coded_list}
@@ -51,13 +52,27 @@ pub record PlansAt (h : HostState) (name : List ℕ) (step : Step) (p : Plan) : 
   pub fits : FitsAt h name p
   pub plans : Plans fits.machine step p
 
+-- the tenants' names, in order
+abbrev pub names_of : HostState → List (List ℕ)
+names_of h = map (λ e. e.0) h.tenants
+
+-- the segments that the tenants' machines reserve
+abbrev pub reserved_segments : HostState → ℕ
+reserved_segments h = sum_by (λ e. e.1.store.share.reserved) h.tenants
+
 -- ---- what a step leaves
 
--- the other tenants' machines are as they were, the same tenants are there, and as many segments
+-- the same tenants are there, as many segments, and as many of them are reserved
+pub record SameTenants (old new : HostState) : Type 0 where
+  pub names : names_of new ≡ names_of old
+  pub reserved : reserved_segments new ≡ reserved_segments old
+  pub segments : new.segments ≡ old.segments
+
+-- the other tenants' machines are as they were
 pub record OthersStay (old : HostState) (name : List ℕ) (new : HostState) : Type 0 where
   pub machines : (u : List ℕ) → u ≢ name → machine_at new u ≡ machine_at old u
   pub there : has_tenant new name ≡ has_tenant old name
-  pub segments : new.segments ≡ old.segments
+  pub same : SameTenants old new
 
 -- the tenant has made what was planned
 pub record CommitsAt (old : HostState) (name : List ℕ) (p : Plan) (new : HostState) : Type 0 where

@@ -10,7 +10,7 @@ use Rattle.etcd_model.specs.declared.state.History.{History}
 use Rattle.etcd_model.specs.declared.state.State.{State}
 use Rattle.etcd_model.specs.Alone.{Event, Stepped, is_of, is_catch_up}
 use Rattle.etcd_model.specs.Offered.{built_machine}
-use Rattle.steps_core.specs.Hosts.{HostState, HoldsAt, machine_at, has_tenant}
+use Rattle.steps_core.specs.Hosts.{HostState, HoldsAt, machine_at, has_tenant, SameTenants}
 
 -- ---- a run of the machine as it is built
 
@@ -79,4 +79,4 @@ pub record IsIsolated (old : HostState) (xs : List StepTurn) (new : HostState) :
   -- a tenant that no step names has the machine that it had
   pub others : (t : List ℕ) → AllByRecursion (λ x. t ≢ x.tenant) xs → machine_at new t ≡ machine_at old t
   pub there : (t : List ℕ) → has_tenant new t ≡ has_tenant old t
-  pub segments : new.segments ≡ old.segments
+  pub same : SameTenants old new

@@ -1,6 +1,6 @@
 //! All tenants, by name, over one pool.
-ghost use Rattle.std.specs.Prelude.{◌≡◌, ◌≢◌, ◌≤◌, IfOk, IfErr, IsOk, OnErr, OnOk, true, false, length, vec_len};
-ghost use Rattle.std.specs.Prelude.{None, Some, []};
+ghost use Rattle.std.specs.Prelude.{◌≡◌, ◌≢◌, ◌≤◌, IfOk, IfErr, IsOk, OnErr, OnOk, true, false};
+ghost use Rattle.std.specs.Prelude.{length, vec_len, None, Some, []};
 ghost use Rattle.std.specs.List.{list_all};
 ghost use Rattle.etcd_types.specs.declared.refusal.Refusal.TheVariants.{NoTenant, Memory};
 ghost use Rattle.tenant_machine.specs.Plans.{takes_memory};
@@ -9,7 +9,9 @@ ghost use Rattle.steps_core.specs.Hosts.{machine_at, has_tenant, FitsAt, PlansAt
 ghost use Rattle.steps_core.specs.Isolation.{step_turns, IsIsolated};
 
 use crate::tenant::{Tenant, serve};
-use etcd_types::limits::{LAST_REVISION, MAX_NAME, MAX_QUOTA, MAX_SEGMENTS, MAX_TENANTS, MIN_QUOTA};
+use etcd_types::limits::{
+    LAST_REVISION, MAX_NAME, MAX_QUOTA, MAX_SEGMENTS, MAX_TENANTS, MIN_QUOTA,
+};
 use etcd_types::{Mem, Refusal, Reply, Step};
 use indexmap::IndexMap;
 use segment_pool::{Desk, Pool, Ticket};

@@ -6,5 +6,7 @@
 
 mod host;
 mod tenant;
+#[cfg(test)]
+mod tests;
 
 pub use host::{Host, OperatorFault};

@@ -25,6 +25,6 @@ pub(crate) fn serve(desk: &mut Desk, tenant: &mut Tenant, planned: Planned) -> R
 {
     mem::swap(&mut desk.ticket, &mut tenant.ticket);
     let reply = tenant.machine.commit(desk, planned);
-    mem::swap(&mut desk.ticket, &mut tenant.ticket);
+    mem::swap(&mut tenant.ticket, &mut desk.ticket);
     reply
 }

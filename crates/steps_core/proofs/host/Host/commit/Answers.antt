@@ -1,11 +1,11 @@
-use Rattle.std.proofs.Common.{◌≡◌, ◌∙◌, is_some, ap, sym, subst, refl, Some, None, arith, ◌+◌}
+use Rattle.std.proofs.Common.{◌≡◌, ◌∙◌, is_some, ap, sym, subst, Some, None, arith}
 use Rattle.std.specs.Option.{option_map}
 use Rattle.std.specs.Map.{lookup}
 use Rattle.tenant_machine.specs.Plans.{Fits, IsAfter}
-use Rattle.steps_core.specs.Hosts.{HostState, machine_at}
+use Rattle.steps_core.specs.Hosts.{HostState, machine_at, names_of, reserved_segments}
 use Rattle.steps_core.specs.Sound.{IsHost, host_of}
 use Rattle.steps_core.proofs.Shown.{shown, shown_at, test, machine_in, own_set, others_set}
-use Rattle.steps_core.proofs.Served.{can_serve, served}
+use Rattle.steps_core.proofs.Served.{can_serve, served, names_set, reserved_set}
 use Rattle.steps_core.proofs.host.Host.commit.Goals as goal
 
 pub serve-requires-clause-can : goal.serve-requires-clause-can
@@ -39,6 +39,10 @@ returns-clause-after c =
       others = record {
         machines = λ u differ. shown u _ c.serve.new.desk ∙ ap (λ es. option_map machine_in (lookup (test u) es)) set ∙ ap (option_map machine_in) (others_set t u es w differ) ∙ sym (shown u es c.self.inside.desk) ∙ ap (λ (h : HostState). machine_at h u) c.self.view_is;
         there = ap is_some own ∙ sym (ap is_some at);
-        segments = (omega (arith, c.serve.ensures.leaves.free, c.serve.ensures.leaves.out)) ∙ ap (λ (h : HostState). h.segments) c.self.view_is;
+        same = record {
+          names = ap (λ es. names_of (host_of es c.serve.new.desk)) set ∙ names_set t es c.self.inside.desk c.serve.new.desk w ∙ ap names_of c.self.view_is;
+          reserved = ap (λ es. reserved_segments (host_of es c.serve.new.desk)) set ∙ reserved_set t es c.self.inside.desk c.serve.new.desk c.in-Some.tenant.now w c.self.invariant (sym c.in-Some.ensures.value) c.serve.ensures.leaves ∙ ap reserved_segments c.self.view_is;
+          segments = (omega (arith, c.serve.ensures.leaves.free, c.serve.ensures.leaves.out)) ∙ ap (λ (h : HostState). h.segments) c.self.view_is;
+        };
       };
     }

@@ -1,4 +1,4 @@
-use Rattle.std.proofs.Common.{◌≡◌, ◌∙◌, sym, ap, subst, arith, length, take, ◌+◌}
+use Rattle.std.proofs.Common.{sym, subst, arith, take, ◌+◌}
 use Rattle.steps_core.specs.Hosts.{StepsAt}
 use Rattle.steps_core.specs.Isolation.{IsIsolated, step_turns}
 use Rattle.steps_core.proofs.Runs.{isolated_more}
