@@ -1,4 +1,4 @@
-mod Standing
+pub mod Standing
 mod Chosen
 mod Granted
 mod Due

@@ -1,6 +1,7 @@
 -- What a contract sees of a book of leases.
 use Rattle.std.specs.Prelude.{◌≡◌, ℕ, ◌≤◌, ℤ, pos, true, int_lt, int_le, List, length, map}
-use Rattle.std.specs.Prelude.{slice_index_or, Some}
+use Rattle.std.specs.Prelude.{slice_index_or, Some, refl}
+use Rattle.std.specs.Coded.{Coded, code_by, coded×, coded_ℕ, coded_ℤ, coded_list}
 use Rattle.std.specs.List.{AllByRecursion, prefix_len}
 use Rattle.std.specs.List.Sorted.{IsStrictlySortedBy}
 use Rattle.etcd_types.specs.Limits.{max_ttl}
@@ -18,6 +19,21 @@ pub record Book : Type 0 where
   pub cells : List ℕ
   pub counter : ℕ
   pub room : ℕ
+
+abbrev lease_code : Coded Lease
+lease_code =
+    code_by (ℤ × (ℕ × ℕ)) (coded× coded_ℤ (coded× coded_ℕ coded_ℕ))
+    (λ l. (l.id, (l.ttl, l.end)))
+    (λ p. record { id = p.0; ttl = p.1.0; end = p.1.1 })
+    (λ _. refl)
+
+abbrev pub book_code : Coded Book
+book_code =
+    code_by ((List Lease × List ℕ) × (ℕ × ℕ))
+    (coded× (coded× (coded_list lease_code) (coded_list coded_ℕ)) (coded× coded_ℕ coded_ℕ))
+    (λ b. ((b.leases, b.cells), (b.counter, b.room)))
+    (λ p. record { leases = p.0.0; cells = p.0.1; counter = p.1.0; room = p.1.1 })
+    (λ _. refl)
 
 abbrev pub leases_of : List Booked → List Lease
 leases_of list = map (λ b. b.lease) list

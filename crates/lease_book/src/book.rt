@@ -1,8 +1,9 @@
 //! The book.
-ghost use Rattle.std.specs.Prelude.{◌≡◌, ◌<◌, ◌≤◌, [], length, true, slice_get, slice_index_or};
+ghost use Rattle.std.specs.Prelude.{◌≡◌, ◌<◌, ◌≤◌, [], int_le, length, pos, true, slice_get, slice_index_or};
 ghost use Rattle.std.specs.Prelude.{IfOk, IfSome, MatchResult, Some, option_map, vec_capacity};
 ghost use Rattle.std.specs.List.{insert, remove};
-ghost use Rattle.etcd_types.specs.Limits.{last_moment};
+ghost use Rattle.std.specs.List.Sorted.{IsStrictlySortedBy};
+ghost use Rattle.etcd_types.specs.Limits.{last_moment, max_ttl};
 ghost use Rattle.etcd_model.specs.Held.{by_id};
 ghost use Rattle.etcd_model.specs.Leases.{lease_at, put_lease, run_out};
 ghost use Rattle.etcd_model.specs.Operations.{has_lease};
@@ -42,9 +43,11 @@ pub struct LeaseBook {
 }
 
 impl Model for LeaseBook {
-    ghost use Rattle.lease_book.specs.Book.{Book, IsBook, leases_of, cells_of};
+    ghost use Rattle.lease_book.specs.Book.{Book, IsBook, book_code, leases_of, cells_of};
 
     ghost Value = { Book };
+
+    ghost coded = { book_code };
 
     ghost view = { λ b. record {
       leases = leases_of b.list.items;
@@ -74,6 +77,7 @@ impl LeaseBook {
         ensures leases { result ≡ length self.now.leases }
         ensures cells { result ≡ length self.now.cells }
         ensures within { result ≤ self.now.room }
+        ensures ascend { IsStrictlySortedBy by_id self.now.leases }
     {
         self.list.len()
     }
@@ -83,6 +87,13 @@ impl LeaseBook {
         ensures { result ≡ self.now.room }
     {
         self.list.room()
+    }
+
+    /// The number from which IDs are chosen.
+    pub fn counter(&self) -> u64
+        ensures { result ≡ self.now.counter }
+    {
+        self.counter
     }
 
     /// The leases by ascending ID, each with the cell of its record.
@@ -95,7 +106,8 @@ impl LeaseBook {
 
     /// The lease with this ID.
     pub fn lease(&self, id: i64) -> Option<Lease>
-        ensures { result ≡ lease_at self.now.leases id }
+        ensures lease { result ≡ lease_at self.now.leases id }
+        ensures ttl { IfSome result (λ lease. int_le (pos lease.ttl) max_ttl ≡ true) }
     {
         let place = find(&self.list, id)?;
         Some(self.list.get(place).lease)

@@ -1,18 +1,29 @@
 -- How many cells are in use after a commit.
-use Rattle.std.proofs.Common.{◌≡◌, ℕ, ◌+◌, ◌≤◌, List, ap, sym, ◌∙◌, arith}
-use Rattle.std.specs.Prelude.{sum_by}
+use Rattle.std.proofs.Common.{◌≡◌, ℕ, ◌+◌, ◌*◌, ◌≤◌, List, ap, sym, ◌∙◌, arith}
+use Rattle.std.specs.Prelude.{length, sum_by, ℤ, true, IfSome, Option, Some, None, is_some}
+use Rattle.std.specs.List.Sorted.{IsStrictlySortedBy}
 use Rattle.etcd_types.specs.declared.key_value.KeyValue.{KeyValue}
 use Rattle.etcd_model.specs.Interval.{every_key}
 use Rattle.etcd_model.specs.Kept.{cost_delete}
 use Rattle.etcd_model.specs.Changes.{kept}
-use Rattle.etcd_model.specs.Store.{Store, IsStore, counted_cells, compact, record_cells, reserved_cells}
+use Rattle.etcd_model.specs.Store.{Store, IsStore, counted_cells, compact, kept_store, record_cells, reserved_cells}
+use Rattle.lease_book.proofs.Standing.{has_is}
+use Rattle.model_laws.proofs.CounterLaws.{renew_adds_none}
 use Rattle.model_laws.proofs.HistoryKeptLaws.{rows_kept}
 use Rattle.model_laws.proofs.SpaceLaws.{fewer_records}
 use Rattle.revision_store.specs.declared.plan.Write.{Write}
 use Rattle.revision_store.specs.Stored.{StoreState}
 use Rattle.quota_alarm.specs.declared.quota.Quota.{Quota}
-use Rattle.tenant_machine.specs.Tenants.{IsMachine}
-use Rattle.tenant_machine.specs.Plans.{FitsCompaction, FitsWrite, written}
+use Rattle.etcd_model.specs.declared.state.Lease.{Lease}
+use Rattle.etcd_model.specs.Held.{by_id}
+use Rattle.etcd_model.specs.Leases.{lease_at, put_lease}
+use Rattle.etcd_model.specs.Operations.{has_lease}
+use Rattle.etcd_model.specs.Stepping.{kept_alive}
+use Rattle.etcd_model.specs.Order.{put_in}
+use Rattle.lease_book.specs.Book.{Book}
+use Rattle.lease_book.specs.declared.granting.NewLease.{NewLease}
+use Rattle.tenant_machine.specs.Tenants.{IsMachine, MachineState, cells_used, tenant}
+use Rattle.tenant_machine.specs.Plans.{FitsCompaction, with_new_end, written}
 
 -- ---- a compaction
 
@@ -27,29 +38,82 @@ used_after s r within is = omega (arith, reserved_stays s r within is)
 -- ---- a machine after a commit
 
 -- after a write as many cells are in use as were planned
-pub machine_after_write : (store new : StoreState) (quota : Quota) (writes : List Write) (used : ℕ) → IsMachine store quota → FitsWrite store writes used
-    → new.kept ≡ written store writes → new.lease_cells ≡ store.lease_cells → new.share.reserved ≡ store.share.reserved → IsMachine new (record quota { used = used })
-machine_after_write store new quota writes used is fits kept leases reserved = record {
-  used = fits.counted ∙ ap counted_cells (sym kept);
-  leases = leases ∙ is.leases;
-  within = omega (arith, fits.within, reserved);
+pub machine_after_write : (store new : StoreState) (leases : Book) (moment : ℕ) (quota : Quota) (writes : List Write) (used : ℕ) → IsMachine store leases moment quota
+    → used ≡ cells_used (written store writes) leases.leases → used ≤ 64 * store.share.reserved
+    → new.kept ≡ written store writes → new.lease_cells ≡ store.lease_cells → new.share.reserved ≡ store.share.reserved → IsMachine new leases moment (record quota { used = used })
+machine_after_write store new leases moment quota writes used is counted within kept cells reserved = record {
+  used = counted ∙ ap (λ (s : Store). cells_used s leases.leases) (sym kept);
+  leases = cells ∙ is.leases;
+  room = omega (arith, is.room, reserved);
+  clock = is.clock;
+  within = omega (arith, within, reserved);
   allowed = omega (arith, is.allowed, reserved);
   few = omega (arith, is.few, reserved);
 }
 
 -- after a compaction the cells in use are fewer by those that records no longer take
-pub machine_after_compaction : (store new : StoreState) (quota : Quota) (revision used : ℕ) → IsMachine store quota → IsStore store.kept → FitsCompaction store revision
+pub machine_after_compaction : (store new : StoreState) (leases : Book) (moment : ℕ) (quota : Quota) (revision used : ℕ) → IsMachine store leases moment quota → IsStore store.kept → FitsCompaction store revision
     → new.kept ≡ compact store.kept revision → new.lease_cells ≡ store.lease_cells → new.share.reserved ≡ store.share.reserved
-    → used + record_cells store.kept.changes ≡ quota.used + record_cells new.kept.changes → IsMachine new (record quota { used = used })
-machine_after_compaction store new quota revision used is sound fits kept leases reserved falls =
+    → used + record_cells store.kept.changes ≡ quota.used + record_cells new.kept.changes → IsMachine new leases moment (record quota { used = used })
+machine_after_compaction store new leases moment quota revision used is sound fits kept cells reserved falls =
     let records = ap (λ (s : Store). record_cells s.changes) kept in
     let counted = ap counted_cells kept in
     let taken = used_after store.kept revision fits.within sound in
     let fewer : record_cells new.kept.changes ≤ record_cells store.kept.changes = omega (arith, records, fewer_records revision store.kept.changes) in
     record {
       used = omega (arith, falls, is.used, taken, records, counted);
-      leases = leases ∙ is.leases;
+      leases = cells ∙ is.leases;
+      room = omega (arith, is.room, reserved);
+      clock = is.clock;
       within = omega (arith, is.within, reserved, falls, fewer);
       allowed = omega (arith, is.allowed, reserved);
       few = omega (arith, is.few, reserved);
     }
+
+-- after a grant one more is
+pub machine_after_grant : (store new : StoreState) (leases after : Book) (moment : ℕ) (quota : Quota) → IsMachine store leases moment quota
+    → cells_used store.kept leases.leases + 1 ≤ 64 * store.share.reserved → new.kept ≡ store.kept → new.lease_cells ≡ store.lease_cells + 1 → new.share.reserved ≡ store.share.reserved
+    → length after.leases ≡ length leases.leases + 1 → after.room ≡ leases.room → IsMachine new after moment (record quota { used = quota.used + 1 })
+machine_after_grant store new leases after moment quota is within kept cells reserved count room = record {
+  used = omega (arith, is.used, ap counted_cells kept, count);
+  leases = omega (arith, cells, is.leases, count);
+  room = omega (arith, is.room, room, reserved);
+  clock = is.clock;
+  within = omega (arith, is.used, within, reserved);
+  allowed = omega (arith, is.allowed, reserved);
+  few = omega (arith, is.few, reserved);
+}
+
+-- new ends of leases change none of it
+pub machine_after_renewal : (store : StoreState) (leases after : Book) (moment : ℕ) (quota : Quota) → IsMachine store leases moment quota → length after.leases ≡ length leases.leases → after.room ≡ leases.room → IsMachine store after moment quota
+machine_after_renewal store leases after moment quota is count room = record {
+  used = omega (arith, is.used, count);
+  leases = omega (arith, is.leases, count);
+  room = room ∙ is.room;
+  clock = is.clock;
+  within = is.within;
+  allowed = is.allowed;
+  few = is.few;
+}
+
+-- the list with a lease that ends its time to live after the moment
+pub granted_is : (new : NewLease) (moment : ℕ) (leases : List Lease) → new.lease.end ≡ moment + new.lease.ttl → put_in by_id leases new.lease ≡ put_lease moment leases new.lease.id new.lease.ttl
+granted_is new moment leases end = ap (λ e. put_in by_id leases (record new.lease { end = e })) end
+
+-- a lease that is kept alive leaves as many
+pub kept_alive_adds_none : (moment : ℕ) (old new : Book) (id : ℤ) → IsStrictlySortedBy by_id old.leases → has_lease old.leases id ≡ true
+    → IfSome (lease_at old.leases id) (λ l. new.leases ≡ put_lease moment old.leases id l.ttl) → length new.leases ≡ length old.leases
+kept_alive_adds_none moment old new id ascend has is = by (lease_at old.leases id) (has_is old.leases id ∙ has) is
+  where
+    by : (o : Option Lease) → is_some o ≡ true → IfSome o (λ l. new.leases ≡ put_lease moment old.leases id l.ttl) → length new.leases ≡ length old.leases
+    by None there is = absurd (cc)
+    by (Some l) there is = ap (λ (ls : List Lease). length ls) is ∙ renew_adds_none moment old.leases id l.ttl ascend has
+
+-- and the tenant that the definition leaves
+pub renewed : (m : MachineState) (after : Book) (id : ℤ) → has_lease m.leases.leases id ≡ true
+    → IfSome (lease_at m.leases.leases id) (λ l. after.leases ≡ put_lease m.moment m.leases.leases id l.ttl) → after.counter ≡ m.leases.counter → tenant (record m { leases = after }) ≡ with_new_end m id
+renewed m after id has is counter = by (lease_at m.leases.leases id) (has_is m.leases.leases id ∙ has) is
+  where
+    by : (o : Option Lease) → is_some o ≡ true → IfSome o (λ l. after.leases ≡ put_lease m.moment m.leases.leases id l.ttl) → tenant (record m { leases = after }) ≡ (kept_alive kept_store (tenant m) id o).state
+    by None there is = absurd (cc)
+    by (Some l) there is = λ i. record (tenant m) { leases = is i; counter = counter i }

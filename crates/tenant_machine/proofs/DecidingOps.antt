@@ -1,22 +1,22 @@
 -- What is planned for an operation is what the machine does with it.
 use Rattle.std.proofs.Common.{◌≡◌, ℕ, ◌+◌, ◌<◌, ◌≤◌, List, [], Bool, true, false, refl, ap, sym, subst, ◌∙◌, arith, inl, inr, if◌then◌else◌}
-use Rattle.std.specs.Prelude.{Some, None, Result, Ok, Err, IfOk, MatchResult, nat_lt, ℤ, pos}
+use Rattle.std.specs.Prelude.{◌&&◌, not, Option, Some, None, Result, Ok, Err, IfOk, MatchResult, pos}
+use Rattle.std.specs.Ordering.{int_eq}
 use Rattle.std.proofs.lemmas.Bool.{cases_lt}
-use Rattle.std.proofs.lemmas.Bool.Decides.{nat_tests}
 use Rattle.etcd_types.specs.declared.kv.PutReq.{PutReq}
 use Rattle.etcd_types.specs.declared.kv.DeleteReq.{DeleteReq}
 use Rattle.etcd_types.specs.declared.txn.Op.{Op}
 use Rattle.etcd_types.specs.declared.txn.Op.TheVariants.{Range as RangeOp, Put as PutOp, Delete as DeleteOp, Nested}
 use Rattle.etcd_types.specs.declared.step.Step.TheVariants.{Put}
 use Rattle.etcd_types.specs.declared.refusal.Refusal.{Refusal}
-use Rattle.etcd_types.specs.declared.refusal.Refusal.TheVariants.{NoSpace}
+use Rattle.etcd_types.specs.declared.refusal.Refusal.TheVariants.{LeaseNotFound, NoSpace}
 use Rattle.etcd_types.specs.declared.reply.Reply.{Reply}
 use Rattle.etcd_types.specs.declared.reply.Reply.TheVariants.{Refused}
 use Rattle.etcd_model.specs.declared.state.Change.{Change}
-use Rattle.etcd_model.specs.declared.state.State.{State}
-use Rattle.etcd_model.specs.Operations.{changes, op_refusal, op_reply, put_refusal}
+use Rattle.etcd_model.specs.Fields.{refused_if}
+use Rattle.etcd_model.specs.Operations.{changes, has_lease, op_reply, put_refusal}
 use Rattle.etcd_model.specs.Reads.{Reads}
-use Rattle.etcd_model.specs.Stepping.{look_up, outcome, single, with_header, within_quota}
+use Rattle.etcd_model.specs.Stepping.{look_up, outcome, single, with_header}
 use Rattle.etcd_model.specs.Store.{IsStore, Store, after, counted_cells, kept_store}
 use Rattle.etcd_model.specs.Tenant.{Outcome, used}
 use Rattle.model_laws.proofs.SpaceLaws.{delete_takes_none}
@@ -24,11 +24,12 @@ use Rattle.revision_store.specs.Pending.{IsPlanOf}
 use Rattle.revision_store.specs.Stored.{StoreState, changes_of, look, reads}
 use Rattle.revision_store.specs.declared.plan.Write.{Write}
 use Rattle.revision_store.specs.declared.planning.PlannedOp.{PlannedOp}
+use Rattle.txn_plan.specs.Planned.{lease_refusal}
 use Rattle.tenant_machine.specs.Deciding.{Does, answer, header_at, past_gate}
 use Rattle.tenant_machine.specs.Tenants.{MachineState, tenant}
-use Rattle.tenant_machine.specs.Plans.{Plan, written}
+use Rattle.tenant_machine.specs.Plans.{Plan, used_after, written}
 use Rattle.tenant_machine.specs.declared.planned.Effect.TheVariants.{Alarm, Nothing, Write as WriteEffect}
-use Rattle.tenant_machine.proofs.Gates.{done_past_gate, refused_past_gate}
+use Rattle.tenant_machine.proofs.Gates.{done_past_gate, is_kept, passes, refused_past_gate}
 
 -- ---- one operation
 
@@ -51,35 +52,37 @@ does_as m p q o is does = subst (λ (x : Plan). Does m x o) (sym is) does
 
 -- ---- a put
 
--- there is no lease that it can name
-pub put_looked_up : (m : MachineState) (q : PutReq) → q.lease ≡ pos 0 → look_up kept_store (tenant m) (Put q) ≡ put_refusal (reads m.store) q
-put_looked_up m q none = ap (λ (l : ℤ). op_refusal [] (reads m.store) (PutOp (record q { lease = l }))) none
+-- the lease that it names is there
+put_looked_up : (m : MachineState) (q : PutReq) → lease_refusal m.leases.leases q.lease ≡ None → look_up kept_store (tenant m) (Put q) ≡ put_refusal (reads m.store) q
+put_looked_up m q none = by (not (int_eq q.lease (pos 0)) && not (has_lease m.leases.leases q.lease)) (put_refusal (reads m.store) q) none
+  where
+    by : (b : Bool) (o : Option Refusal) → refused_if b LeaseNotFound ≡ None → (if b then Some LeaseNotFound else o) ≡ o
+    by false o h = refl
+    by true o h = absurd (cc)
 
-put_is_kept : (t : State Store) (q : PutReq) (o : Outcome Store) → used kept_store o.state ≤ t.quota → within_quota kept_store t (Put q) o None ≡ o
-put_is_kept t q o within =
-    let is : nat_lt t.quota (used kept_store o.state) ≡ false = grind (arith, nat_tests) in
-    ap (λ (b : Bool). if b then record { state = record t { alarm = true }; reply = Refused NoSpace } else o) is
-
-put_passes : (t : State Store) (q : PutReq) (o : Outcome Store) → t.quota < used kept_store o.state → within_quota kept_store t (Put q) o None ≡ record { state = record t { alarm = true }; reply = Refused NoSpace }
-put_passes t q o past =
-    let is : nat_lt t.quota (used kept_store o.state) ≡ true = grind (arith, nat_tests) in
-    ap (λ (b : Bool). if b then record { state = record t { alarm = true }; reply = Refused NoSpace } else o) is
+-- or is not
+pub put_without_lease : (m : MachineState) (q : PutReq) (r : Refusal) → lease_refusal m.leases.leases q.lease ≡ Some r → look_up kept_store (tenant m) (Put q) ≡ Some r
+put_without_lease m q r refused = by (not (int_eq q.lease (pos 0)) && not (has_lease m.leases.leases q.lease)) (put_refusal (reads m.store) q) refused
+  where
+    by : (b : Bool) (o : Option Refusal) → refused_if b LeaseNotFound ≡ Some r → (if b then Some LeaseNotFound else o) ≡ Some r
+    by true o h = h
+    by false o h = absurd (cc)
 
 pub put_does : (m : MachineState) (q : PutReq) (writes : List Write) (reply : Reply) (p : Plan)
     → look_up kept_store (tenant m) (Put q) ≡ None → IsPlanOf m.store (PutOp q) writes → reply ≡ answer m (op_reply (reads m.store) (m.store.kept.current + 1) (PutOp q))
-    → (counted_cells (written m.store writes) ≤ m.quota → p ≡ record { effect = WriteEffect writes (counted_cells (written m.store writes)); reply = reply })
-    → (m.quota < counted_cells (written m.store writes) → p ≡ record { effect = Alarm true; reply = Refused NoSpace })
+    → (used_after m writes ≤ m.quota → p ≡ record { effect = WriteEffect writes (used_after m writes); reply = reply })
+    → (m.quota < used_after m writes → p ≡ record { effect = Alarm true; reply = Refused NoSpace })
     → Does m p (past_gate (tenant m) (Put q))
 put_does m q writes reply p none plan told admitted refused =
     let t = tenant m in
     let o = outcome kept_store t (Put q) in
-    let same : used kept_store o.state ≡ counted_cells (written m.store writes) = omega (arith, ap (λ (cs : List Change). counted_cells (after m.store.kept cs)) plan.changes) in
-    elim (cases_lt m.quota (counted_cells (written m.store writes))) [
+    let same : used kept_store o.state ≡ used_after m writes = omega (arith, ap (λ (cs : List Change). counted_cells (after m.store.kept cs)) plan.changes) in
+    elim (cases_lt m.quota (used_after m writes)) [
       | inr within ↦
-          subst (Does m p) (sym (done_past_gate t (Put q) none ∙ put_is_kept t q o (omega arith)))
-          (does_as m p _ o (admitted within) (op_does m (PutOp q) writes (counted_cells (written m.store writes)) reply plan.changes told))
+          subst (Does m p) (sym (done_past_gate t (Put q) none ∙ is_kept t (Put q) o (omega arith)))
+          (does_as m p _ o (admitted within) (op_does m (PutOp q) writes (used_after m writes) reply plan.changes told))
       | inl past ↦
-          subst (Does m p) (sym (done_past_gate t (Put q) none ∙ put_passes t q o (omega arith)))
+          subst (Does m p) (sym (done_past_gate t (Put q) none ∙ passes t (Put q) o refl (omega arith)))
           (does_as m p _ _ (refused past) (record { reply = refl; state = refl }))
     ]
 
@@ -92,13 +95,13 @@ pub record IsPutAnswer (store : StoreState) (q : PutReq) (answer : Result Planne
   pub plan : IfOk answer (λ planned. IsPlanOf store (PutOp q) planned.plan)
   pub reply : IfOk answer (λ planned. planned.reply ≡ op_reply (reads store) (store.kept.current + 1) (PutOp q))
 
-module _ (m : MachineState) (store : StoreState) (q : PutReq) (answered : Result PlannedOp Refusal) (same : store ≡ m.store) (none : q.lease ≡ pos 0) (says : IsPutAnswer store q answered) where
+module _ (m : MachineState) (store : StoreState) (q : PutReq) (answered : Result PlannedOp Refusal) (same : store ≡ m.store) (none : lease_refusal m.leases.leases q.lease ≡ None) (says : IsPutAnswer store q answered) where
   said_as : (a : Result PlannedOp Refusal) → answered ≡ a → IsPutAnswer m.store q a
   said_as a is = subst (IsPutAnswer m.store q) is (subst (λ (s : StoreState). IsPutAnswer s q answered) same says)
 
   pub put_planned_does : (planned : PlannedOp) (reply : Reply) (p : Plan) → answered ≡ Ok planned → reply ≡ answer m planned.reply
-      → (counted_cells (written m.store planned.plan) ≤ m.quota → p ≡ record { effect = WriteEffect planned.plan (counted_cells (written m.store planned.plan)); reply = reply })
-      → (m.quota < counted_cells (written m.store planned.plan) → p ≡ record { effect = Alarm true; reply = Refused NoSpace })
+      → (used_after m planned.plan ≤ m.quota → p ≡ record { effect = WriteEffect planned.plan (used_after m planned.plan); reply = reply })
+      → (m.quota < used_after m planned.plan → p ≡ record { effect = Alarm true; reply = Refused NoSpace })
       → Does m p (past_gate (tenant m) (Put q))
   put_planned_does planned reply p is told admitted refused =
       let said = said_as (Ok planned) is in

@@ -13,9 +13,10 @@ use Rattle.etcd_types.specs.declared.refusal.Refusal.{Refusal}
 use Rattle.etcd_types.specs.declared.refusal.Refusal.TheVariants.{NoSpace}
 use Rattle.etcd_types.specs.declared.reply.Reply.TheVariants.{Refused, Txn as TxnReply}
 use Rattle.etcd_model.specs.declared.state.Change.{Change}
+use Rattle.etcd_model.specs.declared.state.Lease.{Lease}
 use Rattle.etcd_model.specs.Compares.{all_hold}
 use Rattle.etcd_model.specs.Fields.{is_empty}
-use Rattle.etcd_model.specs.Operations.{adds_any, branch, ops_refusal}
+use Rattle.etcd_model.specs.Operations.{adds_any, branch}
 use Rattle.etcd_model.specs.Reads.{Reads}
 use Rattle.etcd_model.specs.Stepping.{transaction, within_quota, writes, writes_op}
 use Rattle.etcd_model.specs.Store.{IsStore, after, counted_cells, kept_store}
@@ -24,7 +25,7 @@ use Rattle.model_laws.proofs.RevisionLaws.{nothing_pending}
 use Rattle.model_laws.proofs.SpaceLaws.{no_put_takes_none}
 use Rattle.revision_store.specs.Stored.{StoreState, changes_of, look, reads}
 use Rattle.revision_store.specs.declared.plan.Write.{Write}
-use Rattle.txn_plan.specs.Planned.{IsTxn}
+use Rattle.txn_plan.specs.Planned.{IsTxn, txn_refusal}
 use Rattle.txn_plan.specs.declared.transaction.PlannedTxn.{PlannedTxn}
 use Rattle.tenant_machine.specs.Deciding.{Does, header_at, past_gate, txn_outcome}
 use Rattle.tenant_machine.specs.Tenants.{MachineState, tenant}
@@ -80,13 +81,13 @@ done_txn m q planned is = λ i.
     else record { state = record (tenant m) { store = after m.store.kept (is.changes i) }; reply = TxnReply (header_at m (is.revision i)) (is.succeeded i) (is.responses i) }
 
 -- what the store answers to a transaction
-pub record IsTxnAnswer (store : StoreState) (q : TxnReq) (answer : Result PlannedTxn Refusal) : Type 0 where
-  pub refusal : MatchResult answer (λ planned. ops_refusal [] (reads store) (branch (reads store) q) ≡ None) (λ refusal. ops_refusal [] (reads store) (branch (reads store) q) ≡ Some refusal)
+pub record IsTxnAnswer (leases : List Lease) (store : StoreState) (q : TxnReq) (answer : Result PlannedTxn Refusal) : Type 0 where
+  pub refusal : MatchResult answer (λ planned. txn_refusal leases store q ≡ None) (λ refusal. txn_refusal leases store q ≡ Some refusal)
   pub planned : IfOk answer (λ planned. IsTxn store q planned)
 
-module _ (m : MachineState) (store : StoreState) (q : TxnReq) (answered : Result PlannedTxn Refusal) (same : store ≡ m.store) (says : IsTxnAnswer store q answered) where
-  said_as : (a : Result PlannedTxn Refusal) → answered ≡ a → IsTxnAnswer m.store q a
-  said_as a is = subst (IsTxnAnswer m.store q) is (subst (λ (s : StoreState). IsTxnAnswer s q answered) same says)
+module _ (m : MachineState) (store : StoreState) (q : TxnReq) (answered : Result PlannedTxn Refusal) (leases : List Lease) (same : store ≡ m.store) (too : leases ≡ m.leases.leases) (says : IsTxnAnswer leases store q answered) where
+  said_as : (a : Result PlannedTxn Refusal) → answered ≡ a → IsTxnAnswer m.leases.leases m.store q a
+  said_as a is = subst (IsTxnAnswer m.leases.leases m.store q) is (subst (λ (s : StoreState). IsTxnAnswer m.leases.leases s q answered) same (subst (λ ls. IsTxnAnswer ls store q answered) too says))
 
   pub is_txn : (planned : PlannedTxn) → answered ≡ Ok planned → IsTxn m.store q planned
   is_txn planned is = (said_as (Ok planned) is).planned

@@ -1,6 +1,7 @@
 -- What refuses a step before anything is looked up, and what comes of a step that this lets through.
-use Rattle.std.proofs.Common.{◌≡◌, [], ◌∷◌, Bool, true, false, refl, ap, sym, subst, ◌∙◌, if◌then◌else◌}
-use Rattle.std.specs.Prelude.{◌&&◌, Option, Some, None, Result, IfOk}
+use Rattle.std.proofs.Common.{◌≡◌, ◌<◌, ◌≤◌, arith, nat_lt, [], ◌∷◌, Bool, true, false, refl, ap, sym, subst, ◌∙◌, if◌then◌else◌}
+use Rattle.std.specs.Prelude.{◌&&◌, ◌||◌, not, Option, Some, None, Result, IfOk}
+use Rattle.std.proofs.lemmas.Bool.Decides.{nat_tests}
 use Rattle.std.proofs.lemmas.Option.{same_Some}
 use Rattle.etcd_types.specs.declared.step.Step.{Step}
 use Rattle.etcd_types.specs.declared.refusal.Refusal.{Refusal}
@@ -10,9 +11,9 @@ use Rattle.etcd_model.specs.declared.state.State.{State}
 use Rattle.etcd_model.specs.Fields.{refused_if}
 use Rattle.etcd_model.specs.Offered.{built, is_offered}
 use Rattle.etcd_model.specs.Operations.{first_refusal}
-use Rattle.etcd_model.specs.Stepping.{decided, early, look_up, machine, may_add, outcome, unless_alarmed, within_quota}
+use Rattle.etcd_model.specs.Stepping.{adds, decided, early, look_up, machine, may_add, outcome, unless_alarmed, within_quota}
 use Rattle.etcd_model.specs.Store.{Store, kept_store}
-use Rattle.etcd_model.specs.Tenant.{Outcome, stays}
+use Rattle.etcd_model.specs.Tenant.{Outcome, reads, stays, used}
 use Rattle.tenant_machine.specs.Deciding.{Does, gate, past_gate}
 use Rattle.tenant_machine.specs.Tenants.{MachineState, tenant}
 use Rattle.tenant_machine.specs.Plans.{Plan}
@@ -70,6 +71,32 @@ module _ (t : State Store) (step : Step) where
   pub done_past_gate : look_up kept_store t step ≡ None → past_gate t step ≡ within_quota kept_store t step (outcome kept_store t step) None
   done_past_gate is = ap (λ (o : Option Refusal). within_quota kept_store t step (decided kept_store t step o) o) is
 
+-- ---- the quota
+
+-- what is within the quota then is done
+pub is_kept : (t : State Store) (step : Step) (o : Outcome Store) → used kept_store o.state ≤ t.quota → within_quota kept_store t step o None ≡ o
+is_kept t step o within =
+    let is : nat_lt t.quota (used kept_store o.state) ≡ false = grind (arith, nat_tests) in
+    by (adds (reads kept_store t) step) (nat_lt t.quota (used kept_store o.state)) is
+  where
+    by : (a b : Bool) → b ≡ false → (if a && b then record { state = record t { alarm = true }; reply = Refused NoSpace } else o) ≡ o
+    by false b h = refl
+    by true false h = refl
+    by true true h = absurd (cc)
+
+-- what adds and passes it raises the alarm
+pub passes : (t : State Store) (step : Step) (o : Outcome Store) → adds (reads kept_store t) step ≡ true → t.quota < used kept_store o.state → within_quota kept_store t step o None ≡ record { state = record t { alarm = true }; reply = Refused NoSpace }
+passes t step o adding past =
+    let is : nat_lt t.quota (used kept_store o.state) ≡ true = grind (arith, nat_tests) in
+    by (adds (reads kept_store t) step) (nat_lt t.quota (used kept_store o.state)) adding is
+  where
+    by : (a b : Bool) → a ≡ true → b ≡ true → (if a && b then record { state = record t { alarm = true }; reply = Refused NoSpace } else o) ≡ record { state = record t { alarm = true }; reply = Refused NoSpace }
+    by true true h k = refl
+    by false b h k = absurd (cc)
+    by true false h k = absurd (cc)
+
+-- ---- plans
+
 pub refused_is_built : (m : MachineState) (step : Step) (r : Refusal) (p : Plan) → is_offered step ≡ true → gate (tenant m) step ≡ Some r → p ≡ record { effect = Nothing; reply = Refused r } → Does m p (built kept_store (tenant m) step)
 refused_is_built m step r p offered is planned =
     subst (λ (q : Plan). Does m q (built kept_store (tenant m) step)) (sym planned)
@@ -86,3 +113,11 @@ pub let_through_is_built : {E : Type 0} (m : MachineState) (step : Step) (result
     → IfOk result (λ p. Does m p (past_gate (tenant m) step)) → IfOk result (λ p. Does m p (built kept_store (tenant m) step))
 let_through_is_built m step result offered is does =
     subst (λ (o : Outcome Store). IfOk result (λ p. Does m p o)) (sym (offered_is_built (tenant m) step offered ∙ let_through (tenant m) step is)) does
+
+-- a step that is sure, and that the gate lets through, takes no memory or is refused by what is looked up
+pub sure_past_gate : {P : Type 0} (takes offered gated found : Bool) → offered ≡ true → gated ≡ false → (takes ≡ false → P) → (found ≡ true → P) → (not takes || ((not offered || gated) || found)) ≡ true → P
+sure_past_gate false offered gated found a b free told h = free refl
+sure_past_gate true offered gated true a b free told h = told refl
+sure_past_gate true true false false a b free told h = absurd (cc)
+sure_past_gate true false gated false a b free told h = absurd (cc)
+sure_past_gate true true true false a b free told h = absurd (cc)

@@ -6,3 +6,4 @@ pub mod DecidingTxns
 pub mod Gates
 pub mod Holding
 pub mod Spoken
+mod DecidingLeases

@@ -1,5 +1,5 @@
 -- How a step is decided: the words of single parts.
-use Rattle.std.specs.Prelude.{◌≡◌, ◌&&◌, ◌||◌, not, Bool, ℤ, [], ◌∷◌, nat_lt, Option, is_some, true}
+use Rattle.std.specs.Prelude.{◌≡◌, ◌&&◌, ◌||◌, not, Bool, ℤ, pos, [], ◌∷◌, nat_lt, Option, is_some, true}
 use Rattle.std.specs.Prelude.{if◌then◌else◌}
 use Rattle.etcd_types.specs.declared.step.Step.{Step}
 use Rattle.etcd_types.specs.declared.refusal.Refusal.{Refusal}
@@ -8,7 +8,8 @@ use Rattle.etcd_types.specs.declared.reply.Header.{Header}
 use Rattle.etcd_types.specs.declared.reply.OpReply.{OpReply}
 use Rattle.etcd_types.specs.declared.reply.OpReply.TheVariants.{Range, Put, Delete}
 use Rattle.etcd_types.specs.declared.reply.Reply.{Reply}
-use Rattle.etcd_types.specs.declared.reply.Reply.TheVariants.{Refused, Txn}
+use Rattle.etcd_types.specs.declared.reply.Reply.TheVariants.{Granted, Refused, Txn}
+use Rattle.etcd_model.specs.declared.state.Lease.{Lease}
 use Rattle.etcd_model.specs.declared.state.State.{State}
 use Rattle.etcd_model.specs.Fields.{refused_if}
 use Rattle.etcd_model.specs.Offered.{is_offered}
@@ -18,7 +19,7 @@ use Rattle.etcd_model.specs.Store.{Store, kept_store}
 use Rattle.etcd_model.specs.Tenant.{Outcome, used}
 use Rattle.txn_plan.specs.declared.transaction.PlannedTxn.{PlannedTxn}
 use Rattle.tenant_machine.specs.Tenants.{MachineState, tenant}
-use Rattle.tenant_machine.specs.Plans.{Plan, after_effect, written}
+use Rattle.tenant_machine.specs.Plans.{Plan, after_effect, takes_memory, written}
 
 -- what refuses a step before anything is looked up: its fields, then numbers that are used up, then the alarm
 abbrev pub gate : State Store → Step → Option Refusal
@@ -28,6 +29,10 @@ gate t step = first_refusal (early kept_store t step ∷ refused_if (t.alarm && 
 -- what is looked up does
 abbrev pub is_stopped : State Store → Step → Bool
 is_stopped t step = not (is_offered step) || is_some (gate t step) || is_some (look_up kept_store t step)
+
+-- a step that is never answered by want of memory: it takes none, or it is stopped
+abbrev pub is_sure : State Store → Step → Bool
+is_sure t step = not (takes_memory step) || is_stopped t step
 
 -- what comes of a step that these let through: a refusal of what is looked up, or what it does, if
 -- it is within the quota
@@ -64,3 +69,7 @@ revision_of (Delete revision deleted prev_kvs) = revision
 -- an operation's answer, as that of its step
 abbrev pub answer : MachineState → OpReply → Reply
 answer m reply = with_header (header_at m (revision_of reply)) reply
+
+-- what a grant is answered
+abbrev pub granted : MachineState → Lease → Reply
+granted m lease = Granted (header_at m (pos m.store.kept.current)) lease.id (pos lease.ttl)

@@ -1,7 +1,7 @@
 -- What is planned for a step, and what its commit makes of a machine.
-use Rattle.std.specs.Prelude.{◌≡◌, ◌≢◌, ℕ, ◌*◌, ◌<◌, ◌≤◌, Bool, true, false, List}
+use Rattle.std.specs.Prelude.{◌≡◌, ◌≢◌, ℕ, ◌+◌, ◌*◌, ◌<◌, ◌≤◌, Bool, true, false, ℤ, List}
 use Rattle.etcd_types.specs.declared.step.Step.{Step}
-use Rattle.etcd_types.specs.declared.step.Step.TheVariants.{Compact, DropWatch, Revoke, KeepAlive, Alarm}
+use Rattle.etcd_types.specs.declared.step.Step.TheVariants.{Compact, DropWatch, Grant, Revoke, KeepAlive, Alarm}
 use Rattle.etcd_types.specs.declared.step.Step.TheVariants.{Status, Defragment, Tick, CatchUp}
 use Rattle.etcd_types.specs.declared.refusal.Refusal.TheVariants.{Memory}
 use Rattle.etcd_types.specs.declared.reply.Reply.{Reply}
@@ -12,11 +12,16 @@ use Rattle.etcd_model.specs.Store as kept
 use Rattle.etcd_model.specs.Store.{Store}
 use Rattle.etcd_model.specs.Held.{Holds}
 use Rattle.etcd_model.specs.Offered.{built_machine}
+use Rattle.etcd_model.specs.Leases.{lease_at, put_lease}
+use Rattle.etcd_model.specs.Operations.{has_lease}
+use Rattle.etcd_model.specs.Stepping.{kept_alive}
+use Rattle.lease_book.specs.Granting.{Fits as FitsBook}
+use Rattle.lease_book.specs.declared.granting.NewLease.{NewLease}
 use Rattle.revision_store.specs.Stored.{StoreState, CanCommit, changes_of}
 use Rattle.revision_store.specs.declared.plan.Write.{Write}
 use Rattle.tenant_machine.specs.declared.planned.Effect.{Effect}
 use Rattle.tenant_machine.specs.declared.planned.Effect.TheVariants as effect
-use Rattle.tenant_machine.specs.Tenants.{MachineState, tenant}
+use Rattle.tenant_machine.specs.Tenants.{MachineState, cells_used, tenant}
 
 -- what a commit does, and what it answers
 pub record Plan : Type 0 where
@@ -29,29 +34,55 @@ pub record Plan : Type 0 where
 abbrev pub written : StoreState → List Write → Store
 written store writes = kept.after store.kept (changes_of store writes)
 
+-- the cells that are in use then
+abbrev pub used_after : MachineState → List Write → ℕ
+used_after m writes = cells_used (written m.store writes) m.leases.leases
+
+-- the tenant with a lease that is granted
+abbrev pub with_lease : MachineState → NewLease → State Store
+with_lease m new = record (tenant m) {
+  leases = put_lease m.moment m.leases.leases new.lease.id new.lease.ttl;
+  counter = new.counter;
+}
+
+-- the tenant with a lease kept alive
+abbrev pub with_new_end : MachineState → ℤ → State Store
+with_new_end m id =
+    (kept_alive kept.kept_store (tenant m) id (lease_at m.leases.leases id)).state
+
 -- the tenant after an effect
 abbrev pub after_effect : MachineState → Effect → State Store
 after_effect m effect.Nothing = tenant m
 after_effect m (effect.Alarm on) = record (tenant m) { alarm = on }
 after_effect m (effect.Write writes used) = record (tenant m) { store = written m.store writes }
 after_effect m (effect.Compact revision) = record (tenant m) { store = kept.compact m.store.kept revision }
+after_effect m (effect.Grant new) = with_lease m new
+after_effect m (effect.Renew id) = with_new_end m id
 
 -- some writes that can be committed; so many cells are in use then
-pub record FitsWrite (store : StoreState) (writes : List Write) (used : ℕ) : Type 0 where
-  pub can : CanCommit store writes
-  pub counted : used ≡ kept.counted_cells (written store writes)
-  pub within : used ≤ 64 * store.share.reserved
+pub record FitsWrite (m : MachineState) (writes : List Write) (used : ℕ) : Type 0 where
+  pub can : CanCommit m.store writes
+  pub counted : used ≡ used_after m writes
+  pub within : used ≤ 64 * m.store.share.reserved
 
 -- a compaction that is one
 pub record FitsCompaction (store : StoreState) (revision : ℕ) : Type 0 where
   pub above : store.kept.compacted < revision
   pub within : revision ≤ store.kept.current
 
+-- a lease that the book can take up at the moment, with a cell for it
+pub record FitsGrant (m : MachineState) (new : NewLease) : Type 0 where
+  pub book : FitsBook m.leases new
+  pub end : new.lease.end ≡ m.moment + new.lease.ttl
+  pub within : cells_used m.store.kept m.leases.leases + 1 ≤ 64 * m.store.share.reserved
+
 abbrev pub FitsEffect : MachineState → Effect → Type 0
 FitsEffect m effect.Nothing = Unit {0}
 FitsEffect m (effect.Alarm on) = Unit {0}
-FitsEffect m (effect.Write writes used) = FitsWrite m.store writes used
+FitsEffect m (effect.Write writes used) = FitsWrite m writes used
 FitsEffect m (effect.Compact revision) = FitsCompaction m.store revision
+FitsEffect m (effect.Grant new) = FitsGrant m new
+FitsEffect m (effect.Renew id) = has_lease m.leases.leases id ≡ true
 
 -- the plan can be committed here
 abbrev pub Fits : MachineState → Plan → Type 0
@@ -84,6 +115,7 @@ pub record Steps (m : MachineState) (step : Step) (reply : Reply) (n : MachineSt
 abbrev pub takes_memory : Step → Bool
 takes_memory (Compact r) = false
 takes_memory (DropWatch i) = false
+takes_memory (Grant g) = false
 takes_memory (Revoke id) = false
 takes_memory (KeepAlive id) = false
 takes_memory (Alarm a) = false

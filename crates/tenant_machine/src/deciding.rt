@@ -2,14 +2,16 @@
 ghost use Rattle.std.specs.Prelude.{◌≡◌, ◌<◌, None, true, false, is_some, IfOk, IsOk};
 ghost use Rattle.etcd_model.specs.Offered.{is_offered};
 ghost use Rattle.etcd_model.specs.Store.{kept_store};
-ghost use Rattle.etcd_model.specs.Stepping.{look_up, may_add, writes};
-ghost use Rattle.tenant_machine.specs.Deciding.{Does, gate, is_stopped, past_gate};
+ghost use Rattle.etcd_model.specs.Fields.{refused_if};
+ghost use Rattle.etcd_model.specs.Stepping.{chooses_id, look_up, may_add, used_up, writes};
+ghost use Rattle.etcd_types.specs.declared.refusal.Refusal.TheVariants.{UsedUp};
+ghost use Rattle.tenant_machine.specs.Deciding.{Does, gate, is_sure, past_gate};
 ghost use Rattle.tenant_machine.specs.Tenants.{tenant};
 ghost use Rattle.tenant_machine.specs.Plans.{Fits, Plans, takes_memory};
 
 use crate::machine::Machine;
 use crate::planned::Planned;
-use etcd_types::limits::LAST_REVISION;
+use etcd_types::limits::{LAST_LEASE_ID, LAST_REVISION};
 use etcd_types::{Mem, Refusal, Step};
 use request_checks::{fields, is_offered};
 use std::alloc::Global;
@@ -21,8 +23,7 @@ impl Machine {
     pub fn plan(&self, alloc: Global, step: &Step) -> Mem<Planned>
         ensures plans { IfOk result (λ p. Plans self.now step.now p) }
         ensures fits { IfOk result (λ p. Fits self.now p) }
-        ensures sure { takes_memory step.now ≡ false → IsOk result }
-        ensures stopped { is_stopped (tenant self.now) step.now ≡ true → IsOk result }
+        ensures sure { is_sure (tenant self.now) step.now ≡ true → IsOk result }
     {
         if !is_offered(step) {
             return Ok(Planned::refused(Refusal::NotOffered));
@@ -33,21 +34,28 @@ impl Machine {
         }
     }
 
-    /// What refuses a step before anything is looked up: its fields, then revisions that are used
-    /// up, then the alarm.
+    /// What refuses a step before anything is looked up: its fields, then numbers that are used up, then
+    /// the alarm.
     fn gate(&self, step: &Step) -> Option<Refusal>
-        requires { is_offered step.now ≡ true }
         ensures { result ≡ gate (tenant self.now) step.now }
     {
         if let Some(refusal) = fields(step) {
             Some(refusal)
-        } else if self.store.current() >= LAST_REVISION && writes(step) {
+        } else if self.is_used_up(step) {
             Some(Refusal::UsedUp)
         } else if self.quota.alarm() && may_add(step) {
             Some(Refusal::NoSpace)
         } else {
             None
         }
+    }
+
+    /// Whether the revisions, or the IDs that a grant chooses from, are used up for a step.
+    fn is_used_up(&self, step: &Step) -> bool
+        ensures { used_up kept_store (tenant self.now) step.now ≡ refused_if result UsedUp }
+    {
+        (self.store.current() >= LAST_REVISION && writes(step))
+            || (self.leases.counter() >= LAST_LEASE_ID && chooses_id(step))
     }
 
     /// Decides a step that the gate lets through.
@@ -65,6 +73,9 @@ impl Machine {
             Step::Delete(request) => self.plan_delete(alloc, request),
             Step::Txn(request) => self.plan_txn(alloc, request),
             Step::Compact(revision) => Ok(self.plan_compaction(*revision)),
+            Step::Grant(request) => Ok(self.plan_grant(request)),
+            Step::KeepAlive(id) => Ok(self.plan_keep_alive(*id)),
+            Step::Leases => self.plan_leases(alloc),
             Step::Alarm(request) => Ok(self.plan_alarm(request)),
             Step::Status => Ok(self.plan_status()),
             Step::Defragment => Ok(self.plan_defragment()),
@@ -75,7 +86,6 @@ impl Machine {
 
 /// Whether a step may write a revision: a put, a delete, or a transaction with either in any branch.
 fn writes(step: &Step) -> bool
-    requires { is_offered step.now ≡ true }
     ensures { result ≡ writes step.now }
 {
     match step {
@@ -87,13 +97,22 @@ fn writes(step: &Step) -> bool
     }
 }
 
-/// Whether a step may take space: a put, or a transaction with one in any branch.
+/// Whether a step is a grant whose ID is to be chosen.
+fn chooses_id(step: &Step) -> bool
+    ensures { result ≡ chooses_id step.now }
+{
+    match step {
+        Step::Grant(request) => request.id == 0,
+        _ => false,
+    }
+}
+
+/// Whether a step may take space: a put, a transaction with one in any branch, or a grant.
 fn may_add(step: &Step) -> bool
-    requires { is_offered step.now ≡ true }
     ensures { result ≡ may_add step.now }
 {
     match step {
-        Step::Put(_) => true,
+        Step::Put(_) | Step::Grant(_) => true,
         Step::Txn(request) => {
             adds_any(request.success.as_slice()) || adds_any(request.failure.as_slice())
         }

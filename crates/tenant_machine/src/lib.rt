@@ -5,6 +5,7 @@
 #![tactic(auto)]
 
 mod deciding;
+mod leasing;
 mod machine;
 mod maintenance;
 mod operations;

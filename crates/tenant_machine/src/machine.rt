@@ -1,5 +1,5 @@
 //! One tenant's machine.
-ghost use Rattle.std.specs.Prelude.{◌≡◌, ◌≢◌, ◌+◌, ◌-◌, ◌≤◌, ◌≤ℤ◌, ℕ, pos, true, false, IfOk};
+ghost use Rattle.std.specs.Prelude.{◌≡◌, ◌≢◌, ◌+◌, ◌-◌, ◌≤◌, ◌≤ℤ◌, ℕ, pos, true, IfOk};
 ghost use Rattle.etcd_types.specs.Limits.{last_revision, max_quota, min_quota};
 ghost use Rattle.etcd_types.specs.declared.reply.Reply.TheVariants.{Refused};
 ghost use Rattle.etcd_types.specs.declared.refusal.Refusal.TheVariants.{Memory};
@@ -8,15 +8,17 @@ ghost use Rattle.etcd_model.specs.Machine.{opening};
 ghost use Rattle.etcd_model.specs.Held.{Holds};
 ghost use Rattle.etcd_model.specs.Store.{kept_store, reserved_cells};
 ghost use Rattle.etcd_model.specs.Tenant.{used};
-ghost use Rattle.tenant_machine.specs.Deciding.{is_stopped};
+ghost use Rattle.tenant_machine.specs.Deciding.{is_sure};
 ghost use Rattle.tenant_machine.specs.Tenants.{tenant};
-ghost use Rattle.tenant_machine.specs.Plans.{Fits, FitsCompaction, FitsWrite, IsAfter, Steps};
-ghost use Rattle.tenant_machine.specs.Plans.{takes_memory, written};
+ghost use Rattle.tenant_machine.specs.Plans.{Fits, FitsCompaction, FitsGrant, FitsWrite, IsAfter, Steps};
+ghost use Rattle.tenant_machine.specs.Plans.{with_lease, with_new_end, written};
+ghost use Rattle.etcd_model.specs.Operations.{has_lease};
 
 use crate::planned::{Effect, Planned};
 use cell_arena::Segments;
 use etcd_types::limits::SEGMENT_CELLS;
 use etcd_types::{Mem, Refusal, Reply, Step};
+use lease_book::{LeaseBook, NewLease};
 use quota_alarm::Quota;
 use revision_store::{Plan, Store};
 use std::alloc::Global;
@@ -27,7 +29,10 @@ use std::marker::Model;
 pub struct Machine {
     cluster: u64,
     pub(crate) store: Store,
-    /// The cells of what the store keeps, and room for a delete of each live key, are in use.
+    pub(crate) leases: LeaseBook,
+    /// The seconds of its clock.
+    pub(crate) moment: u64,
+    /// The cells of what the store keeps, room for a delete of each live key, and one a lease are in use.
     pub(crate) quota: Quota,
 }
 
@@ -38,9 +43,9 @@ impl Model for Machine {
 
     ghost coded = { machine_code };
 
-    ghost view = { λ m. machine_of m.cluster m.store m.quota };
+    ghost view = { λ m. machine_of m.cluster m.store m.leases m.moment m.quota };
 
-    ghost invariant = { λ m. IsMachine m.store m.quota };
+    ghost invariant = { λ m. IsMachine m.store m.leases m.moment m.quota };
 }
 
 /// The segments that a quota of so many cells takes.
@@ -65,6 +70,8 @@ impl Machine {
         Ok(Machine {
             cluster,
             store: Store::new(alloc, cells, first as u64)?,
+            leases: LeaseBook::new(alloc, cells)?,
+            moment: 0,
             quota: Quota::new(quota),
         })
     }
@@ -86,6 +93,8 @@ impl Machine {
             Effect::Alarm(false) => self.quota.clear(),
             Effect::Write { plan, used } => self.write(segments, plan, used),
             Effect::Compact(revision) => self.compact(segments, revision),
+            Effect::Grant(new) => self.grant(segments, new),
+            Effect::Renew(id) => self.renew(id),
         }
         reply
     }
@@ -94,8 +103,7 @@ impl Machine {
     pub fn step<S: Segments>(&mut self, alloc: Global, segments: &mut S, step: &Step) -> Reply
         requires lent { IsLent self.old.store.share (S.loan segments.old) }
         ensures steps { Steps self.old step.now result self.new }
-        ensures sure { takes_memory step.now ≡ false → result ≢ Refused Memory }
-        ensures stopped { is_stopped (tenant self.old) step.now ≡ true → result ≢ Refused Memory }
+        ensures sure { is_sure (tenant self.old) step.now ≡ true → result ≢ Refused Memory }
         ensures settles { Settles self.old.store.share (S.loan segments.old)
             self.new.store.share (S.loan segments.new) }
     {
@@ -124,7 +132,7 @@ impl Machine {
 
     /// Makes changes one more revision, after which so many cells are in use.
     fn write<S: Segments>(&mut self, segments: &mut S, plan: Plan, used: u64)
-        requires fits { FitsWrite self.old.store plan used }
+        requires fits { FitsWrite self.old plan used }
         requires lent { IsLent self.old.store.share (S.loan segments.old) }
         ensures tenant { tenant self.new ≡ record (tenant self.old) { store = written self.old.store plan } }
         ensures settles { Settles self.old.store.share (S.loan segments.old)
@@ -149,5 +157,33 @@ impl Machine {
         self.store.compact(segments, revision);
         let freed = before - self.store.used_cells();
         self.quota.used -= u64::from(freed);
+    }
+
+    /// Takes up a lease, with a record of it in a cell, which is in use then.
+    fn grant<S: Segments>(&mut self, segments: &mut S, new: NewLease)
+        requires fits { FitsGrant self.old new }
+        requires lent { IsLent self.old.store.share (S.loan segments.old) }
+        ensures tenant { tenant self.new ≡ with_lease self.old new }
+        ensures settles { Settles self.old.store.share (S.loan segments.old)
+            self.new.store.share (S.loan segments.new) }
+    {
+        // The store tells with its revision that it is sound.
+        self.store.current();
+        let cell = self
+            .store
+            .place_lease(segments, new.lease.id, new.lease.ttl);
+        self.leases.grant(new, cell);
+        self.quota.used += 1;
+    }
+
+    /// Gives a lease that is there the end that it would have if it was granted now.
+    fn renew(&mut self, id: i64)
+        requires { has_lease self.old.leases.leases id ≡ true }
+        ensures tenant { tenant self.new ≡ with_new_end self.old id }
+        ensures store { self.new.store ≡ self.old.store }
+    {
+        // The book tells with its count that its leases ascend.
+        self.leases.len();
+        self.leases.renew(id, self.moment);
     }
 }

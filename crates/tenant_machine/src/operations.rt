@@ -10,7 +10,7 @@ ghost use Rattle.etcd_model.specs.Store as kept;
 ghost use Rattle.revision_store.specs.Stored.{IsPlanFor};
 ghost use Rattle.tenant_machine.specs.Deciding.{Does, answer, header_at, past_gate, txn_outcome};
 ghost use Rattle.tenant_machine.specs.Tenants.{tenant};
-ghost use Rattle.tenant_machine.specs.Plans.{Fits, written};
+ghost use Rattle.tenant_machine.specs.Plans.{Fits, used_after, written};
 
 use crate::machine::Machine;
 use crate::planned::{Effect, Planned};
@@ -40,7 +40,7 @@ impl Machine {
             → IsOk result }
         ensures fits { IfOk result (λ p. Fits self.now p) }
     {
-        if let Some(refusal) = lease_refusal(request.lease) {
+        if let Some(refusal) = lease_refusal(&self.leases, request.lease) {
             return Ok(Planned::refused(refusal));
         }
         Ok(match self.store.plan_put(alloc, request)? {
@@ -86,10 +86,12 @@ impl Machine {
     {
         // The store tells with its revision that it is sound.
         self.store.current();
-        Ok(match txn_plan::plan(alloc, &self.store, request)? {
-            Ok(planned) => self.transaction(planned),
-            Err(refusal) => Planned::refused(refusal),
-        })
+        Ok(
+            match txn_plan::plan(alloc, &self.store, &self.leases, request)? {
+                Ok(planned) => self.transaction(planned),
+                Err(refusal) => Planned::refused(refusal),
+            },
+        )
     }
 
     /// What comes of a transaction that is not refused. The quota is asked where the branch that is
@@ -129,12 +131,9 @@ impl Machine {
     fn within_quota(&self, plan: Plan, reply: Reply) -> Planned
         requires plan { IsPlanFor self.now.store plan }
         requires revisions { self.now.store.kept.current < last_revision }
-        ensures admitted { kept.counted_cells (written self.now.store plan) ≤ self.now.quota
-            → result ≡ record {
-              effect = Effect.Write plan (kept.counted_cells (written self.now.store plan));
-              reply = reply;
-            } }
-        ensures refused { self.now.quota < kept.counted_cells (written self.now.store plan)
+        ensures admitted { used_after self.now plan ≤ self.now.quota
+            → result ≡ record { effect = Effect.Write plan (used_after self.now plan); reply = reply } }
+        ensures refused { self.now.quota < used_after self.now plan
             → result ≡ record { effect = Effect.Alarm true; reply = Refused NoSpace } }
         ensures fits { Fits self.now result }
     {
@@ -154,7 +153,7 @@ impl Machine {
     fn writing(&self, plan: Plan, reply: Reply, used: u64) -> Planned
         requires plan { IsPlanFor self.now.store plan }
         requires revisions { self.now.store.kept.current < last_revision }
-        requires used { used ≡ kept.counted_cells (written self.now.store plan) }
+        requires used { used ≡ used_after self.now plan }
         requires within { used ≤ 64 * self.now.store.share.reserved }
         ensures planned { result ≡ record { effect = Effect.Write plan used; reply = reply } }
         ensures fits { Fits self.now result }

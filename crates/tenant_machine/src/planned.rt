@@ -3,6 +3,7 @@ ghost use Rattle.std.specs.Prelude.{◌≡◌};
 ghost use Rattle.etcd_types.specs.declared.reply.Reply.TheVariants.{Refused};
 
 use etcd_types::{Refusal, Reply};
+use lease_book::NewLease;
 use revision_store::Plan;
 use std::marker::Model;
 
@@ -16,6 +17,10 @@ pub(crate) enum Effect {
     Write { plan: Plan, used: u64 },
     /// What reads below this revision need is forgotten.
     Compact(u64),
+    /// A lease is granted.
+    Grant(NewLease),
+    /// The lease with this ID, which is there, gets the end that it would have if it was granted now.
+    Renew(i64),
 }
 
 /// A step that is decided: its reply, and what its commit does.

@@ -1,14 +1,14 @@
 -- What a fold over operations keeps.
-use Rattle.std.specs.Prelude.{◌≡◌, ◌+◌, ◌<◌, ◌^◌, ◌++◌, [], true, false, None, List}
+use Rattle.std.specs.Prelude.{◌≡◌, ◌+◌, ◌<◌, ◌^◌, ◌++◌, [], true, false, List}
 use Rattle.std.specs.List.{AllByRecursion, list_any}
 use Rattle.etcd_types.specs.declared.txn.Op.{Op}
 use Rattle.etcd_types.specs.declared.reply.OpReply.{OpReply}
 use Rattle.etcd_model.specs.declared.state.Change.{Change}
 use Rattle.etcd_model.specs.Fields.{has_duplicate, is_nested}
-use Rattle.etcd_model.specs.Operations.{ops_refusal, pending_after, replies}
+use Rattle.etcd_model.specs.Operations.{pending_after, replies}
 use Rattle.etcd_model.specs.Stepping.{writes_op}
 use Rattle.revision_store.specs.Stored.{StoreState, look, reads}
-use Rattle.txn_plan.specs.Planned.{IsApart}
+use Rattle.txn_plan.specs.Planned.{IsApart, IsReadable}
 
 -- what is pending keeps none of some operations from being done
 abbrev pub AllApart : List Change → List Op → Type 0
@@ -23,5 +23,5 @@ pub record GoesOn
   pub apart : AllApart pending left
   pub distinct : has_duplicate left ≡ false
   pub offered : list_any is_nested left ≡ false
-  pub readable : ops_refusal [] (reads store) left ≡ None
+  pub readable : AllByRecursion (IsReadable (reads store)) left
   pub revisions : list_any writes_op left ≡ true → store.kept.current + 1 < 2 ^ 63

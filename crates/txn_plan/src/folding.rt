@@ -1,12 +1,11 @@
 //! Operations one after another, each over what the ones before it change.
-ghost use Rattle.std.specs.Prelude.{◌≡◌, ◌+◌, ◌<◌, ◌^◌, [], true, false, None, IfOk, OnOk};
-ghost use Rattle.std.specs.List.{list_any};
+ghost use Rattle.std.specs.Prelude.{◌≡◌, ◌+◌, ◌<◌, ◌^◌, [], true, false, IfOk, OnOk};
+ghost use Rattle.std.specs.List.{AllByRecursion, list_any};
 ghost use Rattle.etcd_model.specs.Fields.{has_duplicate, is_nested};
-ghost use Rattle.etcd_model.specs.Operations.{and_changes, op_refusal, op_reply, ops_refusal, pending_after};
-ghost use Rattle.etcd_model.specs.Operations.{replies};
+ghost use Rattle.etcd_model.specs.Operations.{and_changes, op_reply, pending_after, replies};
 ghost use Rattle.etcd_model.specs.Stepping.{writes_op};
 ghost use Rattle.revision_store.specs.Stored.{look, reads};
-ghost use Rattle.txn_plan.specs.Planned.{IsApart};
+ghost use Rattle.txn_plan.specs.Planned.{IsApart, IsReadable};
 
 use etcd_types::{List, Mem, Op, OpReply};
 use revision_store::{Pending, Store};
@@ -23,7 +22,7 @@ pub(crate) struct Folded<'a> {
 pub(crate) fn fold<'a>(alloc: Global, store: &'a Store, ops: &'a [Op]) -> Mem<Folded<'a>>
     requires distinct { has_duplicate ops.now ≡ false }
     requires offered { list_any is_nested ops.now ≡ false }
-    requires readable { ops_refusal [] (reads store.now) ops.now ≡ None }
+    requires readable { AllByRecursion (IsReadable (reads store.now)) ops.now }
     requires revisions { list_any writes_op ops.now ≡ true → store.now.kept.current + 1 < 2 ^ 63 }
     ensures changes { IfOk result (λ folded. folded.pending ≡
         record { store = store.now; changes = pending_after (look store.now) [] ops.now }) }
@@ -43,7 +42,7 @@ pub(crate) fn fold<'a>(alloc: Global, store: &'a Store, ops: &'a [Op]) -> Mem<Fo
 fn add<'a>(alloc: Global, pending: &mut Pending<'a>, op: &'a Op) -> Mem<OpReply>
     requires apart { IsApart op.now pending.old.changes }
     requires offered { is_nested op.now ≡ false }
-    requires readable { op_refusal [] (reads pending.old.store) op.now ≡ None }
+    requires readable { IsReadable (reads pending.old.store) op.now }
     requires revisions { writes_op op.now ≡ true → pending.old.store.kept.current + 1 < 2 ^ 63 }
     ensures changes { OnOk result (pending.new ≡ record {
       store = pending.old.store;

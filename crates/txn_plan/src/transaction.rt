@@ -1,17 +1,16 @@
 //! Plans of transactions.
-ghost use Rattle.std.specs.Prelude.{◌≡◌, ◌+◌, ◌<◌, ◌^◌, ◌++◌, [], true, None, Some, is_some, IfOk, IsOk};
+ghost use Rattle.std.specs.Prelude.{◌≡◌, ◌+◌, ◌<◌, ◌^◌, ◌++◌, true, None, Some, is_some, IfOk, IsOk};
 ghost use Rattle.std.specs.Prelude.{MatchResult};
 ghost use Rattle.std.specs.List.{list_any};
 ghost use Rattle.etcd_model.specs.Fields.{txn_fields};
-ghost use Rattle.etcd_model.specs.Operations.{branch, ops_refusal};
 ghost use Rattle.etcd_model.specs.Stepping.{writes_op};
-ghost use Rattle.revision_store.specs.Stored.{reads};
-ghost use Rattle.txn_plan.specs.Planned.{IsTxn};
+ghost use Rattle.txn_plan.specs.Planned.{IsTxn, txn_refusal};
 
 use crate::branch::{adds_any, all_hold, branch};
 use crate::folding::{Folded, fold};
 use crate::refusal::ops_refusal;
 use etcd_types::{List, Mem, OpReply, Refusal, TxnReq};
+use lease_book::LeaseBook;
 use revision_store::{Plan, Store};
 use std::alloc::Global;
 
@@ -33,20 +32,24 @@ pub struct PlannedTxn {
 /// Decides a transaction that its fields don't refuse. It is refused by the first operation of the branch
 /// that is taken which the store refuses as it is before all of them, and that takes no memory. Nothing
 /// changes.
-pub fn plan(alloc: Global, store: &Store, request: &TxnReq) -> Mem<Result<PlannedTxn, Refusal>>
+pub fn plan(
+    alloc: Global,
+    store: &Store,
+    leases: &LeaseBook,
+    request: &TxnReq,
+) -> Mem<Result<PlannedTxn, Refusal>>
     requires fields { txn_fields request.now ≡ None }
     requires revisions { list_any writes_op (request.now.success ++ request.now.failure) ≡ true
         → store.now.kept.current + 1 < 2 ^ 63 }
     ensures refusal { IfOk result (λ answer. MatchResult answer
-        (λ planned. ops_refusal [] (reads store.now) (branch (reads store.now) request.now) ≡ None)
-        (λ refusal. ops_refusal [] (reads store.now) (branch (reads store.now) request.now) ≡ Some refusal)) }
-    ensures sure { is_some (ops_refusal [] (reads store.now) (branch (reads store.now) request.now)) ≡ true
-        → IsOk result }
+        (λ planned. txn_refusal leases.now.leases store.now request.now ≡ None)
+        (λ refusal. txn_refusal leases.now.leases store.now request.now ≡ Some refusal)) }
+    ensures sure { is_some (txn_refusal leases.now.leases store.now request.now) ≡ true → IsOk result }
     ensures planned { IfOk result (λ answer. IfOk answer (λ planned. IsTxn store.now request.now planned)) }
 {
     let succeeded = all_hold(store, request.compare.as_slice());
     let ops = branch(request, succeeded);
-    if let Some(refusal) = ops_refusal(store, ops) {
+    if let Some(refusal) = ops_refusal(store, leases, ops) {
         return Ok(Err(refusal));
     }
     let Folded { pending, replies } = fold(alloc, store, ops)?;

@@ -1,9 +1,13 @@
-use Rattle.std.proofs.Common.{◌≡◌, ◌<◌, ◌^◌, ◌∙◌, ap, arith}
+use Rattle.std.proofs.Common.{◌≡◌, ◌<◌, ◌^◌, ◌∙◌, ap, sym, arith}
 use Rattle.etcd_model.specs.Compares.{all_hold}
 use Rattle.revision_store.specs.Stored.{reads}
 use Rattle.revision_store.specs.Pending.{pending_reads}
+use Rattle.txn_plan.proofs.Going.{all_readable}
 use Rattle.txn_plan.proofs.Whole.{is_planned}
 use Rattle.txn_plan.proofs.transaction.plan.Goals as goal
+
+pub fold-requires-clause-readable : goal.fold-requires-clause-readable
+fold-requires-clause-readable c = all_readable c.args.leases.now.leases (reads c.args.store.now) c.branch-ops.result.now (sym c.in_default.ensures)
 
 pub returns-clause-planned : goal.returns-clause-planned
 returns-clause-planned c =

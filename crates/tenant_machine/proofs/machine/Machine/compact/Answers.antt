@@ -16,5 +16,5 @@ invariant_of-self g c =
     let store = c.self.inside.store in
     let fits = subst (λ m. FitsCompaction m.store c.args.revision) (sym c.self.view_is) c.requires.fits in
     let fewer = fewer_records c.args.revision store.kept.changes in
-    machine_after_compaction store c.compact.new.self c.self.inside.quota c.args.revision _ c.self.invariant c.current.ensures.sound.kept fits c.compact.ensures.kept c.compact.ensures.lease_cells c.compact.ensures.settles.reserved
+    machine_after_compaction store c.compact.new.self c.self.inside.leases c.self.inside.moment c.self.inside.quota c.args.revision _ c.self.invariant c.current.ensures.sound.kept fits c.compact.ensures.kept c.compact.ensures.lease_cells c.compact.ensures.settles.reserved
     (omega (arith, fewer, c.self.invariant.used, ap (λ (s : Store). record_cells s.changes) c.compact.ensures.kept, c.compact.ensures.lease_cells, c.used_cells.ensures, c.used_cells-before.ensures, c.from.ensures))

@@ -12,8 +12,8 @@ use Rattle.tenant_machine.proofs.machine.Machine.new.Goals as goal
 pub returns-clause-holds : goal.returns-clause-holds
 returns-clause-holds c = λ n is.
     let kept = ap (λ (s : StoreState). s.kept) c.in_ok-new.ensures ∙ ap (λ (z : ℤ). empty_store (nat_abs z)) (to_z-of_z w64 c.args.first c.ranges.first ∙ is) in
-    let machine : MachineState = record { cluster = c.args.cluster; quota = c.new-2.result.cells; store = c.in_ok-new.field-0; alarm = c.new-2.result.alarm } in
-    opened machine c.args.cluster c.args.quota n refl (ap (λ (q : Quota). q.cells) c.new-2.ensures) kept (ap (λ (q : Quota). q.alarm) c.new-2.ensures)
+    let machine : MachineState = record { cluster = c.args.cluster; quota = c.new-3.result.cells; store = c.in_ok-new.field-0; leases = c.in_ok-new-2.field-0; moment = 0; alarm = c.new-3.result.alarm } in
+    opened machine c.args.cluster c.args.quota n refl (ap (λ (q : Quota). q.cells) c.new-3.ensures) kept _ c.in_ok-new-2.ensures refl (ap (λ (q : Quota). q.alarm) c.new-3.ensures)
 
 pub returns-clause-share : goal.returns-clause-share
 returns-clause-share c =

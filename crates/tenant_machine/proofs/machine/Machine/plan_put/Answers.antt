@@ -1,4 +1,5 @@
-use Rattle.std.proofs.Common.{◌≡◌, ◌∙◌, ap, of_z, rules, sym, to_z, w64}
+use Rattle.std.proofs.Common.{◌≡◌, ◌∙◌, None, ap, of_z, rules, subst, sym, to_z, w64}
+use Rattle.txn_plan.specs.Planned.{lease_refusal}
 use Rattle.tenant_machine.specs.Tenants.{MachineState}
 use Rattle.tenant_machine.proofs.DecidingOps.{IsPutAnswer, put_planned_does, put_refused_does}
 use Rattle.tenant_machine.proofs.machine.Machine.plan_put.Goals.{in-Ok, in-Err}
@@ -10,7 +11,8 @@ returns-clause-does c =
     let q = c.args.request.now in
     let same = ap (λ (m : MachineState). m.store) c.self.view_is in
     let bits : to_z w64 (of_z w64 q.lease) ≡ q.lease = search rules in
-    let none = sym bits ∙ c.in_default.ensures in
+    let unknown = lease_refusal c.self.inside.leases.leases in
+    let none = subst (λ (n : MachineState). lease_refusal n.leases.leases q.lease ≡ None) c.self.view_is (ap unknown (sym bits) ∙ sym c.in_default.ensures) in
     let says : IsPutAnswer c.self.inside.store q c.in_ok-plan.field-0 = record { refusal = c.in_ok-plan.ensures.refusal; plan = c.in_ok-plan.ensures.plan; reply = c.in_ok-plan.ensures.reply } in
     elim c.match-branch-2.branch [
       | in-Ok w ↦
