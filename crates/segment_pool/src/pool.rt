@@ -279,7 +279,8 @@ impl Pool {
         Vec::from_slice(alloc, self.owners.as_slice())
     }
 
-    fn unreserved(&self) -> u32
+    /// How many segments no ticket reserves.
+    pub fn unreserved(&self) -> u32
         ensures { self.now.promised + result ≡ self.now.free }
     {
         self.free.len() as u32 - self.promised

@@ -15,7 +15,7 @@ use Rattle.etcd_model.specs.Pool.{PoolState, TicketState, IsHeld, AddsUp, IsLeas
 use Rattle.segment_pool.specs.declared.desk.Desk.{Desk}
 use Rattle.tenant_machine.specs.Tenants.{tenant}
 use Rattle.steps_core.specs.declared.tenant.Tenant.{Tenant}
-use Rattle.steps_core.specs.declared.host.OperatorFault.TheVariants.{Taken, Short}
+use Rattle.steps_core.specs.declared.adding.OperatorFault.TheVariants.{Taken, Short}
 use Rattle.steps_core.specs.Hosts.{HostState, machine_at, reserved_segments}
 use Rattle.steps_core.specs.Sound.{Agrees, IsIdle, IsHost, host_of, ticket_number, drawn_by, reserved_by}
 use Rattle.steps_core.specs.Adding.{first_fault, within_limits, Adds}
@@ -141,6 +141,19 @@ short_fault named limits many taken short a b c d e = rw (a, b, c, d, e) refl
 
 pub no_fault : (named limits many taken short : Bool) → named ≡ true → limits ≡ true → many ≡ false → taken ≡ false → short ≡ false → first_fault (not named) (not limits || many) taken short ≡ None
 no_fault named limits many taken short a b c d e = rw (a, b, c, d, e) refl
+
+-- if none of four faults is the first, none is there
+pub no_faults : (name limits taken short : Bool) → first_fault name limits taken short ≡ None → (name ≡ false) × ((limits ≡ false) × ((taken ≡ false) × (short ≡ false)))
+no_faults false false false false h = (refl, (refl, (refl, refl)))
+no_faults true limits taken short h = absurd (cc)
+no_faults false true taken short h = absurd (cc)
+no_faults false false true short h = absurd (cc)
+no_faults false false false true h = absurd (cc)
+
+pub neither : (a b : Bool) → (not a || b) ≡ false → (a ≡ true) × (b ≡ false)
+neither true false h = (refl, refl)
+neither true true h = absurd (cc)
+neither false b h = absurd (cc)
 
 pub absent : {X : Type 0} (o : Option X) → is_some o ≡ false → o ≡ None
 absent None h = refl

@@ -1,5 +1,6 @@
 -- A run goes on step by step.
-use Rattle.std.proofs.Common.{◌≡◌, ◌≢◌, ◌∙◌, sym, ap, subst, refl, ℕ, ◌+◌, ◌<◌, Bool, true, false, cond, not, ◌&&◌, List, [], ◌∷◌, ◌++◌, Option, None, Some, is_some, Vec, length, take, get_or, true≢false, arith, length-take-le}
+use Rattle.std.proofs.Common.{◌≡◌, ◌≢◌, ◌∙◌, sym, ap, subst, refl, ℕ, ◌+◌, ◌<◌, Bool, true, false, cond, not, ◌&&◌, ◌||◌, List, [], ◌∷◌, ◌++◌, Option, None, Some, is_some, Vec, map, length, take, get_or, true≢false, arith, length-take-le}
+use Rattle.std.specs.Map.{lookup}
 use Rattle.std.specs.Str.{bytes_eq}
 use Rattle.std.specs.Cmp.Lexicographic.{bytes_decides}
 use Rattle.std.proofs.lemmas.List.{take_more, map-append}
@@ -13,8 +14,10 @@ use Rattle.etcd_model.specs.declared.state.History.{History}
 use Rattle.etcd_model.specs.declared.state.State.{State}
 use Rattle.etcd_model.specs.Alone.{is_catch_up}
 use Rattle.etcd_model.specs.Offered.{built_machine}
+use Rattle.tenant_machine.specs.Deciding.{is_stopped}
 use Rattle.tenant_machine.specs.Plans.{takes_memory}
-use Rattle.steps_core.specs.Hosts.{HostState, HoldsAt, StepsAt, machine_at, has_tenant}
+use Rattle.tenant_machine.specs.Tenants.{MachineState, tenant}
+use Rattle.steps_core.specs.Hosts.{HostState, HoldsAt, IsSureAt, StepsAt, machine_at, has_tenant, names_of}
 use Rattle.steps_core.specs.Isolation.{StepTurn, step_turn, step_event, step_turns, found_none, is_own_step, own_steps, steps_of, replies_of, built_replies, built_state, IsToldAlone, IsIsolated}
 use Rattle.steps_core.proofs.Lists.{all-push, all-front}
 
@@ -32,9 +35,36 @@ step_turns-push [] c (q ∷ rs) r h = absurd (omega arith)
 step_turns-push (d ∷ cs) c [] r h = absurd (omega arith)
 step_turns-push (d ∷ cs) c (q ∷ rs) r h = let same : length rs ≡ length cs = omega arith in ap (λ xs. step_turn d.0.items d.1 q ∷ xs) (step_turns-push cs c rs r same)
 
-none_there : {X : Type 0} (a b : Option X) → is_some a ≡ is_some b → b ≡ None → a ≡ None
-none_there None b h k = refl
-none_there (Some x) b h k = absurd (true≢false (h ∙ ap is_some k))
+-- ---- who is there
+
+named : List ℕ → List (List ℕ) → Bool
+named t [] = false
+named t (n ∷ ns) = bytes_eq t n || named t ns
+
+named_there : (t : List ℕ) (es : List (List ℕ × MachineState)) → is_some (lookup (bytes_eq t) es) ≡ named t (map (λ e. e.0) es)
+unfolding named
+named_there t [] = refl
+named_there t (e ∷ es) = by (bytes_eq t e.0) (named_there t es)
+  where
+    by : (b : Bool) → is_some (lookup (bytes_eq t) es) ≡ named t (map (λ x. x.0) es) → is_some (cond b (Some e.1) (lookup (bytes_eq t) es)) ≡ (b || named t (map (λ x. x.0) es))
+    by true rest = refl
+    by false rest = rest
+
+-- a tenant is there if its name is
+there_by_names : (old new : HostState) (t : List ℕ) → names_of new ≡ names_of old → has_tenant new t ≡ has_tenant old t
+there_by_names old new t same = named_there t new.tenants ∙ ap (named t) same ∙ sym (named_there t old.tenants)
+
+none_there : {X : Type 0} (o : Option X) → is_some o ≡ false → o ≡ None
+none_there None h = refl
+none_there (Some x) h = absurd (true≢false h)
+
+-- a tenant that is there is sure of a step that takes no memory
+sure_at : (h : HostState) (t : List ℕ) (step : Step) → takes_memory step ≡ false → has_tenant h t ≡ true → IsSureAt h t step
+sure_at h t step free there = by (machine_at h t) refl there
+  where
+    by : (o : Option MachineState) → machine_at h t ≡ o → is_some o ≡ true → IsSureAt h t step
+    by None is there = absurd (true≢false (sym there))
+    by (Some m) is there = record { machine = m; is = is; sure = ap (λ b. not b || is_stopped (tenant m) step) free }
 
 answered : (r : Reply) → found_none r ≡ false → r ≢ Refused Memory
 answered r h k = true≢false (sym (ap found_none k) ∙ h)
@@ -58,7 +88,7 @@ caught : (mid new : HostState) (t : List ℕ) (x : StepTurn) (S T : State Histor
 caught mid new t x S T same catch held steps =
     let c = catch_up S T x.tenant x.step x.reply catch in
     let here : HoldsAt mid x.tenant S = subst (λ u. HoldsAt mid u S) same held in
-    let said : x.reply ≢ Refused Memory = steps.sure c.2 (ap is_some here.is) in
+    let said : x.reply ≢ Refused Memory = steps.sure (sure_at mid x.tenant x.step c.2 (ap is_some here.is)) in
     let after = own_step mid new x.tenant x.step x.reply S said here steps in
     (after.0 ∙ c.0, subst (λ u. HoldsAt new u S) (sym same) (subst (HoldsAt new x.tenant) c.1 after.1))
 
@@ -108,32 +138,27 @@ alone_push mid new xs x t S before steps =
       catch_ups = all-push _ xs x before.catch_ups (λ same catch. (caught mid new t x T S (sym same) catch before.holds steps).0);
     }
 
-there_push : (mid new : HostState) (x t : List ℕ) → has_tenant new x ≡ has_tenant mid x → ((u : List ℕ) → u ≢ x → machine_at new u ≡ machine_at mid u) → has_tenant new t ≡ has_tenant mid t
-there_push mid new x t own others = by (bytes_eq t x) refl
-  where
-    by : (b : Bool) → bytes_eq t x ≡ b → has_tenant new t ≡ has_tenant mid t
-    by true h = subst (λ u. has_tenant new u ≡ has_tenant mid u) (sym ((bytes_decides t x).0 h)) own
-    by false h = ap is_some (others t (λ e. true≢false (sym ((bytes_decides t x).1 e) ∙ h)))
-
 isolated_push : (old mid new : HostState) (xs : List StepTurn) (x : StepTurn) → IsIsolated old xs mid → StepsAt mid x.tenant x.step x.reply new → IsIsolated old (xs ++ x ∷ []) new
-isolated_push old mid new xs x before steps = record {
-  alone = λ t S held. alone_push mid new xs x t S (before.alone t S held) steps;
-  nobody = all-push _ xs x before.nobody (λ none said. (steps.none (none_there _ _ (before.there x.tenant) none)).1 said);
-  others = λ t unnamed. let parts = all-front _ xs x unnamed in steps.others.machines t parts.1 ∙ before.others t parts.0;
-  there = λ t. there_push mid new x.tenant t steps.others.there steps.others.machines ∙ before.there t;
-  same = record {
-    names = steps.others.same.names ∙ before.same.names;
-    reserved = steps.others.same.reserved ∙ before.same.reserved;
-    segments = steps.others.same.segments ∙ before.same.segments;
-  };
-}
+isolated_push old mid new xs x before steps =
+    let there : has_tenant mid x.tenant ≡ has_tenant old x.tenant = there_by_names old mid x.tenant before.same.names in
+    record {
+      alone = λ t S held. alone_push mid new xs x t S (before.alone t S held) steps;
+      nobody = all-push _ xs x before.nobody (λ none. (steps.none (none_there _ (there ∙ ap is_some none))).1);
+      sure = all-push _ xs x before.sure (λ free was. steps.sure (sure_at mid x.tenant x.step free (there ∙ was)));
+      others = λ t unnamed. let parts = all-front _ xs x unnamed in steps.others.machines t parts.1 ∙ before.others t parts.0;
+      same = record {
+        names = steps.others.same.names ∙ before.same.names;
+        reserved = steps.others.same.reserved ∙ before.same.reserved;
+        segments = steps.others.same.segments ∙ before.same.segments;
+      };
+    }
 
 pub isolated_none : (h : HostState) → IsIsolated h [] h
 isolated_none h = record {
   alone = λ t S held. record { replies = refl; holds = held; catch_ups = tt };
   nobody = tt;
+  sure = tt;
   others = λ t unnamed. refl;
-  there = λ t. refl;
   same = record { names = refl; reserved = refl; segments = refl };
 }
 

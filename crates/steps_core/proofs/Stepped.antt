@@ -1,13 +1,14 @@
 -- A plan that is committed is a step of the tenant.
-use Rattle.std.proofs.Common.{◌≡◌, ◌≢◌, ◌∙◌, sym, ap, subst, refl, ℕ, List, None, true, false, true≢false}
+use Rattle.std.proofs.Common.{◌≡◌, ◌≢◌, ◌∙◌, sym, ap, subst, refl, ℕ, List, Option, is_some, true, false, true≢false}
+use Rattle.std.specs.Prelude.{if◌then◌else◌}
 use Rattle.etcd_types.specs.declared.step.Step.{Step}
 use Rattle.etcd_types.specs.declared.reply.Reply.{Reply}
 use Rattle.etcd_types.specs.declared.reply.Reply.TheVariants.{Refused}
 use Rattle.etcd_types.specs.declared.refusal.Refusal.{Refusal}
 use Rattle.etcd_types.specs.declared.refusal.Refusal.TheVariants.{NoTenant, Memory}
 use Rattle.tenant_machine.specs.Tenants.{MachineState}
-use Rattle.tenant_machine.specs.Plans.{Plan, Plans, IsAfter, Steps, takes_memory}
-use Rattle.steps_core.specs.Hosts.{HostState, machine_at, has_tenant, PlansAt, CommitsAt, StepsAt}
+use Rattle.tenant_machine.specs.Plans.{Plan, Plans, IsAfter, Steps}
+use Rattle.steps_core.specs.Hosts.{HostState, machine_at, unplanned, IsSureAt, PlansAt, CommitsAt, StepsAt}
 
 -- a plan of a machine that is committed is a step of it
 stepped : (m n : MachineState) (step : Step) (p : Plan) (reply : Reply) → Plans m step p → IsAfter m p n → reply ≡ p.reply → Steps m step reply n
@@ -27,25 +28,29 @@ stepped_at old new t step p reply at made is =
       own = λ x found. let same : m ≡ x = cc (found, at.fits.is) in (after.0, after.1, subst (λ y. Steps y step reply after.0) same steps);
       memory = λ h. absurd (spoken h);
       none = λ h. cc (h, at.fits.is);
-      sure = λ _ _. spoken;
+      sure = λ _. spoken;
       others = made.others;
     }
 
+-- why a tenant has no plan, by what is there
+pub unplanned_by : (h : HostState) (t : List ℕ) {o : Option MachineState} → machine_at h t ≡ o → unplanned h t ≡ (if is_some o then Memory else NoTenant)
+unplanned_by h t found = ap (λ (m : Option MachineState). if is_some m then Memory else NoTenant) found
+
 -- a tenant that is not planned for
-pub refused_at : (h : HostState) (t : List ℕ) (step : Step) (r : Refusal) → (r ≢ Memory → (r ≡ NoTenant) × (machine_at h t ≡ None)) → (takes_memory step ≡ false → has_tenant h t ≡ true → false ≡ true) → StepsAt h t step (Refused r) h
+pub refused_at : (h : HostState) (t : List ℕ) (step : Step) (r : Refusal) → r ≡ unplanned h t → (IsSureAt h t step → false ≡ true) → StepsAt h t step (Refused r) h
 refused_at h t step r err sure = record {
   own = λ m found.
-      let mine : (r ≢ Memory → Refused r ≡ Refused Memory) = λ other. cc (found, (err other).1) in (
+      let mine : Refused r ≡ Refused Memory = ap Refused (err ∙ unplanned_by h t found) in (
         m,
         found,
         record {
-          told = λ S holds said. absurd (said (mine (λ e. said (ap Refused e))));
-          state = λ S holds said. absurd (said (mine (λ e. said (ap Refused e))));
+          told = λ S holds said. absurd (said mine);
+          state = λ S holds said. absurd (said mine);
           memory = λ _. refl;
         },
       );
   memory = λ _. refl;
-  none = λ _. (refl, λ said. ap Refused (err (λ e. said (ap Refused e))).0);
-  sure = λ none there. absurd (true≢false (sym (sure none there)));
-  others = record { machines = λ u differ. refl; there = refl; same = record { names = refl; reserved = refl; segments = refl } };
+  none = λ none. (refl, ap Refused (err ∙ unplanned_by h t none));
+  sure = λ at. absurd (true≢false (sym (sure at)));
+  others = record { machines = λ u differ. refl; same = record { names = refl; reserved = refl; segments = refl } };
 }

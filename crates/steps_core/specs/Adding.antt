@@ -9,8 +9,8 @@ use Rattle.cell_arena.specs.Loan.{segments_for, undrawn}
 use Rattle.etcd_model.specs.Machine.{opening}
 use Rattle.etcd_model.specs.Held.{Holds}
 use Rattle.tenant_machine.specs.Tenants.{MachineState, tenant}
-use Rattle.steps_core.specs.declared.host.OperatorFault.{OperatorFault}
-use Rattle.steps_core.specs.declared.host.OperatorFault.TheVariants.{Name, Limits, Taken, Short}
+use Rattle.steps_core.specs.declared.adding.OperatorFault.{OperatorFault}
+use Rattle.steps_core.specs.declared.adding.OperatorFault.TheVariants.{Name, Limits, Taken, Short, Memory}
 use Rattle.steps_core.specs.Hosts.{HostState, machine_at, has_tenant, reserved_segments}
 
 abbrev pub is_name_byte : ℕ → Bool
@@ -41,6 +41,11 @@ add_fault h name cluster quota first =
     (not (within_limits cluster quota first) || nat_le MAX_TENANTS (length h.tenants))
     (has_tenant h name)
     (nat_lt h.segments (reserved_segments h + segments_for quota))
+
+-- the reason that a fault tells: none, if it is told for want of memory
+abbrev pub reason : OperatorFault → Option OperatorFault
+reason Memory = None
+reason fault = Some fault
 
 -- the tenant is there at its opening, and nothing else has changed
 pub record Adds (old : HostState) (name : List ℕ) (cluster quota first : ℕ) (new : HostState) : Type 0 where

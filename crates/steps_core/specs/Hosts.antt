@@ -1,18 +1,20 @@
 -- What a contract sees of a host, and of a step of one of its tenants.
-use Rattle.std.specs.Prelude.{◌≡◌, ◌≢◌, ℕ, Bool, true, false, List, map, sum_by, Option, Some, None}
-use Rattle.std.specs.Prelude.{is_some, refl}
+use Rattle.std.specs.Prelude.{◌≡◌, ◌≢◌, ℕ, Bool, true, List, map, sum_by, Option, Some, None}
+use Rattle.std.specs.Prelude.{is_some, if◌then◌else◌, refl}
 use Rattle.std.specs.Str.{bytes_eq}
 use Rattle.std.specs.Map.{lookup}
 use Rattle.std.specs.Coded.{Coded, code_by, coded×, coded_ℕ, coded_list}
 use Rattle.etcd_types.specs.declared.step.Step.{Step}
+use Rattle.etcd_types.specs.declared.refusal.Refusal.{Refusal}
 use Rattle.etcd_types.specs.declared.refusal.Refusal.TheVariants.{NoTenant, Memory}
 use Rattle.etcd_types.specs.declared.reply.Reply.{Reply}
 use Rattle.etcd_types.specs.declared.reply.Reply.TheVariants.{Refused}
 use Rattle.etcd_model.specs.declared.state.History.{History}
 use Rattle.etcd_model.specs.declared.state.State.{State}
 use Rattle.etcd_model.specs.Held.{Holds}
+use Rattle.tenant_machine.specs.Deciding.{is_sure}
 use Rattle.tenant_machine.specs.Tenants.{MachineState, machine_code, tenant}
-use Rattle.tenant_machine.specs.Plans.{Plan, Plans, Fits, IsAfter, Steps, takes_memory}
+use Rattle.tenant_machine.specs.Plans.{Plan, Plans, Fits, IsAfter, Steps}
 
 -- the tenants' names and machines in the order in which they were added, and how many segments there are
 pub record HostState : Type 0 where
@@ -60,6 +62,16 @@ names_of h = map (λ e. e.0) h.tenants
 abbrev pub reserved_segments : HostState → ℕ
 reserved_segments h = sum_by (λ e. e.1.store.share.reserved) h.tenants
 
+-- why a tenant has no plan: for want of memory, or it is not there
+abbrev pub unplanned : HostState → List ℕ → Refusal
+unplanned h name = if has_tenant h name then Memory else NoTenant
+
+-- the tenant is there, and its machine is never answered by want of memory
+pub record IsSureAt (h : HostState) (name : List ℕ) (step : Step) : Type 0 where
+  pub machine : MachineState
+  pub is : machine_at h name ≡ Some machine
+  pub sure : is_sure (tenant machine) step ≡ true
+
 -- ---- what a step leaves
 
 -- the same tenants are there, as many segments, and as many of them are reserved
@@ -71,7 +83,6 @@ pub record SameTenants (old new : HostState) : Type 0 where
 -- the other tenants' machines are as they were
 pub record OthersStay (old : HostState) (name : List ℕ) (new : HostState) : Type 0 where
   pub machines : (u : List ℕ) → u ≢ name → machine_at new u ≡ machine_at old u
-  pub there : has_tenant new name ≡ has_tenant old name
   pub same : SameTenants old new
 
 -- the tenant has made what was planned
@@ -81,13 +92,12 @@ pub record CommitsAt (old : HostState) (name : List ℕ) (p : Plan) (new : HostS
   pub others : OthersStay old name new
 
 -- one step of the tenant, answered: its machine has made the step, or for want of memory nothing changed;
--- where no such tenant is there, that is told
+-- if no such tenant is there, that is told
 pub record StepsAt (old : HostState) (name : List ℕ) (step : Step) (reply : Reply) (new : HostState)
     : Type 0 where
   pub own : (m : MachineState) → machine_at old name ≡ Some m
       → (n : MachineState) × (machine_at new name ≡ Some n) × Steps m step reply n
   pub memory : reply ≡ Refused Memory → new ≡ old
-  pub none : machine_at old name ≡ None
-      → (new ≡ old) × (reply ≢ Refused Memory → reply ≡ Refused NoTenant)
-  pub sure : takes_memory step ≡ false → has_tenant old name ≡ true → reply ≢ Refused Memory
+  pub none : machine_at old name ≡ None → (new ≡ old) × (reply ≡ Refused NoTenant)
+  pub sure : IsSureAt old name step → reply ≢ Refused Memory
   pub others : OthersStay old name new

@@ -10,6 +10,7 @@ use Rattle.etcd_model.specs.declared.state.History.{History}
 use Rattle.etcd_model.specs.declared.state.State.{State}
 use Rattle.etcd_model.specs.Alone.{Event, Stepped, is_of, is_catch_up}
 use Rattle.etcd_model.specs.Offered.{built_machine}
+use Rattle.tenant_machine.specs.Plans.{takes_memory}
 use Rattle.steps_core.specs.Hosts.{HostState, HoldsAt, machine_at, has_tenant, SameTenants}
 
 -- ---- a run of the machine as it is built
@@ -74,9 +75,10 @@ pub record IsToldAlone (t : List ℕ) (S : State History) (xs : List StepTurn) (
 -- That is so of each tenant that is there, and of no other anything is told or changed.
 pub record IsIsolated (old : HostState) (xs : List StepTurn) (new : HostState) : Type 0 where
   pub alone : (t : List ℕ) (S : State History) → HoldsAt old t S → IsToldAlone t S xs new
-  pub nobody : AllByRecursion
-      (λ x. machine_at old x.tenant ≡ None → x.reply ≢ Refused Memory → x.reply ≡ Refused NoTenant) xs
+  pub nobody : AllByRecursion (λ x. machine_at old x.tenant ≡ None → x.reply ≡ Refused NoTenant) xs
+  -- a step that takes no memory, of a tenant that is there, is never answered by want of it
+  pub sure : AllByRecursion
+      (λ x. takes_memory x.step ≡ false → has_tenant old x.tenant ≡ true → x.reply ≢ Refused Memory) xs
   -- a tenant that no step names has the machine that it had
   pub others : (t : List ℕ) → AllByRecursion (λ x. t ≢ x.tenant) xs → machine_at new t ≡ machine_at old t
-  pub there : (t : List ℕ) → has_tenant new t ≡ has_tenant old t
   pub same : SameTenants old new

@@ -4,9 +4,11 @@
 //! seen in a reply. Want of memory apart, which changes nothing.
 #![tactic(auto)]
 
+mod adding;
 mod host;
 mod tenant;
 #[cfg(test)]
 mod tests;
 
-pub use host::{Host, OperatorFault};
+pub use adding::{OperatorFault, is_name, within_limits};
+pub use host::Host;

@@ -1,4 +1,4 @@
-use Rattle.std.proofs.Common.{◌≡◌, ◌∙◌, is_some, ap, sym, subst, Some, None, arith}
+use Rattle.std.proofs.Common.{◌≡◌, ◌∙◌, ap, sym, subst, Some, None, arith}
 use Rattle.std.specs.Option.{option_map}
 use Rattle.std.specs.Map.{lookup}
 use Rattle.tenant_machine.specs.Plans.{Fits, IsAfter}
@@ -38,7 +38,6 @@ returns-clause-after c =
       own = λ m h. let same : c.in-Some.tenant.now.machine ≡ m = cc (at, h) in (w.machine, own, subst (λ m. IsAfter m c.args.planned w.machine) same c.serve.ensures.after);
       others = record {
         machines = λ u differ. shown u _ c.serve.new.desk ∙ ap (λ es. option_map machine_in (lookup (test u) es)) set ∙ ap (option_map machine_in) (others_set t u es w differ) ∙ sym (shown u es c.self.inside.desk) ∙ ap (λ (h : HostState). machine_at h u) c.self.view_is;
-        there = ap is_some own ∙ sym (ap is_some at);
         same = record {
           names = ap (λ es. names_of (host_of es c.serve.new.desk)) set ∙ names_set t es c.self.inside.desk c.serve.new.desk w ∙ ap names_of c.self.view_is;
           reserved = ap (λ es. reserved_segments (host_of es c.serve.new.desk)) set ∙ reserved_set t es c.self.inside.desk c.serve.new.desk c.in-Some.tenant.now w c.self.invariant (sym c.in-Some.ensures.value) c.serve.ensures.leaves ∙ ap reserved_segments c.self.view_is;
