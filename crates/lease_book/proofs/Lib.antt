@@ -4,3 +4,10 @@ mod Granted
 mod Due
 mod Changed
 mod Ended
+mod Turning
+mod Ordered
+mod Stretch
+pub mod Attached
+pub mod HeadLaws
+pub mod HeldRows
+pub mod Lent

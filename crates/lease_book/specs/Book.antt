@@ -10,15 +10,18 @@ use Rattle.chunk_list.specs.declared.place.Place.{Place}
 use Rattle.etcd_model.specs.declared.state.Lease.{Lease}
 use Rattle.etcd_model.specs.Held.{by_id}
 use Rattle.etcd_model.specs.Leases.{lease_at}
+use Rattle.lease_book.specs.Attached.{RiseById}
+use Rattle.lease_book.specs.declared.attachments.Attachment.{Attachment}
 use Rattle.lease_book.specs.declared.book.Booked.{Booked}
 
 -- the leases by ascending ID, the cells of their records in the same order, the number from which IDs are
--- chosen, and for how many leases there is room
+-- chosen, for how many leases and for how many attachments there is room, and the attachments
 pub record Book : Type 0 where
   pub leases : List Lease
   pub cells : List ℕ
   pub counter : ℕ
   pub room : ℕ
+  pub attachments : List Attachment
 
 abbrev lease_code : Coded Lease
 lease_code =
@@ -27,12 +30,25 @@ lease_code =
     (λ p. record { id = p.0; ttl = p.1.0; end = p.1.1 })
     (λ _. refl)
 
+abbrev attachment_code : Coded Attachment
+attachment_code =
+    code_by (ℤ × ℕ) (coded× coded_ℤ coded_ℕ) (λ a. (a.id, a.head))
+    (λ p. record { id = p.0; head = p.1 })
+    (λ _. refl)
+
 abbrev pub book_code : Coded Book
 book_code =
-    code_by ((List Lease × List ℕ) × (ℕ × ℕ))
-    (coded× (coded× (coded_list lease_code) (coded_list coded_ℕ)) (coded× coded_ℕ coded_ℕ))
-    (λ b. ((b.leases, b.cells), (b.counter, b.room)))
-    (λ p. record { leases = p.0.0; cells = p.0.1; counter = p.1.0; room = p.1.1 })
+    code_by ((List Lease × List ℕ) × ((ℕ × ℕ) × List Attachment))
+    (coded× (coded× (coded_list lease_code) (coded_list coded_ℕ))
+        (coded× (coded× coded_ℕ coded_ℕ) (coded_list attachment_code)))
+    (λ b. ((b.leases, b.cells), ((b.counter, b.room), b.attachments)))
+    (λ p. record {
+      leases = p.0.0;
+      cells = p.0.1;
+      counter = p.1.0.0;
+      room = p.1.0.1;
+      attachments = p.1.1;
+    })
     (λ _. refl)
 
 abbrev pub leases_of : List Booked → List Lease
@@ -57,6 +73,13 @@ pub record IsBook (leases : List Lease) (soonest most : ℕ) : Type 0 where
   pub within : AllByRecursion (IsWithin soonest) leases
   pub count : length leases ≤ most
   pub room : most ≤ 4294967295
+
+-- the same with attachments, whose IDs don't fall, and with as much room for them
+pub record IsKeyedBook (leases : List Lease) (soonest most : ℕ) (attachments : List Attachment) (room : ℕ) :
+    Type 0 where
+  pub book : IsBook leases soonest most
+  pub rise : RiseById attachments
+  pub same_room : room ≡ most
 
 -- the lease with an ID stands at a place, which is its own
 pub record IsFoundAt (list : Chunked Booked) (id : ℤ) (place : Place) : Type 0 where

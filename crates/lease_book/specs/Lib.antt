@@ -1,3 +1,4 @@
+pub mod Attached
 pub mod Book
 pub mod Granting
 pub mod Ending

@@ -1,6 +1,6 @@
 //! The book.
 ghost use Rattle.std.specs.Prelude.{◌≡◌, ◌<◌, ◌≤◌, [], int_le, length, pos, true, slice_get, slice_index_or};
-ghost use Rattle.std.specs.Prelude.{IfOk, IfSome, MatchResult, Some, option_map, vec_capacity};
+ghost use Rattle.std.specs.Prelude.{IfOk, IfSome, IsSome, MatchResult, Some, option_map, vec_capacity};
 ghost use Rattle.std.specs.List.{insert, remove};
 ghost use Rattle.std.specs.List.Sorted.{IsStrictlySortedBy};
 ghost use Rattle.etcd_types.specs.Limits.{last_moment, max_ttl};
@@ -9,18 +9,23 @@ ghost use Rattle.etcd_model.specs.Leases.{lease_at, put_lease, run_out};
 ghost use Rattle.etcd_model.specs.Operations.{has_lease};
 ghost use Rattle.etcd_model.specs.Order.{put_in};
 ghost use Rattle.model_laws.specs.Leases.{without_lease};
+ghost use Rattle.lease_book.specs.Attached.{AreAttached, heads_of, running_keys, with_attachment};
+ghost use Rattle.lease_book.specs.Attached.{without_attachment, without_keys};
 ghost use Rattle.lease_book.specs.Book.{Book, cells_of, ids_below, leases_of};
 ghost use Rattle.lease_book.specs.Ending.{running, running_cells};
 ghost use Rattle.lease_book.specs.Granting.{Fits, IsIdOf, id_refusal};
 
+use crate::attachments::{Attachment, drop_key, drop_keys, drop_run_out, keys_in, put_key};
 use crate::choosing::choose_id;
 use crate::ending::{RunsAt, collect, first_due, soonest_end, sort_by_end};
 use crate::granting::NewLease;
+use crate::keys::Keys;
 use crate::places::{find, place_of, place_with};
 use chunk_list::{ChunkList, Walk};
 use etcd_model::state::Lease;
 use etcd_types::limits::LAST_LEASE_ID;
 use etcd_types::{CellNo, Mem, Refusal};
+use key_index::Records;
 use std::alloc::Global;
 use std::marker::Model;
 
@@ -31,11 +36,13 @@ pub struct Booked {
     pub cell: CellNo,
 }
 
-/// One tenant's leases.
+/// One tenant's leases, and their keys.
 #[derive(Drop)]
 pub struct LeaseBook {
     /// By ascending ID.
     list: ChunkList<Booked>,
+    /// By ascending ID, and of one lease by ascending key.
+    attachments: ChunkList<Attachment>,
     /// The number from which IDs are chosen.
     counter: u64,
     /// No lease ends before this moment.
@@ -43,7 +50,7 @@ pub struct LeaseBook {
 }
 
 impl Model for LeaseBook {
-    ghost use Rattle.lease_book.specs.Book.{Book, IsBook, book_code, leases_of, cells_of};
+    ghost use Rattle.lease_book.specs.Book.{Book, IsKeyedBook, book_code, leases_of, cells_of};
 
     ghost Value = { Book };
 
@@ -54,19 +61,24 @@ impl Model for LeaseBook {
       cells = cells_of b.list.items;
       counter = b.counter;
       room = b.list.room;
+      attachments = b.attachments.items;
     } };
 
-    ghost invariant = { λ b. IsBook (leases_of b.list.items) b.soonest b.list.room };
+    ghost invariant = { λ b.
+        IsKeyedBook (leases_of b.list.items) b.soonest b.list.room b.attachments.items b.attachments.room };
 }
 
 impl LeaseBook {
-    /// A book with no lease, and room for so many.
-    pub fn new(alloc: Global, leases: u32) -> Mem<LeaseBook>
+    /// A book with no lease, and room for so many leases and as many attached keys.
+    pub fn new(alloc: Global, room: u32) -> Mem<LeaseBook>
         ensures { IfOk result (λ book.
-            book ≡ record { leases = []; cells = []; counter = 1; room = leases }) }
+            book ≡ record { leases = []; cells = []; counter = 1; room = room; attachments = [] }) }
     {
+        let list = ChunkList::new(alloc, room as usize)?;
+        let attachments = ChunkList::new(alloc, room as usize)?;
         Ok(LeaseBook {
-            list: ChunkList::new(alloc, leases as usize)?,
+            list,
+            attachments,
             counter: 1,
             soonest: u64::MAX,
         })
@@ -82,7 +94,7 @@ impl LeaseBook {
         self.list.len()
     }
 
-    /// For how many leases there is room in all.
+    /// For how many leases there is room in all, and for how many attached keys.
     pub fn room(&self) -> usize
         ensures { result ≡ self.now.room }
     {
@@ -147,6 +159,7 @@ impl LeaseBook {
         ensures cells { self.new.cells ≡ insert self.old.cells (ids_below self.old.leases new.lease.id) cell }
         ensures counter { self.new.counter ≡ new.counter }
         ensures room { self.new.room ≡ self.old.room }
+        ensures attachments { self.new.attachments ≡ self.old.attachments }
     {
         let place = place_of(&self.list, new.lease.id);
         self.soonest = self.soonest.min(new.lease.end);
@@ -169,6 +182,7 @@ impl LeaseBook {
         ensures cells { self.new.cells ≡ self.old.cells }
         ensures counter { self.new.counter ≡ self.old.counter }
         ensures room { self.new.room ≡ self.old.room }
+        ensures attachments { self.new.attachments ≡ self.old.attachments }
     {
         let place = place_with(&self.list, id);
         let mut booked = self.list.get(place);
@@ -185,7 +199,7 @@ impl LeaseBook {
         self.list.get(place_with(&self.list, id)).cell
     }
 
-    /// Takes a lease away, and gives the cell of its record.
+    /// Takes a lease away with its attachments, and gives the cell of its record.
     pub fn end(&mut self, id: i64) -> CellNo
         requires { has_lease self.old.leases id ≡ true }
         ensures value { result ≡ slice_index_or self.old.cells (ids_below self.old.leases id) result }
@@ -193,7 +207,9 @@ impl LeaseBook {
         ensures cells { self.new.cells ≡ remove self.old.cells (ids_below self.old.leases id) }
         ensures counter { self.new.counter ≡ self.old.counter }
         ensures room { self.new.room ≡ self.old.room }
+        ensures attachments { self.new.attachments ≡ without_keys self.old.attachments id }
     {
+        drop_keys(&mut self.attachments, id);
         let place = place_with(&self.list, id);
         self.list.remove(place).cell
     }
@@ -223,17 +239,60 @@ impl LeaseBook {
         }
     }
 
-    /// Takes away all leases that have run out at a moment, in one pass.
+    /// Takes away all leases that have run out at a moment with their attachments, in one pass each.
     pub fn end_due(&mut self, moment: u64)
         ensures leases { self.new.leases ≡ running moment self.old.leases }
         ensures cells { self.new.cells ≡ running_cells moment self.old.leases self.old.cells }
         ensures counter { self.new.counter ≡ self.old.counter }
         ensures room { self.new.room ≡ self.old.room }
+        ensures attachments { self.new.attachments
+            ≡ running_keys moment self.old.leases self.old.attachments }
     {
         if moment < self.soonest {
             return;
         }
+        drop_run_out(&mut self.attachments, &self.list, moment);
         self.list.retain(&RunsAt(moment));
         self.soonest = soonest_end(&self.list);
+    }
+
+    /// How many keys are attached to leases.
+    pub fn key_count(&self) -> usize
+        ensures count { result ≡ length self.now.attachments }
+        ensures within { result ≤ self.now.room }
+    {
+        self.attachments.len()
+    }
+
+    /// The newest records of a lease's keys, by ascending key.
+    pub fn keys_of(&self, id: i64) -> Keys<'_>
+        ensures { result ≡ heads_of self.now.attachments id }
+    {
+        keys_in(&self.attachments, id)
+    }
+
+    /// Attaches a key to a lease, by the cell of its newest record. If the key is attached to the lease
+    /// already, that record takes the place of the one before.
+    pub fn attach<R: Records>(&mut self, id: i64, head: CellNo, records: &R)
+        requires attached { AreAttached (R.cells records.now) self.old.attachments }
+        requires head { IsSome (R.cells records.now head) }
+        requires room { length self.old.attachments < self.old.room }
+        ensures value { self.new ≡ record self.old { attachments = with_attachment
+            (R.cells records.now) self.old.attachments (record { id = id; head = head }) } }
+        ensures attached { AreAttached (R.cells records.now) self.new.attachments }
+    {
+        put_key(&mut self.attachments, &Attachment { id, head }, records);
+    }
+
+    /// Detaches a key from a lease, by the cell of a record of the key. Nothing changes if it is not attached
+    /// to the lease.
+    pub fn detach<R: Records>(&mut self, id: i64, head: CellNo, records: &R)
+        requires attached { AreAttached (R.cells records.now) self.old.attachments }
+        requires head { IsSome (R.cells records.now head) }
+        ensures value { self.new ≡ record self.old { attachments = without_attachment
+            (R.cells records.now) self.old.attachments (record { id = id; head = head }) } }
+        ensures attached { AreAttached (R.cells records.now) self.new.attachments }
+    {
+        drop_key(&mut self.attachments, &Attachment { id, head }, records);
     }
 }

@@ -10,9 +10,9 @@ use Rattle.lease_book.proofs.book.LeaseBook.collect_due.Goals as goal
 pub sort_by_end-requires : goal.sort_by_end-requires
 sort_by_end-requires c =
     let ls = leases_of c.self.inside.list.items in
-    rw (c.deref_mut.ensures.value, c.collect.ensures.items) (IsStrictlySortedBy-filter by_id (λ (l : Lease). nat_le l.end c.args.moment) ls c.self.invariant.ascend)
+    rw (c.deref_mut.ensures.value, c.collect.ensures.items) (IsStrictlySortedBy-filter by_id (λ (l : Lease). nat_le l.end c.args.moment) ls c.self.invariant.book.ascend)
 
 pub returns-else-self-moment-clause-leases : goal.returns-else-self-moment-clause-leases
 returns-else-self-moment-clause-leases c =
-    let none = none_due c.args.moment c.self.inside.soonest (leases_of c.self.inside.list.items) (omega arith) c.self.invariant.within in
+    let none = none_due c.args.moment c.self.inside.soonest (leases_of c.self.inside.list.items) (omega arith) c.self.invariant.book.within in
     rw (← c.self.view_is) (c.clear.ensures.items ∙ sym none)

@@ -13,7 +13,8 @@ invariant_of-self c =
     let has : has_lease (leases_of list.items) c.args.id ≡ true = subst (λ (b : Book). has_lease b.leases c.args.id ≡ true) (sym c.self.view_is) c.requires in
     let position : position_of list.sizes c.place_with-place.result ≡ ids_below (leases_of list.items) c.args.id = search rules in
     let items : c.remove.new.self.items ≡ remove list.items (ids_below (leases_of list.items) c.args.id) = c.remove.ensures.items ∙ ap (remove list.items) position in
-    rw (items, c.remove.ensures.room) (gone_book list.items c.self.inside.soonest list.room c.self.invariant c.args.id has)
+    let sound = gone_book list.items c.self.inside.soonest list.room c.self.invariant.book c.args.id has in
+    rw (items, c.remove.ensures.room) (record { book = sound; rise = c.drop_keys.ensures.rise; same_room = c.drop_keys.ensures.room ∙ c.self.invariant.same_room })
 
 pub returns-clause-value : goal.returns-clause-value
 returns-clause-value c =
@@ -29,7 +30,7 @@ returns-clause-leases c =
     let has : has_lease (leases_of list.items) c.args.id ≡ true = subst (λ (b : Book). has_lease b.leases c.args.id ≡ true) (sym c.self.view_is) c.requires in
     let position : position_of list.sizes c.place_with-place.result ≡ ids_below (leases_of list.items) c.args.id = search rules in
     let items : c.remove.new.self.items ≡ remove list.items (ids_below (leases_of list.items) c.args.id) = c.remove.ensures.items ∙ ap (remove list.items) position in
-    rw (← c.self.view_is) (ap leases_of items ∙ gone list.items c.self.inside.soonest list.room c.self.invariant c.args.id has)
+    rw (← c.self.view_is) (ap leases_of items ∙ gone list.items c.self.inside.soonest list.room c.self.invariant.book c.args.id has)
 
 pub returns-clause-cells : goal.returns-clause-cells
 returns-clause-cells c =

@@ -13,8 +13,8 @@ invariant_of-self c =
     let none : has_lease (leases_of list.items) x.lease.id ≡ false = subst (λ (b : Book). has_lease b.leases x.lease.id ≡ false) (sym c.self.view_is) c.requires.fits.id in
     let room : length (leases_of list.items) < list.room = subst (λ (b : Book). length b.leases < b.room) (sym c.self.view_is) c.requires.room in
     let items : c.insert.new.self.items ≡ insert list.items (ids_below (leases_of list.items) x.lease.id) x = search rules in
-    let sound = added_book list.items c.self.inside.soonest list.room c.self.invariant x none c.min-self-inside.result (record { before = omega arith; end = omega arith }) c.requires.fits.ttl room in
-    rw (items, c.insert.ensures.room) sound
+    let sound = added_book list.items c.self.inside.soonest list.room c.self.invariant.book x none c.min-self-inside.result (record { before = omega arith; end = omega arith }) c.requires.fits.ttl room in
+    rw (items, c.insert.ensures.room) (record { book = sound; rise = c.self.invariant.rise; same_room = c.self.invariant.same_room })
 
 pub returns-clause-leases : goal.returns-clause-leases
 returns-clause-leases c =
@@ -22,7 +22,7 @@ returns-clause-leases c =
     let x : Booked = record { lease = c.args.new.lease; cell = c.args.cell } in
     let none : has_lease (leases_of list.items) x.lease.id ≡ false = subst (λ (b : Book). has_lease b.leases x.lease.id ≡ false) (sym c.self.view_is) c.requires.fits.id in
     let items : c.insert.new.self.items ≡ insert list.items (ids_below (leases_of list.items) x.lease.id) x = search rules in
-    rw (← c.self.view_is) (ap leases_of items ∙ added list.items c.self.inside.soonest list.room c.self.invariant x none)
+    rw (← c.self.view_is) (ap leases_of items ∙ added list.items c.self.inside.soonest list.room c.self.invariant.book x none)
 
 pub returns-clause-cells : goal.returns-clause-cells
 returns-clause-cells c =

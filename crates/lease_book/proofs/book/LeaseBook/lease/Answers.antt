@@ -16,4 +16,4 @@ returns-clause-ttl c =
     let bits : to_z w64 (of_z w64 c.args.id) ≡ c.args.id = search rules in
     let has : has_lease leases c.args.id ≡ true = sym (has_is leases c.args.id) ∙ ap (λ z. is_some (lease_at leases z)) (sym bits) ∙ ap is_some (c.in_ok-place.ensures.is x) in
     let position : q ≡ ids_below leases c.args.id = c.in_ok-place.ensures.position ∙ ap (ids_below leases) bits in
-    (lease_within list.items c.self.inside.soonest list.room c.self.invariant c.args.id has x q position c.get.ensures).ttl
+    (lease_within list.items c.self.inside.soonest list.room c.self.invariant.book c.args.id has x q position c.get.ensures).ttl

@@ -4,4 +4,8 @@ use Rattle.lease_book.proofs.book.LeaseBook.new.Goals as goal
 pub invariant_of-result : goal.invariant_of-result
 unfolding Rattle.std.specs.List.Sorted.IsStrictlySortedBy
 invariant_of-result c =
-    rw c.in_ok-new.ensures.items (record { ascend = tt; within = tt; count = omega arith; room = omega (arith, c.in_ok-new.ensures.room) })
+    rw (c.in_ok-list.ensures.items, c.in_ok-attachments.ensures.items) (record {
+      book = record { ascend = tt; within = tt; count = omega arith; room = omega (arith, c.in_ok-list.ensures.room) };
+      rise = tt;
+      same_room = omega (arith, c.in_ok-list.ensures.room, c.in_ok-attachments.ensures.room);
+    })

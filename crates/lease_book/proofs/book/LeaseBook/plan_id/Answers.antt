@@ -8,5 +8,5 @@ pub returns : goal.returns
 returns c =
     let n = c.choose_id-id.result in
     let zero : c.args.wanted ≡ pos 0 = search rules in
-    let id : to_z w64 n ≡ pos n = to_z_pos w64 n (omega (arith, c.choose_id-id.ensures.within, count_leases c.self.inside.list.items, c.self.invariant.count, c.self.invariant.room, c.if-self-ge-LAST_LEASE_ID.false)) in
-    rw (← c.self.view_is, id) (chosen _ c.args.wanted n zero (omega arith) c.self.invariant.ascend c.choose_id-id.ensures.value)
+    let id : to_z w64 n ≡ pos n = to_z_pos w64 n (omega (arith, c.choose_id-id.ensures.within, count_leases c.self.inside.list.items, c.self.invariant.book.count, c.self.invariant.book.room, c.if-self-ge-LAST_LEASE_ID.false)) in
+    rw (← c.self.view_is, id) (chosen _ c.args.wanted n zero (omega arith) c.self.invariant.book.ascend c.choose_id-id.ensures.value)
