@@ -54,7 +54,7 @@ stepped m n step p reply plans after same = record {
 }
 
 -- a machine over an empty store holds the opening
-pub opened : (m : MachineState) (cluster quota first : ℕ) → m.cluster ≡ cluster → m.quota ≡ quota → m.store.kept ≡ empty_store first → (room : ℕ) → m.leases ≡ record { leases = []; cells = []; counter = 1; room = room } → m.moment ≡ 0 → m.alarm ≡ false → Holds (opening cluster quota first) (tenant m)
+pub opened : (m : MachineState) (cluster quota first : ℕ) → m.cluster ≡ cluster → m.quota ≡ quota → m.store.kept ≡ empty_store first → (room : ℕ) → m.leases ≡ record { leases = []; cells = []; counter = 1; room = room; attachments = [] } → m.moment ≡ 0 → m.alarm ≡ false → Holds (opening cluster quota first) (tenant m)
 opened m cluster quota first one cells kept room book at off =
     let held = opening_is_held cluster quota first in
     let same : tenant m ≡ over (λ (H : History). empty_store first) (opening cluster quota first) = λ i. record { cluster = one i; quota = cells i; store = kept i; leases = (book i).leases; counter = (book i).counter; moment = at i; alarm = off i; slots = replicate watch_slots None } in
