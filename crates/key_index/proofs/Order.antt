@@ -91,7 +91,7 @@ up_to x key r h =
     let q = and_parts (bytes_eq x.key key) (nat_le x.revision r) h in
     ((bytes_eq-Decides x.key key).0 q.0, leb-true x.revision r q.1)
 
-is_it_up_to : (x : Recorded) (key : List ℕ) (r : ℕ) → x.key ≡ key → x.revision ≤ r → is_up_to key r x ≡ true
+pub is_it_up_to : (x : Recorded) (key : List ℕ) (r : ℕ) → x.key ≡ key → x.revision ≤ r → is_up_to key r x ≡ true
 is_it_up_to x key r same le = and_from (bytes_eq x.key key) (nat_le x.revision r) ((bytes_eq-Decides x.key key).1 same) (le-leb x.revision r le)
 
 -- the last change of a key among the records is its last among their changes in order

@@ -18,7 +18,7 @@ contains_from x (y ∷ ys) h = elim h [
   | inr rest ↦ let c = contains_from x ys rest in (suc c.0, omega (arith, c.1), c.2)
 ]
 
-last_in : {X : Type 0} (p : X → Bool) (xs : List X) (y : X) → last_by p xs ≡ Some y → IsIn y xs
+pub last_in : {X : Type 0} (p : X → Bool) (xs : List X) (y : X) → last_by p xs ≡ Some y → IsIn y xs
 last_in p [] y is = let bad : ⊥ = cc in absurd bad
 last_in p (x ∷ xs) y is = elim (or_some (last_by p xs) (if p x then Some x else None) y is) [
   | inl before ↦ inr (last_in p xs y before)
@@ -38,7 +38,7 @@ none_passes p (x ∷ xs) k is h pass =
       | inr t ↦ none_passes p xs k q.0 t pass
     ]
 
-last_max : (p : Recorded → Bool) (xs : List Recorded) (y k : Recorded) → Rises xs → last_by p xs ≡ Some y → IsIn k xs → p k ≡ true → k.revision ≤ y.revision
+pub last_max : (p : Recorded → Bool) (xs : List Recorded) (y k : Recorded) → Rises xs → last_by p xs ≡ Some y → IsIn k xs → p k ≡ true → k.revision ≤ y.revision
 last_max p [] y k rises is h pass = absurd h
 last_max p (x ∷ xs) y k rises is h pass = elim (or_some (last_by p xs) (if p x then Some x else None) y is) [
   | inl before ↦ elim h [

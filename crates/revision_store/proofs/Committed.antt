@@ -1,5 +1,5 @@
 -- What a commit records is what the plan's changes make of the store.
-use Rattle.std.proofs.Common.{◌≡◌, ℕ, ◌+◌, ◌^◌, ◌==◌, ◌<◌, ◌≤◌, List, [], ◌∷◌, ◌++◌, map, filter, length, true, false, IsSome, Option, Some, None, option_map, refl, ap, sym, subst, ◌∙◌, arith}
+use Rattle.std.proofs.Common.{◌≡◌, ℕ, ◌+◌, ◌==◌, ◌<◌, ◌≤◌, List, [], ◌∷◌, ◌++◌, map, filter, length, true, false, IsSome, Option, Some, None, option_map, refl, ap, sym, subst, ◌∙◌, arith}
 use Rattle.std.specs.Prelude.{option_and_then}
 use Rattle.std.specs.List.{AllByRecursion}
 use Rattle.etcd_types.specs.declared.key_value.KeyValue.{KeyValue}
@@ -10,8 +10,10 @@ use Rattle.etcd_model.specs.declared.state.Change.{Change}
 use Rattle.etcd_model.specs.History.{key_of}
 use Rattle.etcd_model.specs.Changes.{Recorded, entry_at, next_row, record_revision, recorded}
 use Rattle.etcd_model.specs.Store.{after}
+use Rattle.model_laws.specs.Apart.{AreApart}
 use Rattle.model_laws.specs.Once.{IsOnce}
 use Rattle.model_laws.specs.Numbers.{HasNumbers}
+use Rattle.model_laws.proofs.ApartLaws.{recorded_apart}
 use Rattle.model_laws.proofs.HistoryKeptLaws.{no_more, fewer}
 use Rattle.model_laws.proofs.NumberLaws.{recorded_have_numbers}
 use Rattle.model_laws.proofs.OnceStoreLaws.{keys_apart, recorded_where_once}
@@ -108,22 +110,32 @@ pub can_inside : (inside store : StoreState) (writes plan : List Write) → insi
 can_inside inside store writes plan same is h = subst (CanCommit inside) (sym is) (subst (λ s. CanCommit s plan) (sym same) h)
 
 -- what a log is after the plan's revision
-pub kept_after : (store : StoreState) (new : LogState) (compacted : ℕ) (writes : List Write) → IsPlanFor store writes → AllByRecursion (λ x. x.revision ≤ store.kept.current) store.kept.changes → AllByRecursion HasNumbers store.kept.changes
-    → compacted ≤ store.kept.current → store.kept.current + 1 < 2 ^ 63 → new.changes ≡ store.kept.changes ++ map (recorded_in (cells store) (store.kept.current + 1)) writes → IsKeptUpTo new (store.kept.current + 1) compacted
-kept_after store new compacted writes plan up numbers within short is = record {
-  up = subst (AllByRecursion (λ x. x.revision ≤ store.kept.current + 1)) (sym is) (all_append (λ x. x.revision ≤ store.kept.current + 1) store.kept.changes (map (recorded_in (cells store) (store.kept.current + 1)) writes) (all_weaker _ _ (λ x le. omega (arith, le)) store.kept.changes up) (at_revision writes));
-  numbers = subst (AllByRecursion HasNumbers) (revision_is store writes up plan ∙ sym is) (recorded_have_numbers (store.kept.current + 1) store.kept.changes (changes_of store writes) (omega arith) numbers (all_weaker _ _ (λ x le. omega (arith, le)) store.kept.changes up) plan.once);
-  compacted = omega (arith, within);
-  short = short;
-}
+pub kept_after : (log new : LogState) (current compacted : ℕ) (writes : List Write) → IsKeptUpTo log current compacted → CanCommit (store_of log current compacted) writes
+    → new.changes ≡ log.changes ++ map (recorded_in (cells_of log.records) (current + 1)) writes → IsKeptUpTo new (current + 1) compacted
+kept_after log new current compacted writes kept can is =
+    let store = store_of log current compacted in
+    let below : AllByRecursion (λ x. x.revision < current + 1) log.changes = all_weaker _ _ (λ x le. omega (arith, le)) log.changes kept.up in
+    let revision = revision_is store writes kept.up can.plan ∙ sym is in
+    record {
+      least = subst (AllByRecursion (λ x. 1 ≤ x.revision)) (sym is) (all_append (λ x. 1 ≤ x.revision) log.changes (map (recorded_in (cells_of log.records) (current + 1)) writes) kept.least (from_first writes));
+      up = subst (AllByRecursion (λ x. x.revision ≤ current + 1)) (sym is) (all_append (λ x. x.revision ≤ current + 1) log.changes (map (recorded_in (cells_of log.records) (current + 1)) writes) (all_weaker _ _ (λ x le. omega (arith, le)) log.changes kept.up) (at_revision writes));
+      numbers = subst (AllByRecursion HasNumbers) revision (recorded_have_numbers (current + 1) log.changes (changes_of store writes) (omega arith) kept.numbers below can.plan.once);
+      apart = subst AreApart revision (recorded_apart (current + 1) log.changes (changes_of store writes) kept.apart below can.plan.once);
+      compacted = omega (arith, kept.compacted);
+      short = can.revisions;
+    }
   where
-    here : (w : Write) → (recorded_in (cells store) (store.kept.current + 1) w).revision ≤ store.kept.current + 1
-    here (Put row) = omega arith
-    here (Delete c) = omega arith
+    here : (w : Write) → (recorded_in (cells_of log.records) (current + 1) w).revision ≡ current + 1
+    here (Put row) = refl
+    here (Delete c) = refl
 
-    at_revision : (ws : List Write) → AllByRecursion (λ x. x.revision ≤ store.kept.current + 1) (map (recorded_in (cells store) (store.kept.current + 1)) ws)
+    from_first : (ws : List Write) → AllByRecursion (λ x. 1 ≤ x.revision) (map (recorded_in (cells_of log.records) (current + 1)) ws)
+    from_first [] = tt
+    from_first (w ∷ ws) = (omega (arith, here w), from_first ws)
+
+    at_revision : (ws : List Write) → AllByRecursion (λ x. x.revision ≤ current + 1) (map (recorded_in (cells_of log.records) (current + 1)) ws)
     at_revision [] = tt
-    at_revision (w ∷ ws) = (here w, at_revision ws)
+    at_revision (w ∷ ws) = (omega (arith, here w), at_revision ws)
 
 -- what follows the store is of its next revision
 follows_of : (store : StoreState) (write : Write) → Follows store write → IsOf (cells store) (store.kept.current + 1) write

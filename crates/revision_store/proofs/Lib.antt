@@ -1,5 +1,6 @@
 mod Writing
 mod Left
+pub mod RowsLeft
 mod Committed
 pub mod Recorded
 pub mod Placed

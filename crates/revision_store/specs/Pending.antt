@@ -20,6 +20,7 @@ use Rattle.etcd_model.specs.Operations.{changes}
 use Rattle.etcd_model.specs.Ranges.{without_value}
 use Rattle.etcd_model.specs.Reads.{Reads}
 use Rattle.etcd_model.specs.Store.{IsStore, record_cells}
+use Rattle.model_laws.specs.Apart.{AreApart}
 use Rattle.model_laws.specs.Numbers.{HasNumbers}
 use Rattle.revision_store.specs.Codes.{bytes_code}
 use Rattle.revision_store.specs.Stored.{StoreState, store_code, IsPlanFor, changes_of, look, reads, row_at}
@@ -116,11 +117,12 @@ left_cells cells deletes cs = filter (λ c. not (is_erased deletes (key_at cells
 
 -- ---- invariants
 
--- a store as appends and compactions make it, with numbers that are within its revisions, each cell
--- of which is free or of a change or a lease
+-- a store as appends and compactions make it, with numbers that are within its revisions, of which
+-- each changes a key once, and each cell of which is free or of a change or a lease
 pub record IsSound (store : StoreState) : Type 0 where
   pub kept : IsStore store.kept
   pub numbers : AllByRecursion HasNumbers store.kept.changes
+  pub apart : AreApart store.kept.changes
   pub short : store.kept.current < 2 ^ 63
   pub space : store.free + record_cells store.kept.changes + store.lease_cells ≡ 64 * store.share.reserved
 

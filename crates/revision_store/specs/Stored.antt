@@ -11,14 +11,15 @@ use Rattle.cell_arena.specs.Loan.{Share, share_code}
 use Rattle.etcd_types.specs.declared.key_value.KeyValue.{KeyValue}
 use Rattle.etcd_model.specs.declared.state.Change.{Change}
 use Rattle.etcd_model.specs.Reads.{Reads}
-use Rattle.etcd_model.specs.Changes.{live, next_row}
+use Rattle.etcd_model.specs.Changes.{Recorded, live, next_row}
 use Rattle.etcd_model.specs.Store.{Store, after, kept_store, reads_of}
+use Rattle.model_laws.specs.Apart.{AreApart}
 use Rattle.model_laws.specs.Once.{IsOnce}
 use Rattle.model_laws.specs.Numbers.{HasNumbers}
 use Rattle.key_index.specs.Links.{Cells, change_at}
 use Rattle.revision_store.specs.Codes.{kept_code}
 use Rattle.revision_store.specs.Recorded.{cells_of, leases_of}
-use Rattle.revision_store.specs.Logged.{LogState, empty_log}
+use Rattle.revision_store.specs.Logged.{LogState, AllStay, empty_log}
 use Rattle.revision_store.specs.Plans.{change_in, costs_in}
 use Rattle.revision_store.specs.declared.plan.Write.{Write}
 use Rattle.revision_store.specs.declared.plan.Write.TheVariants.{Put, Delete}
@@ -70,6 +71,11 @@ look store pending = kept_store.look store.kept pending
 abbrev pub row_at : Cells → ℕ → Option KeyValue
 row_at cells c = option_and_then (λ x. x.row) (change_at cells c)
 
+-- each row that its key shows at a revision stays under its cell
+abbrev pub RowsStay : Cells → Cells → ℕ → List Recorded → Type 0
+RowsStay old new r changes = (c : ℕ) (row : KeyValue) → row_at old c ≡ Some row
+    → live row.key r changes ≡ Some row → row_at new c ≡ Some row
+
 -- the changes of some writes
 abbrev pub changes_of : StoreState → List Write → List Change
 changes_of store writes = map (change_in (cells store)) writes
@@ -97,17 +103,21 @@ pub record CanCommit (store : StoreState) (writes : List Write) : Type 0 where
   pub space : HasSpace store writes
   pub revisions : store.kept.current + 1 < 2 ^ 63
 
--- What they leave: what is kept has their changes as one more revision, the cells that they cost
--- are taken, and the leases are as they were.
+-- What they leave: what is kept has their changes as one more revision, each change that was there
+-- stays under its cell, the cells that they cost are taken, and the leases are as they were.
 pub record Commits (old new : StoreState) (writes : List Write) : Type 0 where
   pub kept : new.kept ≡ after old.kept (changes_of old writes)
+  pub stay : AllStay (cells old) (cells new)
   pub free : new.free + costs_in (cells old) writes ≡ old.free
   pub leases : leases_of new.records ≡ leases_of old.records
   pub lease_cells : new.lease_cells ≡ old.lease_cells
 
--- a log of changes up to a revision, with numbers that are within it
+-- a log of changes from revision 1 up to another one, with numbers that are within it, and in which a
+-- revision changes a key once
 pub record IsKeptUpTo (log : LogState) (current last_compaction : ℕ) : Type 0 where
+  pub least : AllByRecursion (λ x. 1 ≤ x.revision) log.changes
   pub up : AllByRecursion (λ x. x.revision ≤ current) log.changes
   pub numbers : AllByRecursion HasNumbers log.changes
+  pub apart : AreApart log.changes
   pub compacted : last_compaction ≤ current
   pub short : current < 2 ^ 63

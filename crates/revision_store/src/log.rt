@@ -1,14 +1,16 @@
 //! The kept changes under cells: in order, and by their keys. And the records of leases.
-ghost use Rattle.std.specs.Prelude.{◌≡◌, ◌+◌, ◌*◌, ◌%◌, ◌<◌, ◌≤◌, ◌^◌, ◌∷◌, [], IfOk, IsSome, None};
+ghost use Rattle.std.specs.Prelude.{◌≡◌, ℕ, ◌+◌, ◌*◌, ◌%◌, ◌<◌, ◌≤◌, ◌^◌, ◌∷◌, [], IfOk, IsSome, None};
 ghost use Rattle.std.specs.List.{AllByRecursion};
 ghost use Rattle.std.specs.FinMap as finite;
 ghost use Rattle.cell_arena.specs.Loan.{IsLent, Settles, DrawsFor, DrawsNone, IsBusy};
 ghost use Rattle.etcd_model.specs.Changes.{OwnRow, Rises, kept};
 ghost use Rattle.etcd_model.specs.Store.{record_cells};
+ghost use Rattle.key_index.specs.Compaction.{IsCompacted};
 ghost use Rattle.revision_store.specs.Recorded.{cells_of, leases_of, with_lease_cell, without_lease_cell};
 ghost use Rattle.revision_store.specs.Logged.{empty_log, used_in};
 ghost use Rattle.revision_store.specs.Plans.{head_deletes};
 ghost use Rattle.revision_store.specs.Appending.{CanAppend, Appends};
+ghost use Rattle.revision_store.specs.Stored.{RowsStay};
 
 use crate::cutting::cut;
 use crate::placing::{lease_fields, place};
@@ -118,6 +120,9 @@ impl Log {
     pub(crate) fn cut<S: Segments>(&mut self, segments: &mut S, revision: u64)
         requires lent { IsLent self.old.share (S.loan segments.old) }
         ensures changes { self.new.changes ≡ kept revision self.old.changes }
+        ensures cells { IsCompacted (cells_of self.old.records) (cells_of self.new.records) revision }
+        ensures rows { (r : ℕ) → revision ≤ r
+            → RowsStay (cells_of self.old.records) (cells_of self.new.records) r self.old.changes }
         ensures free { self.new.free + record_cells self.new.changes
             ≡ self.old.free + record_cells self.old.changes }
         ensures leases { leases_of self.new.records ≡ leases_of self.old.records }

@@ -5,8 +5,9 @@ ghost use Rattle.std.specs.FinMap as map;
 ghost use Rattle.cell_arena.specs.Loan.{IsLent, Settles, DrawsNone};
 ghost use Rattle.etcd_model.specs.Store.{compact, record_cells};
 ghost use Rattle.etcd_model.specs.Stepping.{compact_refusal};
+ghost use Rattle.key_index.specs.Compaction.{IsCompacted};
 ghost use Rattle.revision_store.specs.Recorded.{leases_of, with_lease_cell, without_lease_cell};
-ghost use Rattle.revision_store.specs.Stored.{CanCommit, Commits, cells, empty_state, reads};
+ghost use Rattle.revision_store.specs.Stored.{CanCommit, Commits, RowsStay, cells, empty_state, reads};
 ghost use Rattle.revision_store.specs.Plans.{head_deletes};
 ghost use Rattle.revision_store.specs.Pending.{IsSound};
 
@@ -131,6 +132,9 @@ impl Store {
         requires within { revision ≤ self.old.kept.current }
         requires lent { IsLent self.old.share (S.loan segments.old) }
         ensures kept { self.new.kept ≡ compact self.old.kept revision }
+        ensures cells { IsCompacted (cells self.old) (cells self.new) revision }
+        ensures rows { RowsStay
+            (cells self.old) (cells self.new) self.old.kept.current self.old.kept.changes }
         ensures free { self.new.free + record_cells self.new.kept.changes
             ≡ self.old.free + record_cells self.old.kept.changes }
         ensures leases { leases_of self.new.records ≡ leases_of self.old.records }

@@ -7,6 +7,7 @@ use Rattle.key_index.specs.Order.{changes_in, with_records}
 use Rattle.key_index.proofs.OrderKept.{kept_in_order, in_order_left, all_left, free_left}
 use Rattle.revision_store.specs.Recorded.{cells_of}
 use Rattle.revision_store.proofs.Left.{counted_alike, left_is}
+use Rattle.revision_store.proofs.RowsLeft.{rows_left}
 use Rattle.revision_store.proofs.log.Log.cut.Given as given
 use Rattle.revision_store.proofs.log.Log.cut.Goals as goal
 use Rattle.revision_store.proofs.log.Log.cut.Goals.{After-retain}
@@ -21,6 +22,13 @@ pub returns-clause-changes : goal.returns-clause-changes
 returns-clause-changes g c =
     let left = is_left g (goal.at.returns-clause-changes g c).After-retain in
     rw (← c.self.view_is) (ap (changes_in (cells_of c.cut.new.region.records)) left ∙ kept_in_order (cells_of c.self.inside.region.records) (cells_of c.cut.new.region.records) c.args.revision c.self.invariant.chained c.cut.ensures.compacted c.self.inside.order.items c.self.invariant.all c.self.invariant.rises)
+
+pub returns-clause-cells : goal.returns-clause-cells
+returns-clause-cells g c = rw (← c.self.view_is) c.cut.ensures.compacted
+
+pub returns-clause-rows : goal.returns-clause-rows
+returns-clause-rows g c =
+    rw (← c.self.view_is) (rows_left c.self.inside.region.records (cells_of c.cut.new.region.records) c.self.inside.order.items c.args.revision c.self.invariant.chained c.self.invariant.all c.self.invariant.rises c.cut.ensures.compacted)
 
 pub returns-clause-free : goal.returns-clause-free
 returns-clause-free g c =

@@ -8,14 +8,14 @@ append_all-requires-clause-takes g c =
 
 pub invariant_of-self : goal.invariant_of-self
 invariant_of-self g c =
-    let can = can_inside _ _ _ _ c.self.view_is c.writes-writes.ensures c.requires.fits in
-    kept_after _ c.append_all.new.self c.self.inside.compacted c.writes-writes.result.now can.plan c.self.invariant.up c.self.invariant.numbers c.self.invariant.compacted can.revisions c.append_all.ensures.appends.changes
+    kept_after c.self.inside.log c.append_all.new.self c.self.inside.current c.self.inside.compacted c.writes-writes.result.now c.self.invariant (can_inside _ _ _ _ c.self.view_is c.writes-writes.ensures c.requires.fits) c.append_all.ensures.appends.changes
 
 pub returns-clause-commits : goal.returns-clause-commits
 returns-clause-commits g c =
     let can = can_inside _ _ _ _ c.self.view_is c.writes-writes.ensures c.requires.fits in
     rw (← c.self.view_is, ← c.writes-writes.ensures) (record {
       kept = committed _ c.writes-writes.result.now c.append_all.new.self.changes (sym c.if-is_empty.ensures) c.self.invariant.up can.plan c.append_all.ensures.appends.changes;
+      stay = c.append_all.ensures.appends.stay;
       free = c.append_all.ensures.appends.free;
       leases = c.append_all.ensures.appends.leases;
       lease_cells = c.append_all.ensures.appends.lease_cells;

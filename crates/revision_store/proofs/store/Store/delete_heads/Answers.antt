@@ -9,14 +9,14 @@ append_deletes-requires-clause-takes g c =
 
 pub invariant_of-self : goal.invariant_of-self
 invariant_of-self g c =
-    let can = can_inside _ _ _ _ c.self.view_is refl c.requires.fits in
-    kept_after _ c.append_deletes.new.self c.self.inside.compacted (head_deletes c.args.heads.now) can.plan c.self.invariant.up c.self.invariant.numbers c.self.invariant.compacted can.revisions c.append_deletes.ensures.appends.changes
+    kept_after c.self.inside.log c.append_deletes.new.self c.self.inside.current c.self.inside.compacted (head_deletes c.args.heads.now) c.self.invariant (can_inside _ _ _ _ c.self.view_is refl c.requires.fits) c.append_deletes.ensures.appends.changes
 
 pub returns-clause-commits : goal.returns-clause-commits
 returns-clause-commits g c =
     let can = can_inside _ _ _ _ c.self.view_is refl c.requires.fits in
     rw (← c.self.view_is) (record {
       kept = committed _ (head_deletes c.args.heads.now) c.append_deletes.new.self.changes (some_deletes c.args.heads.now c.requires.some) c.self.invariant.up can.plan c.append_deletes.ensures.appends.changes;
+      stay = c.append_deletes.ensures.appends.stay;
       free = c.append_deletes.ensures.appends.free;
       leases = c.append_deletes.ensures.appends.leases;
       lease_cells = c.append_deletes.ensures.appends.lease_cells;
