@@ -53,6 +53,14 @@ impl Records for RecordList {
         }
     }
 
+    fn lease(&self, cell: CellNo) -> i64 {
+        match self.items.get(cell.number() as usize) {
+            Some(Some(Record { row: Some(row), .. })) => row.lease,
+            Some(Some(_)) => 0,
+            _ => unreachable!(),
+        }
+    }
+
     fn older(&self, cell: CellNo) -> Option<CellNo> {
         match self.items.get(cell.number() as usize) {
             Some(Some(record)) => record.older,

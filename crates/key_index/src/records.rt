@@ -1,7 +1,8 @@
 //! What the index is lent: records of changes under cell numbers.
 ghost use Rattle.std.specs.Prelude.{◌≡◌, ℕ, ◌+◌, Option, Some, None, IsSome, IfSome, is_some};
 ghost use Rattle.etcd_model.specs.Order.{key_cmp as cmp_of_keys};
-ghost use Rattle.etcd_model.specs.Changes.{Recorded};
+ghost use Rattle.etcd_model.specs.Changes.{Recorded, change_of};
+ghost use Rattle.etcd_model.specs.History.{lease_of};
 ghost use Rattle.key_index.specs.Links.{Linked, with_link, without};
 ghost use Rattle.key_index.specs.Compaction.{cost_of};
 
@@ -34,6 +35,11 @@ pub trait Records {
     fn is_put(&self, cell: CellNo) -> bool
         requires { IsSome (cells self.now cell) }
         ensures { IfSome (cells self.now cell) (λ e. result ≡ is_some e.change.row) };
+
+    /// The lease that a put attaches its key to, and 0 where there is none.
+    fn lease(&self, cell: CellNo) -> i64
+        requires { IsSome (cells self.now cell) }
+        ensures { IfSome (cells self.now cell) (λ e. result ≡ lease_of (change_of e.change)) };
 
     /// The cell of the change of the key before.
     fn older(&self, cell: CellNo) -> Option<CellNo>

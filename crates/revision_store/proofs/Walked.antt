@@ -8,7 +8,8 @@ use Rattle.std.proofs.lemmas.List.Elements.{All-head, All-tail}
 use Rattle.etcd_model.specs.Changes.{Recorded, Rises, since}
 use Rattle.key_index.specs.Links.{Cells, Linked, change_at}
 use Rattle.key_index.specs.Order.{IsInOrder, changes_in}
-use Rattle.key_index.proofs.Links.{at_linked, one_linked}
+use Rattle.key_index.proofs.Compacted.{linked_some}
+use Rattle.key_index.proofs.Links.{at_linked, is_some_from, one_linked}
 use Rattle.key_index.proofs.Order.{which}
 
 abbrev change_in : Option Linked → Option Recorded
@@ -101,3 +102,13 @@ module _ (cells : Cells) where
   shown_from [] (suc n) there = refl
   shown_from (c ∷ cs) zero there = shows (cells c) (map (change_at cells) cs) (changes_in cells cs) (All-head (λ b. IsSome (cells b)) c cs there) (shown_from cs zero (All-tail (λ b. IsSome (cells b)) c cs there))
   shown_from (c ∷ cs) (suc n) there = shown_from cs n (All-tail (λ b. IsSome (cells b)) c cs there)
+
+-- cells of which each shows a change have records
+pub all_there : (cells : Cells) (cs : List ℕ) (xs : List Recorded) → map (change_at cells) cs ≡ map Some xs → AllByRecursion (λ c. IsSome (cells c)) cs
+all_there cells [] xs is = tt
+all_there cells (c ∷ cs) [] is = let bad : ⊥ = cc in absurd bad
+all_there cells (c ∷ cs) (x ∷ xs) is =
+    let first : change_at cells c ≡ Some x = cc in
+    let rest : map (change_at cells) cs ≡ map Some xs = cc in
+    let e = linked_some cells c x first in
+    (is_some_from (cells c) e.0 e.1, all_there cells cs xs rest)

@@ -2,6 +2,7 @@
 #![tactic(auto)]
 
 mod answering;
+mod changes;
 mod comparing;
 mod cutting;
 mod keys;

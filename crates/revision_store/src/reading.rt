@@ -44,7 +44,7 @@ impl Log {
     }
 
     /// The cell of a last change, if it is a put.
-    fn put_of(&self, last: Option<CellNo>) -> Option<CellNo>
+    pub(crate) fn put_of(&self, last: Option<CellNo>) -> Option<CellNo>
         requires { IfSome last (λ c. IsSome (cells_of self.now.records c)) }
         ensures row { option_and_then (row_at (cells_of self.now.records)) result
             ≡ option_and_then
@@ -99,10 +99,8 @@ impl Log {
             (λ row. option_map without_value (row_at (cells_of self.now.records) cell) ≡ Some row) }
     {
         let fields = self.region.fields(cell);
-        let mut key = Vec::with_capacity(alloc, self.region.key_len(cell) as usize)?;
-        self.region.read_key(cell, &mut key)?;
         Ok(KeyValue {
-            key: List::from_vec(key),
+            key: self.key(alloc, cell)?,
             create_revision: fields.create_revision,
             mod_revision: fields.revision,
             version: fields.version,

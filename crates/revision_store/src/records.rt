@@ -1,7 +1,9 @@
 //! The records of a region, as the index reads and writes them.
-ghost use Rattle.std.specs.Prelude.{◌≡◌, ◌≤◌, ℕ, Option, Some, None};
+ghost use Rattle.std.specs.Prelude.{◌≡◌, ◌≤◌, ℕ, Option, Some, None, IsSome, IfSome};
 ghost use Rattle.cell_arena.specs.Loan.{IsLent};
-ghost use Rattle.revision_store.specs.Recorded.{ArePlain};
+ghost use Rattle.etcd_model.specs.Changes.{change_of};
+ghost use Rattle.etcd_model.specs.History.{lease_of};
+ghost use Rattle.revision_store.specs.Recorded.{ArePlain, cells_of};
 
 use cell_arena::{Kind, Region, Segments};
 use etcd_types::CellNo;
@@ -43,6 +45,10 @@ impl Records for Reader<'_> {
         matches!(self.region.kind(cell), Kind::Put)
     }
 
+    fn lease(&self, cell: CellNo) -> i64 {
+        lease_at(self.region, cell)
+    }
+
     fn older(&self, cell: CellNo) -> Option<CellNo> {
         self.region.older(cell)
     }
@@ -77,6 +83,10 @@ impl<S: Segments> Records for Writer<'_, S> {
         matches!(self.region.kind(cell), Kind::Put)
     }
 
+    fn lease(&self, cell: CellNo) -> i64 {
+        lease_at(self.region, cell)
+    }
+
     fn older(&self, cell: CellNo) -> Option<CellNo> {
         self.region.older(cell)
     }
@@ -107,5 +117,16 @@ impl<S: Segments> RecordsMut for Writer<'_, S> {
 
     fn drop_record(&mut self, cell: CellNo) {
         self.region.release(self.segments, cell);
+    }
+}
+
+/// The lease that a put attaches its key to, and 0 where there is none.
+fn lease_at(region: &Region, cell: CellNo) -> i64
+    requires { IsSome (cells_of region.now.records cell) }
+    ensures { IfSome (cells_of region.now.records cell) (λ e. result ≡ lease_of (change_of e.change)) }
+{
+    match region.kind(cell) {
+        Kind::Put => region.fields(cell).lease,
+        Kind::Delete | Kind::Lease => 0,
     }
 }
