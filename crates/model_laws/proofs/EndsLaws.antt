@@ -25,14 +25,14 @@ finish_leaves t [] = refl
 finish_leaves t (e ∷ es) = finish_leaves (finish kept_store t e.id) es
 
 -- one of the leases has the ID of this one
-abbrev is_among : List Lease → Lease → Bool
+abbrev pub is_among : List Lease → Lease → Bool
 is_among es l = list_any (λ e. int_eq l.id e.id) es
 
-filter_all : {X : Type 0} (xs : List X) → filter (λ x. not false) xs ≡ xs
+pub filter_all : {X : Type 0} (xs : List X) → filter (λ x. not false) xs ≡ xs
 filter_all [] = refl
 filter_all (x ∷ xs) = ap (λ ys. x ∷ ys) (filter_all xs)
 
-filter_twice : {X : Type 0} (p q : X → Bool) (xs : List X) → filter (λ x. not (q x)) (filter (λ x. not (p x)) xs) ≡ filter (λ x. not (p x || q x)) xs
+pub filter_twice : {X : Type 0} (p q : X → Bool) (xs : List X) → filter (λ x. not (q x)) (filter (λ x. not (p x)) xs) ≡ filter (λ x. not (p x || q x)) xs
 filter_twice p q [] = refl
 filter_twice p q (x ∷ xs) = step (p x) (q x) refl (filter_twice p q xs)
   where
@@ -67,7 +67,7 @@ none_later moment l (m ∷ ms) all = step (has_run_out moment m) (none_later mom
 here : (id : ℤ) → int_eq id id ≡ true
 here id = ap is_eq (tied_itself int_cmp_total id)
 
-among : (moment : ℕ) (ls : List Lease) (l : Lease) → IsStrictlySortedBy by_id ls → IsIn l ls → is_among (filter (has_run_out moment) ls) l ≡ has_run_out moment l
+pub among : (moment : ℕ) (ls : List Lease) (l : Lease) → IsStrictlySortedBy by_id ls → IsIn l ls → is_among (filter (has_run_out moment) ls) l ≡ has_run_out moment l
 unfolding IsStrictlySortedBy
 among moment [] l sorted there = absurd there
 among moment (x ∷ xs) l sorted there = elim there [
@@ -83,7 +83,7 @@ among moment (x ∷ xs) l sorted there = elim there [
     rest true other same = ap (λ b. b || is_among (filter (has_run_out moment) xs) l) other ∙ same
     rest false other same = same
 
-in_order_among : (moment : ℕ) (ls : List Lease) (l : Lease) → is_among (run_out moment ls) l ≡ is_among (filter (has_run_out moment) ls) l
+pub in_order_among : (moment : ℕ) (ls : List Lease) (l : Lease) → is_among (run_out moment ls) l ≡ is_among (filter (has_run_out moment) ls) l
 in_order_among moment ls l =
     any-in_order end_cmp (λ e. int_eq l.id e.id) (λ x y tie. ap (λ i. int_eq l.id i) (sym (ends_alike x y tie))) (filter (has_run_out moment) ls)
 

@@ -93,7 +93,7 @@ free_id_is_least counter leases h = let r = least counter leases h in (r.from, r
 
 -- ---- a filter that cannot tell apart what ties
 
-filter-swap : {X : Type 0} (p q : X → Bool) (xs : List X) → filter p (filter q xs) ≡ filter q (filter p xs)
+pub filter-swap : {X : Type 0} (p q : X → Bool) (xs : List X) → filter p (filter q xs) ≡ filter q (filter p xs)
 filter-swap p q [] = refl
 filter-swap p q (x ∷ xs) = step (filter-swap p q xs) (p x) (q x) refl refl
   where

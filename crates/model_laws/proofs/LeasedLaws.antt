@@ -257,7 +257,7 @@ found_key key (r ∷ rs) row is = step (found_key key rs row) (bytes_eq r.key ke
     step rest true g = refl
     step rest false g = rest g
 
-first_key : (key : List ℕ) → is_empty key ≡ false → is_in (0 ∷ []) (0 ∷ []) key ≡ true
+pub first_key : (key : List ℕ) → is_empty key ≡ false → is_in (0 ∷ []) (0 ∷ []) key ≡ true
 first_key [] h = absurd (true≢false h)
 first_key (zero ∷ []) h = refl
 first_key (zero ∷ b ∷ bs) h = refl

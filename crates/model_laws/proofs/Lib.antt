@@ -24,3 +24,4 @@ pub mod ApartLaws
 pub mod NumberLaws
 pub mod SortingLaws
 pub mod EndsLaws
+pub mod AttachedLaws

@@ -4,6 +4,7 @@ pub mod Holding
 pub mod Space
 pub mod Worlds
 pub mod Leases
+pub mod Attached
 pub mod Runs
 pub mod Once
 pub mod Pending

@@ -5,6 +5,7 @@
 #![tactic(auto)]
 
 ghost use Rattle.model_laws.specs.Apart.{ApartLaws};
+ghost use Rattle.model_laws.specs.Attached.{AttachedLaws};
 ghost use Rattle.model_laws.specs.Holding.{HoldingLaws};
 ghost use Rattle.model_laws.specs.Keeping.{KeepingLaws};
 ghost use Rattle.model_laws.specs.Leases.{LeaseLaws};
@@ -64,6 +65,11 @@ pub fn run_laws()
 /// The ID that is chosen for a lease, and the order in which leases end.
 pub fn lease_laws()
     ensures { LeaseLaws }
+{}
+
+/// Which keys a lease holds, and what writes, ends of leases and compactions make of them.
+pub fn attached_laws()
+    ensures { AttachedLaws }
 {}
 
 /// What a tenant is answered alone depends on its state and its own events, and on nothing else.
