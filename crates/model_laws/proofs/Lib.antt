@@ -25,3 +25,4 @@ pub mod NumberLaws
 pub mod SortingLaws
 pub mod EndsLaws
 pub mod AttachedLaws
+pub mod BoundLaws

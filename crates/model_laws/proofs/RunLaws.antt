@@ -170,7 +170,7 @@ step_keeps_quota S step = (step_keeps_limits S step).1
 
 -- ---- leases
 
-all_put_in : (P : Lease → Type 0) (x : Lease) (ys : List Lease) → P x → AllByRecursion P ys → AllByRecursion P (put_in by_id ys x)
+pub all_put_in : (P : Lease → Type 0) (x : Lease) (ys : List Lease) → P x → AllByRecursion P ys → AllByRecursion P (put_in by_id ys x)
 all_put_in P x [] px all = (px, tt)
 all_put_in P x (y ∷ ys) px all = elim (by_id x y) as (λ o. AllByRecursion P (beside o x y ys (put_in by_id ys x))) [
   | Less ↦ (px, all)
@@ -187,7 +187,7 @@ all_found P p (x ∷ xs) l all is = step (all_found P p xs l all.1) (p x) is
     step rest false e = rest e
 
 -- a lease from a moment on
-new_lease : (moment : ℕ) (id : ℤ) (ttl : ℕ) → 1 ≤ ttl → int_le (pos ttl) max_ttl ≡ true → IsRunning moment (record { id = id; ttl = ttl; end = moment + ttl })
+pub new_lease : (moment : ℕ) (id : ℤ) (ttl : ℕ) → 1 ≤ ttl → int_le (pos ttl) max_ttl ≡ true → IsRunning moment (record { id = id; ttl = ttl; end = moment + ttl })
 new_lease moment id ttl least most = record { least = least; most = most; after = omega (arith, least); before = omega arith }
 
 leased : (S : State History) (id : ℤ) (ttl : ℕ) → HasLeases S → 1 ≤ ttl → int_le (pos ttl) max_ttl ≡ true → HasLeases (record S { leases = put_lease S.moment S.leases id ttl })

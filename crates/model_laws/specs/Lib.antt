@@ -5,6 +5,7 @@ pub mod Space
 pub mod Worlds
 pub mod Leases
 pub mod Attached
+pub mod Bounds
 pub mod Runs
 pub mod Once
 pub mod Pending

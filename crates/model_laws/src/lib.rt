@@ -6,6 +6,7 @@
 
 ghost use Rattle.model_laws.specs.Apart.{ApartLaws};
 ghost use Rattle.model_laws.specs.Attached.{AttachedLaws};
+ghost use Rattle.model_laws.specs.Bounds.{BoundLaws};
 ghost use Rattle.model_laws.specs.Holding.{HoldingLaws};
 ghost use Rattle.model_laws.specs.Keeping.{KeepingLaws};
 ghost use Rattle.model_laws.specs.Leases.{LeaseLaws};
@@ -70,6 +71,11 @@ pub fn lease_laws()
 /// Which keys a lease holds, and what writes, ends of leases and compactions make of them.
 pub fn attached_laws()
     ensures { AttachedLaws }
+{}
+
+/// Over what is kept, the revisions, a tenant's leases and the counter of their IDs stay within bounds.
+pub fn bound_laws()
+    ensures { BoundLaws }
 {}
 
 /// What a tenant is answered alone depends on its state and its own events, and on nothing else.
