@@ -7,7 +7,9 @@ use Rattle.std.specs.Str.{bytes_eq}
 use Rattle.std.specs.Cmp.Lexicographic.{bytes_decides}
 use Rattle.std.proofs.lemmas.Bool.{or_parts, or_from, true≢false, false_from_ne_true}
 use Rattle.std.proofs.Common.{append_assoc}
+use Rattle.std.proofs.lemmas.Bool.Decides.{nat_tests}
 use Rattle.std.proofs.lemmas.List.{append-nil}
+use Rattle.std.proofs.lemmas.List.Elements.{filter-append}
 use Rattle.std.proofs.lemmas.List.Kept.{IsStrictlySortedBy-filter}
 use Rattle.std.proofs.lemmas.Map.Views.{any-filter_same}
 use Rattle.std.proofs.lemmas.Simd.{map-map}
@@ -20,7 +22,7 @@ use Rattle.etcd_model.specs.declared.state.Change.TheVariants.{Delete as Del}
 use Rattle.etcd_model.specs.History.{key_of}
 use Rattle.etcd_model.specs.Interval.{is_in, every_key}
 use Rattle.etcd_model.specs.Leases.{attached}
-use Rattle.etcd_model.specs.Changes.{Recorded, entry_at, next_row, live, rows, recorded, record_revision}
+use Rattle.etcd_model.specs.Changes.{Recorded, entry_at, next_row, live, rows, recorded, record_revision, since}
 use Rattle.etcd_model.specs.Store.{Store, IsStore, after, reads_of, kept_store}
 use Rattle.etcd_model.proofs.HistoryLaws.{changes_of}
 use Rattle.etcd_model.proofs.OnceLaws.{Shows, branch_once, no_delete, one_delete, at_most_one, IsDeleteAtMost}
@@ -121,3 +123,29 @@ recorded_where_once n xs (c ∷ cs) once =
     recorded_where_once n (xs ++ y ∷ []) cs (λ key. fewer (bytes_eq (key_of c) key) c (changes_of key cs) (once key))
     ∙ ap (λ ys. (xs ++ y ∷ []) ++ ys) (others_recorded n xs y cs apart)
     ∙ append_assoc xs (y ∷ []) (map (λ d. recorded xs (entry_at n d)) cs)
+
+none_since : (n : ℕ) (xs : List Recorded) → AllByRecursion (λ x. x.revision ≤ n) xs → since (n + 1) xs ≡ []
+none_since n [] up = refl
+none_since n (x ∷ xs) up = ap (λ b. cond b (x ∷ since (n + 1) xs) (since (n + 1) xs)) (earlier x.revision up.0) ∙ none_since n xs up.1
+  where
+    earlier : (r : ℕ) → r ≤ n → nat_le (n + 1) r ≡ false
+    earlier r le = grind (arith, nat_tests)
+
+all_since : (n : ℕ) (xs : List Recorded) (cs : List Change) → since n (map (λ c. recorded xs (entry_at n c)) cs) ≡ map (λ c. recorded xs (entry_at n c)) cs
+all_since n xs [] = refl
+all_since n xs (c ∷ cs) =
+    let rest = map (λ c. recorded xs (entry_at n c)) cs in
+    ap (λ b. cond b (recorded xs (entry_at n c) ∷ since n rest) (since n rest)) (here n) ∙ ap (λ ys. recorded xs (entry_at n c) ∷ ys) (all_since n xs cs)
+  where
+    here : (r : ℕ) → nat_le r r ≡ true
+    here r = grind (arith, nat_tests)
+
+pub since_where_once : (s : Store) (cs : List Change) → IsStore s → IsOnce cs → since (s.current + 1) (after s cs).changes ≡ map (λ c. recorded s.changes (entry_at (s.current + 1) c)) cs
+since_where_once s [] is once = none_since s.current s.changes is.up
+since_where_once s (c ∷ cs) is once =
+    let n = s.current + 1 in
+    let new = map (λ d. recorded s.changes (entry_at n d)) (c ∷ cs) in
+    ap (since n) (recorded_where_once n s.changes (c ∷ cs) once)
+    ∙ filter-append (λ (x : Recorded). nat_le n x.revision) s.changes new
+    ∙ ap (λ ys. ys ++ since n new) (none_since s.current s.changes is.up)
+    ∙ all_since n s.changes (c ∷ cs)

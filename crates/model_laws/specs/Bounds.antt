@@ -1,6 +1,6 @@
 -- Laws: over what is kept, the revisions, a tenant's leases and the counter of their IDs stay within bounds.
-use Rattle.std.specs.Prelude.{◌≡◌, ℕ, ◌+◌, ◌<◌, ◌≤◌, ℤ, ◌+ℤ◌, pos, true, false, ◌&&◌, int_le, nat_le, nat_lt, List}
-use Rattle.std.specs.Prelude.{length, filter}
+use Rattle.std.specs.Prelude.{◌≡◌, ℕ, ◌+◌, ◌<◌, ◌≤◌, ℤ, ◌+ℤ◌, pos, true, false, ◌&&◌, int_le, nat_le}
+use Rattle.std.specs.Prelude.{nat_lt, List, length, filter}
 use Rattle.std.specs.List.{AllByRecursion}
 use Rattle.std.specs.List.Sorted.{IsStrictlySortedBy}
 use Rattle.std.specs.Ordering.{int_eq}
@@ -43,8 +43,8 @@ pub record BoundLaws : Type 0 where
       → HasRevisions bound (finished s id)
   pub ends_have_revisions : (t : State Store) (bound : ℕ) → IsStore t.store → HasRevisions bound t.store
       → HasRevisions bound (ends t).store
-  pub compaction_has_revisions : (s : Store) (r bound : ℕ) → IsStore s → r ≤ s.current → HasRevisions bound s
-      → HasRevisions bound (compact s r)
+  pub compaction_has_revisions : (s : Store) (r bound : ℕ) → IsStore s → r ≤ s.current
+      → HasRevisions bound s → HasRevisions bound (compact s r)
   -- so there is a revision for the end of a lease that holds a key
   pub end_has_a_revision : (s : Store) (id : ℤ) (bound : ℕ) → IsStore s
       → 1 ≤ length (attached (reads_of s) id) → HasRevisions bound s → s.current < last_revision + bound
@@ -60,7 +60,7 @@ pub record BoundLaws : Type 0 where
   -- each ends by the last moment and the longest time to live
   pub leases_end_by : (moment : ℕ) (leases : List Lease) → moment ≤ last_moment → AreLeases moment leases
       → AllByRecursion (λ l. int_le (pos l.end) (pos last_moment +ℤ max_ttl) ≡ true) leases
-  -- a grant that is not refused for used-up IDs gets one that is not 0, and the counter stays within its bound
+  -- a grant that is not refused for used-up IDs gets one that is not 0, and the counter stays in its bound
   pub grant_has_id : (bound counter : ℕ) (leases : List Lease) (wanted : ℤ) → IsCounter bound counter
       → length leases ≤ bound → (nat_le last_lease_id counter && int_eq wanted (pos 0)) ≡ false
       → (int_eq (grant_id counter leases wanted) (pos 0) ≡ false)

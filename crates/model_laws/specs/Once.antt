@@ -1,5 +1,5 @@
 -- Laws: no revision changes a key twice.
-use Rattle.std.specs.Prelude.{◌≡◌, ℕ, ◌≤◌, ℤ, false, None, List, [], ◌++◌, length, map, filter}
+use Rattle.std.specs.Prelude.{◌≡◌, ℕ, ◌+◌, ◌≤◌, ℤ, false, None, List, [], ◌++◌, length, map, filter}
 use Rattle.std.specs.Str.{bytes_eq}
 use Rattle.etcd_types.specs.declared.txn.Op.{Op}
 use Rattle.etcd_types.specs.declared.txn.TxnReq.{TxnReq}
@@ -15,8 +15,8 @@ use Rattle.etcd_model.specs.Fields.{fields, has_duplicate}
 use Rattle.etcd_model.specs.Operations.{pending_after, branch}
 use Rattle.etcd_model.specs.Leases.{attached}
 use Rattle.etcd_model.specs.Machine.{opening, state_after}
-use Rattle.etcd_model.specs.Changes.{Recorded, ChangesOnce, entry_at, recorded, record_revision}
-use Rattle.etcd_model.specs.Store.{Store, IsStore, reads_of, kept_store}
+use Rattle.etcd_model.specs.Changes.{Recorded, ChangesOnce, entry_at, recorded, record_revision, since}
+use Rattle.etcd_model.specs.Store.{Store, IsStore, after, reads_of, kept_store}
 
 -- each key is in some changes once at most
 abbrev pub IsOnce : List Change → Type 0
@@ -36,3 +36,7 @@ pub record OnceLaws : Type 0 where
   -- such changes are each recorded over what was there before all of them
   pub recorded_where_once : (n : ℕ) (xs : List Recorded) (cs : List Change) → IsOnce cs
       → record_revision n xs cs ≡ xs ++ map (λ c. recorded xs (entry_at n c)) cs
+  -- and are what a store has from their revision on
+  pub since_where_once : (s : Store) (cs : List Change) → IsStore s → IsOnce cs
+      → since (s.current + 1) (after s cs).changes
+      ≡ map (λ c. recorded s.changes (entry_at (s.current + 1) c)) cs

@@ -1,5 +1,5 @@
 use Rattle.etcd_model.proofs.OnceLaws.{ChangesOnce-opening, ChangesOnce-run, taken_branch}
-use Rattle.model_laws.proofs.OnceStoreLaws.{branch_changes_once, finish_changes_once, recorded_where_once}
+use Rattle.model_laws.proofs.OnceStoreLaws.{branch_changes_once, finish_changes_once, recorded_where_once, since_where_once}
 use Rattle.model_laws.proofs.once_laws.Goals as goal
 
 pub returns : goal.returns
@@ -10,4 +10,5 @@ returns c = record {
   branch_changes_once = branch_changes_once;
   finish_changes_once = finish_changes_once;
   recorded_where_once = recorded_where_once;
+  since_where_once = since_where_once;
 }
