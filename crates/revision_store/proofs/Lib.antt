@@ -1,6 +1,7 @@
 mod Writing
 mod Left
 pub mod RowsLeft
+pub mod Attached
 mod Committed
 pub mod Recorded
 pub mod Placed

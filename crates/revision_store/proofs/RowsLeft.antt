@@ -13,9 +13,11 @@ use Rattle.model_laws.proofs.LastIsLaws.{last_in, last_max}
 use Rattle.key_index.specs.Links.{Cells, Linked, IsChained}
 use Rattle.key_index.specs.Compaction.{IsCompacted, IsKept}
 use Rattle.key_index.specs.Order.{AreAll, IsInOrder, changes_in}
+use Rattle.key_index.proofs.Compacted.{change_some}
 use Rattle.key_index.proofs.Links.{one_linked}
 use Rattle.key_index.proofs.Order.{cell_in, change_in, is_it_up_to}
 use Rattle.revision_store.specs.Recorded.{cells_of, linked_by, linked_of, row_of}
+use Rattle.revision_store.specs.Logged.{AllStay}
 use Rattle.revision_store.specs.Stored.{RowsStay, row_at}
 
 -- ---- a change under a cell and its row
@@ -50,6 +52,12 @@ row_under cells c row at = from (cells c) refl at
     from : (o : Option Linked) → cells c ≡ o → option_and_then (λ (x : Recorded). x.row) (option_map (λ (e : Linked). e.change) o) ≡ Some row → (e : Linked) × (cells c ≡ Some e) × (e.change.row ≡ Some row)
     from None there h = let bad : ⊥ = cc in absurd bad
     from (Some e) there h = (e, there, h)
+
+-- a row is under its cell where all changes stay
+pub row_stays : (old new : Cells) (c : ℕ) (row : KeyValue) → AllStay old new → row_at old c ≡ Some row → row_at new c ≡ Some row
+row_stays old new c row stay at =
+    let e = row_under old c row at in
+    ap (option_and_then (λ (x : Recorded). x.row)) (stay c e.0.change (change_some old c e.0 e.1)) ∙ e.2
 
 last_shown : (key : List ℕ) (r : ℕ) (xs : List Recorded) (row : KeyValue) → live key r xs ≡ Some row → (x : Recorded) × (last key r xs ≡ Some x) × (x.row ≡ Some row)
 last_shown key r xs row shown = from (last key r xs) refl shown

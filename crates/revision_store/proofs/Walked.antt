@@ -1,6 +1,6 @@
 -- The changes from a revision on, of cells whose revisions don't fall.
 use Rattle.std.proofs.Common.{◌≡◌, ℕ, zero, suc, ◌+◌, ◌<◌, ◌≤◌, List, [], ◌∷◌, length, get_or, drop, map, Option, Some, None, IsSome, IfSome, refl, sym, ap, ◌∙◌, subst, arith}
-use Rattle.std.specs.Prelude.{option_map}
+use Rattle.std.specs.Prelude.{Bool, true, is_some, option_and_then, option_map}
 use Rattle.std.specs.List.{All, AllByRecursion, cons_option}
 use Rattle.std.proofs.lemmas.Bool.Decides.{nat_tests}
 use Rattle.std.proofs.lemmas.List.{get_or_default}
@@ -11,6 +11,7 @@ use Rattle.key_index.specs.Order.{IsInOrder, changes_in}
 use Rattle.key_index.proofs.Compacted.{linked_some}
 use Rattle.key_index.proofs.Links.{at_linked, is_some_from, one_linked}
 use Rattle.key_index.proofs.Order.{which}
+use Rattle.revision_store.specs.Stored.{row_at}
 
 abbrev change_in : Option Linked → Option Recorded
 change_in o = option_map (λ (e : Linked). e.change) o
@@ -112,3 +113,11 @@ all_there cells (c ∷ cs) (x ∷ xs) is =
     let rest : map (change_at cells) cs ≡ map Some xs = cc in
     let e = linked_some cells c x first in
     (is_some_from (cells c) e.0 e.1, all_there cells cs xs rest)
+
+-- a put has its row under its cell
+pub put_there : (cells : Cells) (c : ℕ) (b : Bool) → IsSome (cells c) → IfSome (cells c) (λ e. b ≡ is_some e.change.row) → b ≡ true → IsSome (row_at cells c)
+put_there cells c b there told is_true = by (cells c) there told
+  where
+    by : (o : Option Linked) → IsSome o → IfSome o (λ e. b ≡ is_some e.change.row) → IsSome (option_and_then (λ (x : Recorded). x.row) (change_in o))
+    by None some h = let bad : ⊥ = cc in absurd bad
+    by (Some e) some h = sym h ∙ is_true
