@@ -46,7 +46,7 @@ impl Records for Reader<'_> {
     }
 
     fn lease(&self, cell: CellNo) -> i64 {
-        lease_at(self.region, cell)
+        lease_under(self.region, cell)
     }
 
     fn older(&self, cell: CellNo) -> Option<CellNo> {
@@ -84,7 +84,7 @@ impl<S: Segments> Records for Writer<'_, S> {
     }
 
     fn lease(&self, cell: CellNo) -> i64 {
-        lease_at(self.region, cell)
+        lease_under(self.region, cell)
     }
 
     fn older(&self, cell: CellNo) -> Option<CellNo> {
@@ -121,7 +121,7 @@ impl<S: Segments> RecordsMut for Writer<'_, S> {
 }
 
 /// The lease that a put attaches its key to, and 0 where there is none.
-fn lease_at(region: &Region, cell: CellNo) -> i64
+fn lease_under(region: &Region, cell: CellNo) -> i64
     requires { IsSome (cells_of region.now.records cell) }
     ensures { IfSome (cells_of region.now.records cell) (λ e. result ≡ lease_of (change_of e.change)) }
 {

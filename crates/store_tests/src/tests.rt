@@ -12,8 +12,8 @@ use etcd_types::{Mem, Step};
 use plain_store::PlainStore;
 use random::Random;
 use scripts::{
-    ACROSS_COMPACTIONS, CHANGED_PUTS, FILTERED_RANGES, INTERVALS, LIMITED_RANGES, Line,
-    OLD_REVISIONS, SORTED_RANGES, THREE_ROWS,
+    ACROSS_COMPACTIONS, CHANGED_PUTS, CHANGES_OF_A_KEY, FILTERED_RANGES, INTERVALS, KEPT_CHANGES,
+    LIMITED_RANGES, Line, OLD_REVISIONS, SORTED_RANGES, THREE_ROWS,
 };
 use std::alloc::Global;
 use std::process::Abort;
@@ -23,7 +23,10 @@ use told::text_of;
 /// Segments of a store over cells, and steps by chance that are taken.
 const SEGMENTS: u32 = 16;
 
-const STEPS: u32 = 4000;
+const STEPS: u64 = 4000;
+
+/// What is kept is looked at once in so many steps, and so many revisions back.
+const LOOKED_AT: u64 = 16;
 
 /// What a store answers to a step, as text.
 fn told_by<S: Answers>(alloc: Global, store: &mut S, step: &Step) -> Mem<String> {
@@ -87,7 +90,7 @@ fn assert_same<S: Answers>(
     Ok(())
 }
 
-/// Both stores keep as many changes from a revision on.
+/// Both stores keep the same changes from a revision on, and show the same rows before them.
 fn assert_same_kept<S: Answers>(
     rt: &impl Abort,
     alloc: Global,
@@ -96,8 +99,8 @@ fn assert_same_kept<S: Answers>(
     revision: u64,
 ) -> Mem<()> {
     assert_eq!(rt;
-        store.kept_since(alloc, revision)?,
-        plain.kept_since(alloc, revision)?,
+        store.kept_since(alloc, revision)?.as_str(),
+        plain.kept_since(alloc, revision)?.as_str(),
         "{revision}"
     );
     Ok(())
@@ -107,7 +110,7 @@ fn assert_same_kept<S: Answers>(
 fn assert_agrees<S: Answers + Drop>(rt: &impl Abort, alloc: Global, mut store: S) -> Mem<()> {
     let mut plain = PlainStore::new(alloc, 1);
     let mut random = Random::new();
-    for _ in 0..STEPS {
+    for taken in 0..STEPS {
         let current = plain.current();
         assert!(rt; current < LAST_REVISION);
         assert_same(
@@ -117,9 +120,36 @@ fn assert_agrees<S: Answers + Drop>(rt: &impl Abort, alloc: Global, mut store: S
             &mut store,
             random.step(alloc, current)?,
         )?;
-        assert_same_kept(rt, alloc, &plain, &store, current.saturating_sub(9))?;
+        if taken % LOOKED_AT == 0 {
+            assert_same_kept(rt, alloc, &plain, &store, current.saturating_sub(LOOKED_AT))?;
+        }
     }
     Ok(())
+}
+
+/// A new store that took a script keeps changes as they are told.
+fn assert_keeps<S: Answers + Drop>(
+    rt: &impl Abort,
+    alloc: Global,
+    mut store: S,
+    lines: &[Line],
+    kept: &str,
+) -> Mem<()> {
+    for line in lines {
+        assert_line(rt, alloc, &mut store, line)?;
+    }
+    assert_eq!(rt; store.kept_since(alloc, 0)?.as_str(), kept);
+    Ok(())
+}
+
+#[test]
+fn rows_before_changes(rt: HostRuntime) -> Mem<()> {
+    let alloc = rt.alloc();
+    let plain = PlainStore::new(alloc, 1);
+    assert_keeps(&rt, alloc, plain, &CHANGES_OF_A_KEY, KEPT_CHANGES)?;
+    assert_keeps(&rt, alloc, lowest(alloc)?, &CHANGES_OF_A_KEY, KEPT_CHANGES)?;
+    assert_keeps(&rt, alloc, highest(alloc)?, &CHANGES_OF_A_KEY, KEPT_CHANGES)?;
+    assert_keeps(&rt, alloc, filled(alloc)?, &CHANGES_OF_A_KEY, KEPT_CHANGES)
 }
 
 #[test]

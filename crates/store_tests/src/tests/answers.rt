@@ -1,8 +1,9 @@
 //! Stores that scripts are run over.
-use crate::tests::told::Told;
+use crate::tests::asked::range;
+use crate::tests::told::{Told, write_at, write_rows_of};
 use etcd_types::limits::LAST_REVISION;
-use etcd_types::{Mem, Step};
-use plain_store::PlainStore;
+use etcd_types::{CopyOf, KeyValue, Mem, OpReply, Step};
+use plain_store::{PlainStore, Recorded};
 use std::alloc::Global;
 
 /// A store that scripts are run over.
@@ -10,8 +11,9 @@ pub(super) trait Answers {
     /// Takes a step, and says what it is answered.
     fn answer(&mut self, alloc: Global, step: &Step) -> Mem<Told>;
 
-    /// How many changes it keeps at revisions from this one on.
-    fn kept_since(&self, alloc: Global, revision: u64) -> Mem<usize>;
+    /// The changes that it keeps at revisions from this one on, each with the row that its key showed
+    /// before it, in the words of `told`.
+    fn kept_since(&self, alloc: Global, revision: u64) -> Mem<String>;
 }
 
 impl Answers for PlainStore {
@@ -32,7 +34,30 @@ impl Answers for PlainStore {
         }
     }
 
-    fn kept_since(&self, alloc: Global, revision: u64) -> Mem<usize> {
-        Ok(self.since(alloc, revision)?.as_slice().len())
+    fn kept_since(&self, alloc: Global, revision: u64) -> Mem<String> {
+        let changes = self.since(alloc, revision)?;
+        let mut text = String::new(alloc);
+        for change in changes.as_slice() {
+            let key = change.key.as_slice();
+            let lease = change.row.as_ref().map_or(0, |row| row.lease);
+            let before = row_before(alloc, self, change)?;
+            write_at(&mut text, change.revision, lease, key)?;
+            write_rows_of(&mut text, change.row.as_ref(), before.as_ref())?;
+        }
+        Ok(text)
+    }
+}
+
+/// The row that the key of a change showed before it: none where a range there is refused.
+fn row_before(alloc: Global, store: &PlainStore, change: &Recorded) -> Mem<Option<KeyValue>> {
+    let mut request = range(alloc, "", "")?;
+    request.key = change.key.copy_of(alloc)?;
+    request.revision = change.revision.saturating_sub(1).min(LAST_REVISION) as i64;
+    match store.range(alloc, &request)? {
+        Ok(OpReply::Range { kvs, .. }) => match kvs.as_slice() {
+            [row, ..] => Ok(Some(row.copy_of(alloc)?)),
+            [] => Ok(None),
+        },
+        _ => Ok(None),
     }
 }

@@ -1,13 +1,15 @@
 //! The store over cells, with the segments that it draws.
-ghost use Rattle.std.specs.Prelude.{◌≡◌, ◌+◌, ◌<◌, ◌≤◌, ◌^◌};
+ghost use Rattle.std.specs.Prelude.{◌≡◌, ◌+◌, ◌<◌, ◌≤◌, ◌^◌, IsSome};
+ghost use Rattle.std.specs.List.{AllByRecursion};
 ghost use Rattle.cell_arena.specs.Loan.{IsLent};
-ghost use Rattle.revision_store.specs.Stored.{IsPlanFor};
+ghost use Rattle.revision_store.specs.Stored.{IsPlanFor, cells};
 
 use crate::tests::answers::Answers;
-use crate::tests::told::Told;
+use crate::tests::told::{Told, write_at, write_rows_of};
 use cell_arena::Segments;
 use etcd_types::limits::LAST_REVISION;
-use etcd_types::{DeleteReq, Mem, PutReq, Step};
+use etcd_types::{CellNo, DeleteReq, KeyValue, Mem, PutReq, Step};
+use key_index::Records;
 use revision_store::{Plan, PlannedOp, Store};
 use std::alloc::Global;
 
@@ -75,7 +77,50 @@ impl<S: Segments + Drop> Answers for CellStore<S> {
         }
     }
 
-    fn kept_since(&self, _alloc: Global, revision: u64) -> Mem<usize> {
-        Ok(self.store.since(revision).len())
+    fn kept_since(&self, alloc: Global, revision: u64) -> Mem<String> {
+        let mut text = String::new(alloc);
+        write_since(&mut text, alloc, &self.store, revision)?;
+        Ok(text)
+    }
+}
+
+/// Writes the changes that a store keeps at revisions from this one on.
+fn write_since(text: &mut String, alloc: Global, store: &Store, revision: u64) -> Mem<()> {
+    write_changes(text, alloc, store, store.since(revision))
+}
+
+fn write_changes(text: &mut String, alloc: Global, store: &Store, changes: &[CellNo]) -> Mem<()>
+    requires { AllByRecursion (λ c. IsSome (cells store.now c)) changes.now }
+{
+    for cell in changes {
+        write_change(text, alloc, store, *cell)?;
+    }
+    Ok(())
+}
+
+fn write_change(text: &mut String, alloc: Global, store: &Store, cell: CellNo) -> Mem<()>
+    requires { IsSome (cells store.now cell) }
+{
+    let records = store.records();
+    let key = store.key(alloc, cell)?;
+    let row = row_left(alloc, store, cell)?;
+    let before = store.row_before(alloc, cell)?;
+    write_at(
+        text,
+        records.revision(cell),
+        records.lease(cell),
+        key.as_slice(),
+    )?;
+    write_rows_of(text, row.as_ref(), before.as_ref())
+}
+
+/// The row that a change left, if it is a put.
+fn row_left(alloc: Global, store: &Store, cell: CellNo) -> Mem<Option<KeyValue>>
+    requires { IsSome (cells store.now cell) }
+{
+    if store.records().is_put(cell) {
+        Ok(Some(store.row(alloc, cell)?))
+    } else {
+        Ok(None)
     }
 }

@@ -200,3 +200,21 @@ pub(super) const INTERVALS: [Line; 11] = [
     (Put("a", "4"), "6"),
     (Range("a", ""), "6: 1 a=4(6,6,1)"),
 ];
+
+/// A key that is put, put with a lease, deleted and put again. Of its first two puts the compaction keeps the
+/// second, which is at its revision.
+pub(super) const CHANGES_OF_A_KEY: [Line; 6] = [
+    (Put("a", "1"), "2"),
+    (PutBy("a", "2", &[Lease(7)]), "3"),
+    (Compact(3), "compacted"),
+    (Delete("a", ""), "4: 1 a=2(2,3,2)@7"),
+    (Put("a", "3"), "5"),
+    (Put("a", "4"), "6"),
+];
+
+/// What is kept of these, with the rows before them. Revision 2 is compacted, and at 4 the key isn't live.
+pub(super) const KEPT_CHANGES: &str = "3@7 a a=2(2,3,2)@7
+4@0 a < a=2(2,3,2)@7
+5@0 a a=3(5,5,1)
+6@0 a a=4(5,6,2) < a=3(5,5,1)
+";

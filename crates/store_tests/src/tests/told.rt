@@ -108,6 +108,28 @@ fn write_row(text: &mut String, row: &KeyValue) -> Mem<()> {
     Ok(())
 }
 
+/// A change of a key at a revision, with the lease that it attaches the key to or 0.
+pub(super) fn write_at(text: &mut String, revision: u64, lease: i64, key: &[u8]) -> Mem<()> {
+    write!(text, "{revision}@{lease} ")?;
+    write_bytes(text, key)
+}
+
+/// The row that a change left, if it is a put, and after a `<` the row before it, to the end of a line.
+pub(super) fn write_rows_of(
+    text: &mut String,
+    row: Option<&KeyValue>,
+    before: Option<&KeyValue>,
+) -> Mem<()> {
+    if let Some(row) = row {
+        write_row(text, row)?;
+    }
+    if let Some(row) = before {
+        text.push_str(" <")?;
+        write_row(text, row)?;
+    }
+    text.push('\n')
+}
+
 fn write_bytes(text: &mut String, bytes: &[u8]) -> Mem<()> {
     match str::from_utf8(bytes) {
         Ok(bytes) => text.push_str(bytes),
