@@ -3,17 +3,20 @@ use Rattle.std.proofs.Common.{◌≡◌, ℕ, ◌<◌, List, [], ◌∷◌, ◌+
 use Rattle.std.specs.Prelude.{Bool, true, false, cond, ◌&&◌, ◌||◌, filter, Option, Some, None, nat_le, nat_eq, option_map, if◌then◌else◌}
 use Rattle.std.specs.List.{AllByRecursion}
 use Rattle.std.specs.Str.{bytes_eq}
-use Rattle.std.proofs.lemmas.Bool.{cases_Bool}
+use Rattle.std.specs.Cmp.Lexicographic.{bytes_decides}
+use Rattle.std.proofs.lemmas.Bool.{and_from, and_parts, cases_Bool, leb-true, true≢false}
 use Rattle.std.proofs.lemmas.Bool.Decides.{nat_tests}
 use Rattle.etcd_model.specs.declared.state.Change.{Change}
 use Rattle.etcd_model.specs.declared.state.History.{History}
 use Rattle.etcd_model.specs.History.{key_of}
 use Rattle.etcd_model.specs.Kept.{is_last_put}
-use Rattle.etcd_model.specs.Changes.{Recorded, entry_at, entry_of, change_of, recorded_changes, recorded, last, keeps, kept, ChangesOnce, record_revision}
+use Rattle.etcd_model.specs.Changes.{Recorded, entry_at, entry_of, change_of, recorded_changes, recorded, last, keeps, kept, ChangesOnce, Rises, record_revision}
 use Rattle.etcd_model.proofs.HistoryLaws.{changes_of as own_changes}
 use Rattle.model_laws.specs.Once.{IsOnce}
+use Rattle.model_laws.specs.Recording.{IsIn}
 use Rattle.model_laws.specs.Apart.{is_same_place, AreApart, is_at, is_last_up_to}
 use Rattle.model_laws.proofs.KeptLaws.{all_kept, kept_true, kept_false}
+use Rattle.model_laws.proofs.LastIsLaws.{all_in, last_is}
 use Rattle.model_laws.proofs.RecordedLaws.{all_append, all_weaker, changes_are_entries, key_of-change_by}
 use Rattle.model_laws.proofs.HistoryKeptLaws.{same_place, Apart, no_more, fewer, is_put-change, entries_apart, alike}
 use Rattle.model_laws.proofs.OnceStoreLaws.{keys_apart, recorded_where_once}
@@ -94,3 +97,35 @@ kept_filter c all zs (x ∷ ys) is apart =
 
 pub kept_by_last : (c : ℕ) (xs : List Recorded) → AreApart xs → kept c xs ≡ filter (λ x. nat_le c x.revision || is_last_up_to c xs x) xs
 kept_by_last c xs apart = kept_filter c xs [] xs refl apart
+
+-- ---- the last change of a key up to its own revision
+
+-- two changes at one place are one
+one_place : (xs : List Recorded) (w x : Recorded) → AreApart xs → IsIn w xs → IsIn x xs → is_same_place x w ≡ true → is_same_place w x ≡ true → w ≡ x
+one_place [] w x apart here there same back = absurd here
+one_place (y ∷ ys) w x apart here there same back = elim here [
+  | inl w_is ↦ elim there [
+    | inl x_is ↦ w_is ∙ sym x_is
+    | inr x_in ↦ absurd (true≢false (sym back ∙ ap (λ z. is_same_place z x) w_is ∙ all_in (λ z. is_same_place y z ≡ false) ys x apart.0 x_in))
+  ]
+  | inr w_in ↦ elim there [
+    | inl x_is ↦ absurd (true≢false (sym same ∙ ap (λ z. is_same_place z w) x_is ∙ all_in (λ z. is_same_place y z ≡ false) ys w apart.0 w_in))
+    | inr x_in ↦ one_place ys w x apart.1 w_in x_in same back
+  ]
+]
+
+at_place : (w x : Recorded) → w.key ≡ x.key → w.revision ≡ x.revision → is_same_place w x ≡ true
+at_place w x key revision = and_from (bytes_eq x.key w.key) (nat_eq x.revision w.revision) ((bytes_decides x.key w.key).1 (sym key)) (same x.revision w.revision (sym revision))
+  where
+    same : (a b : ℕ) → a ≡ b → nat_eq a b ≡ true
+    same a b e = grind (arith, nat_tests)
+
+pub last_of_own : (xs : List Recorded) (x : Recorded) → Rises xs → AreApart xs → IsIn x xs → last x.key x.revision xs ≡ Some x
+last_of_own xs x rises apart there =
+    last_is xs x.key x.revision x rises there
+    (and_from (bytes_eq x.key x.key) (nat_le x.revision x.revision) ((bytes_decides x.key x.key).1 refl) (up x.revision))
+    (λ w h passes. leb-true w.revision x.revision (and_parts (bytes_eq w.key x.key) (nat_le w.revision x.revision) passes).1)
+    (λ w h key revision. one_place xs w x apart h there (at_place x w (sym key) (sym revision)) (at_place w x key revision))
+  where
+    up : (r : ℕ) → nat_le r r ≡ true
+    up r = grind (arith, nat_tests)

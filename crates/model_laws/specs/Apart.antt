@@ -5,8 +5,10 @@ use Rattle.std.specs.List.{AllByRecursion}
 use Rattle.std.specs.Str.{bytes_eq}
 use Rattle.etcd_model.specs.declared.state.History.{History}
 use Rattle.etcd_model.specs.declared.state.Change.{Change}
-use Rattle.etcd_model.specs.Changes.{Recorded, ChangesOnce, recorded_changes, record_revision, last, kept}
+use Rattle.etcd_model.specs.Changes.{Recorded, ChangesOnce, Rises, recorded_changes, record_revision, last}
+use Rattle.etcd_model.specs.Changes.{kept}
 use Rattle.model_laws.specs.Once.{IsOnce}
+use Rattle.model_laws.specs.Recording.{IsIn}
 
 -- two changes of one key at one revision
 abbrev pub is_same_place : Recorded → Recorded → Bool
@@ -32,6 +34,9 @@ pub record ApartLaws : Type 0 where
   pub kept_apart : (c : ℕ) (xs : List Recorded) → AreApart xs → AreApart (kept c xs)
   pub recorded_apart : (n : ℕ) (xs : List Recorded) (cs : List Change) → AreApart xs
       → AllByRecursion (λ x. x.revision < n) xs → IsOnce cs → AreApart (record_revision n xs cs)
-  -- then a compaction keeps the changes from it on, and of each key its last one up to it, if that is a put
+  -- then each change in order is the last one of its key up to its own revision
+  pub last_of_own : (xs : List Recorded) (x : Recorded) → Rises xs → AreApart xs → IsIn x xs
+      → last x.key x.revision xs ≡ Some x
+  -- and a compaction keeps the changes from it on, and of each key its last one up to it, if that is a put
   pub kept_by_last : (c : ℕ) (xs : List Recorded) → AreApart xs
       → kept c xs ≡ filter (λ x. nat_le c x.revision || is_last_up_to c xs x) xs
