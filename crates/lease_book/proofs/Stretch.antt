@@ -1,15 +1,15 @@
 -- The attachments of one lease stand side by side.
-use Rattle.std.proofs.Common.{◌≡◌, ℕ, zero, suc, ◌+◌, ◌<◌, ◌≤◌, List, [], ◌∷◌, length, get_or, take, drop, refl, sym, ap, subst, ◌∙◌, arith, inl, inr}
+use Rattle.std.proofs.Common.{◌≡◌, ℕ, zero, suc, ◌+◌, ◌<◌, ◌≤◌, List, [], ◌∷◌, length, get_or, take, drop, refl, sym, ap, ◌∙◌, arith, inl, inr}
 use Rattle.std.specs.Prelude.{ℤ, ◌<ℤ◌, Bool, true, false, not, cond, filter, int_lt, int_le}
-use Rattle.std.specs.List.{AllByRecursion, prefix_len, remove}
-use Rattle.std.specs.Ordering.{int_cmp, int_eq}
+use Rattle.std.specs.List.{AllByRecursion, remove}
+use Rattle.std.specs.Ordering.{int_eq}
 use Rattle.std.specs.declared.cmp.Ordering.TheVariants.{Less}
 use Rattle.std.proofs.lemmas.Bool.{true≢false}
 use Rattle.std.proofs.lemmas.Cmp.{int_ranked}
 use Rattle.std.proofs.lemmas.Int.{ints}
 use Rattle.lease_book.specs.declared.attachments.Attachment.{Attachment}
 use Rattle.lease_book.specs.Attached.{RiseById, keys_below, keys_up_to, without_keys}
-use Rattle.lease_book.proofs.Standing.{IsBelow, IsAbove, IsSame, stand, above}
+use Rattle.lease_book.proofs.Standing.{IsAbove, IsSame, stand, above}
 use Rattle.lease_book.proofs.Turning.{IsFailing}
 
 -- ---- IDs

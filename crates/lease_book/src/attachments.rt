@@ -175,11 +175,7 @@ impl<'a, R: Records> Test<Attachment> for ComesBefore<'a, R> {
 }
 
 /// The place of the first attachment that does not come before one.
-fn place_for<R: Records>(
-    list: &ChunkList<Attachment>,
-    sought: &Attachment,
-    records: &R,
-) -> Place
+fn place_for<R: Records>(list: &ChunkList<Attachment>, sought: &Attachment, records: &R) -> Place
     requires attached { AreAttached (R.cells records.now) list.now.items }
     requires head { IsSome (R.cells records.now sought.now.head) }
     ensures { IsPlaceAt list.now result (keys_before (R.cells records.now) list.now.items sought.now) }
@@ -207,11 +203,7 @@ fn find_key<R: Records>(
 }
 
 /// Puts an attachment in its place, over the one of the same lease and key if there is one.
-pub(crate) fn put_key<R: Records>(
-    list: &mut ChunkList<Attachment>,
-    new: &Attachment,
-    records: &R,
-)
+pub(crate) fn put_key<R: Records>(list: &mut ChunkList<Attachment>, new: &Attachment, records: &R)
     requires attached { AreAttached (R.cells records.now) list.old.items }
     requires head { IsSome (R.cells records.now new.now.head) }
     requires room { length list.old.items < list.old.room }
@@ -225,11 +217,7 @@ pub(crate) fn put_key<R: Records>(
 }
 
 /// Takes away the attachment of the same lease and key, if there is one.
-pub(crate) fn drop_key<R: Records>(
-    list: &mut ChunkList<Attachment>,
-    old: &Attachment,
-    records: &R,
-)
+pub(crate) fn drop_key<R: Records>(list: &mut ChunkList<Attachment>, old: &Attachment, records: &R)
     requires attached { AreAttached (R.cells records.now) list.old.items }
     requires head { IsSome (R.cells records.now old.now.head) }
     ensures items { list.new.items ≡ without_attachment (R.cells records.now) list.old.items old.now }

@@ -277,8 +277,10 @@ impl LeaseBook {
         requires attached { AreAttached (R.cells records.now) self.old.attachments }
         requires head { IsSome (R.cells records.now head) }
         requires room { length self.old.attachments < self.old.room }
-        ensures value { self.new ≡ record self.old { attachments = with_attachment
-            (R.cells records.now) self.old.attachments (record { id = id; head = head }) } }
+        ensures value { self.new ≡ record self.old {
+          attachments = with_attachment
+              (R.cells records.now) self.old.attachments (record { id = id; head = head });
+        } }
         ensures attached { AreAttached (R.cells records.now) self.new.attachments }
     {
         put_key(&mut self.attachments, &Attachment { id, head }, records);
@@ -289,8 +291,10 @@ impl LeaseBook {
     pub fn detach<R: Records>(&mut self, id: i64, head: CellNo, records: &R)
         requires attached { AreAttached (R.cells records.now) self.old.attachments }
         requires head { IsSome (R.cells records.now head) }
-        ensures value { self.new ≡ record self.old { attachments = without_attachment
-            (R.cells records.now) self.old.attachments (record { id = id; head = head }) } }
+        ensures value { self.new ≡ record self.old {
+          attachments = without_attachment
+              (R.cells records.now) self.old.attachments (record { id = id; head = head });
+        } }
         ensures attached { AreAttached (R.cells records.now) self.new.attachments }
     {
         drop_key(&mut self.attachments, &Attachment { id, head }, records);

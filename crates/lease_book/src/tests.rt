@@ -1,4 +1,9 @@
 //! The life of leases. What is wanted is told by the rules: a lease ends its time to live after the moment.
+
+ghost use Rattle.std.specs.Prelude.{◌≡◌};
+
+mod keys;
+
 use crate::{LeaseBook, NewLease};
 use etcd_model::state::Lease;
 use etcd_types::limits::{LAST_LEASE_ID, LAST_MOMENT};
@@ -18,7 +23,9 @@ fn grant(
     moment: u64,
     request: GrantReq,
     cell: CellNo,
-) -> Result<Told, Refusal> {
+) -> Result<Told, Refusal>
+    ensures { book.new.attachments ≡ book.old.attachments }
+{
     if moment > LAST_MOMENT || book.len() >= book.room() {
         return Err(Refusal::NoSpace);
     }

@@ -21,10 +21,10 @@ returns-then-get-id-clause-items c =
     let other : c.get.result.id ≢ c.args.id = search rules in
     let differs : int_eq c.get.result.id c.args.id ≡ false = false_from_ne_true (int_eq c.get.result.id c.args.id) (λ t. other ((Decides-int_eq c.get.result.id c.args.id).0 t)) in
     sym (none_left id list.items c.dropping.invariant.rise (λ d less.
-      ap (λ n. int_eq (get_or list.items n d).id id) (sym c.dropping.invariant.at.position_is)
-      ∙ ap (λ (a : Attachment). int_eq a.id id) (sym (get_or_default list.items q c.get.result d lt) ∙ sym c.get.ensures)
-      ∙ ap (int_eq c.get.result.id) same
-      ∙ differs))
+    ap (λ n. int_eq (get_or list.items n d).id id) (sym c.dropping.invariant.at.position_is)
+    ∙ ap (λ (a : Attachment). int_eq a.id id) (sym (get_or_default list.items q c.get.result d lt) ∙ sym c.get.ensures)
+    ∙ ap (int_eq c.get.result.id) same
+    ∙ differs))
     ∙ c.dropping.invariant.same
     ∙ ap (without_keys c.args.list.now.items) same
 
@@ -34,9 +34,9 @@ returns-clause-items c =
     let same : id ≡ c.args.id = search rules in
     let list = c.dropping.list in
     sym (none_left id list.items c.dropping.invariant.rise (λ d less.
-      let item : HasItem list.sizes c.dropping.place = c.dropping.invariant.at.item_is less in
-      let bad : ⊥ = search rules in
-      absurd bad))
+    let item : HasItem list.sizes c.dropping.place = c.dropping.invariant.at.item_is less in
+    let bad : ⊥ = search rules in
+    absurd bad))
     ∙ c.dropping.invariant.same
     ∙ ap (without_keys c.args.list.now.items) same
 
