@@ -1,6 +1,6 @@
 -- The rows under the keys of each lease stay those that have the lease, over a write of one key.
 use Rattle.std.proofs.Common.{◌≡◌, ℕ, List, [], ◌∷◌, refl, sym, ap, ◌∙◌}
-use Rattle.std.specs.Prelude.{ℤ, pos, Bool, true, false, not, cond, filter, map, Option, Some, None}
+use Rattle.std.specs.Prelude.{ℤ, pos, Bool, true, false, not, cond, filter, map, Option, Some}
 use Rattle.std.specs.List.{AllByRecursion}
 use Rattle.std.specs.List.Sorted.{IsStrictlySortedBy}
 use Rattle.std.specs.Cmp.{IsTotalOrder}
@@ -143,8 +143,8 @@ module _ (cells : Cells) (row_at : ℕ → Option KeyValue) (own : (c : ℕ) (x 
           ∙ ap (λ z. map row_at (put_in (head_cmp cells) (heads_of list z) a.head)) (sym same)
           ∙ put_row a.head x at (heads_of list id) (rows_of id rows) (holds id used)
           ∙ ap (map Some) (put_over by_key by_key_total x (rows_of id rows) sorted_of
-            ∙ ap (λ ys. put_in by_key ys x) (sym (filter_swap (λ (r : KeyValue). int_eq r.lease id) (λ (r : KeyValue). not (is_eq (key_cmp r.key x.key))) rows))
-            ∙ sym (puts true ((Decides-int_eq x.lease id).1 (lease ∙ sym same))))
+          ∙ ap (λ ys. put_in by_key ys x) (sym (filter_swap (λ (r : KeyValue). int_eq r.lease id) (λ (r : KeyValue). not (is_eq (key_cmp r.key x.key))) rows))
+          ∙ sym (puts true ((Decides-int_eq x.lease id).1 (lease ∙ sym same))))
       by false e =
           ap (map row_at) (others_with cells a list id (turned (int_eq a.id id) refl e))
           ∙ holds id used
@@ -159,8 +159,8 @@ module _ (cells : Cells) (row_at : ℕ → Option KeyValue) (own : (c : ℕ) (x 
   unattached list rows x none up holds has id used =
       holds id used
       ∙ ap (map Some) (sym (filter_put by_key by_key_total x (λ (r : KeyValue). int_eq r.lease id) rows up
-        ∙ ap (λ b. cond b (put_in by_key (rows_of id (rows_without rows x.key)) x) (rows_of id (rows_without rows x.key))) (ap (λ z. int_eq z id) none ∙ turned (int_eq (pos 0) id) refl)
-        ∙ same_rows x.key (pos 0) id rows used has))
+      ∙ ap (λ b. cond b (put_in by_key (rows_of id (rows_without rows x.key)) x) (rows_of id (rows_without rows x.key))) (ap (λ z. int_eq z id) none ∙ turned (int_eq (pos 0) id) refl)
+      ∙ same_rows x.key (pos 0) id rows used has))
     where
       turned : (b : Bool) → int_eq (pos 0) id ≡ b → int_eq (pos 0) id ≡ false
       turned true f = absurd (true≢false (sym ((Decides-int_eq id (pos 0)).1 (sym ((Decides-int_eq (pos 0) id).0 f))) ∙ used))
