@@ -1,0 +1,102 @@
+//! What an event is answered.
+ghost use Rattle.std.specs.Prelude.{◌≡◌, IfOk, IsOk, true};
+ghost use Rattle.etcd_model.specs.ReplyText.{memory_answer, reply_body, text};
+ghost use Rattle.host_front.specs.Answering.{has_fixed_text, Refuses};
+
+use etcd_types::{Mem, Refusal, Reply};
+use gateway_text::{memory_text, write_reply};
+use std::alloc::Global;
+use std::marker::Model;
+
+/// A body's bytes: made for the answer, or always the same.
+#[derive(Drop)]
+pub enum Body {
+    Made(Vec<u8>),
+    Fixed(&'static [u8]),
+}
+
+/// A status of HTTP and a body.
+#[derive(Drop)]
+pub struct Answer {
+    status: u16,
+    body: Body,
+}
+
+impl Model for Answer {
+    ghost use Rattle.etcd_model.specs.ReplyText as texts;
+    ghost use Rattle.host_front.specs.Bodies.{body_bytes};
+
+    ghost Value = { texts.Answer };
+
+    ghost view = { λ a. record { status = a.status; body = body_bytes a.body } };
+}
+
+impl Answer {
+    pub fn status(&self) -> u16
+        ensures { result ≡ self.now.status }
+    {
+        self.status
+    }
+
+    pub fn body(&self) -> &[u8]
+        ensures { result.now ≡ self.now.body }
+    {
+        match &self.body {
+            Body::Made(bytes) => bytes.as_slice(),
+            Body::Fixed(bytes) => bytes,
+        }
+    }
+
+    /// The text of a reply. It fails only for want of memory, and takes none for a reply with a fixed text.
+    pub(crate) fn to(alloc: Global, reply: &Reply) -> Mem<Answer>
+        ensures told { IfOk result (λ answer. answer ≡ text reply.now) }
+        ensures sure { has_fixed_text reply.now ≡ true → IsOk result }
+    {
+        match reply {
+            Reply::Quiet => Ok(Answer::fixed(204, b"")),
+            Reply::Refused(Refusal::NotOffered) => Ok(Answer::fixed(501, not_offered_text())),
+            _ => {
+                let (status, body) = write_reply(alloc, reply)?;
+                Ok(Answer {
+                    status,
+                    body: Body::Made(body),
+                })
+            }
+        }
+    }
+
+    /// A refusal, or want of memory for its text.
+    pub(crate) fn refused(alloc: Global, refusal: Refusal) -> Answer
+        ensures { Refuses refusal result }
+    {
+        match Answer::to(alloc, &Reply::Refused(refusal)) {
+            Ok(answer) => answer,
+            Err(_) => Answer::no_memory(),
+        }
+    }
+
+    pub(crate) fn no_memory() -> Answer
+        ensures { result ≡ memory_answer }
+    {
+        Answer::fixed(Refusal::Memory.status(), memory_text())
+    }
+
+    fn fixed(status: u16, body: &'static [u8]) -> Answer
+        ensures { result ≡ record { status = status; body = body.now } }
+    {
+        Answer {
+            status,
+            body: Body::Fixed(body),
+        }
+    }
+}
+
+/// The body of what is not offered.
+const NOT_OFFERED_TEXT: &[u8] =
+    b"{\"code\":12,\"error\":\"etcd_host: not offered\",\"message\":\"etcd_host: not offered\"}";
+
+fn not_offered_text() -> &'static [u8]
+    ensures { result.now ≡ reply_body (Reply.Refused Refusal.NotOffered) }
+{
+    NOT_OFFERED_TEXT
+}

@@ -1,0 +1,17 @@
+//! The host, spoken to in bytes: it is composed with the gateway before and behind it.
+//!
+//! Each tenant is answered the bytes that the written machine, as it is built, gives for its own events
+//! alone: nothing of another tenant can be seen in an answer. Want of memory apart, which changes nothing.
+#![tactic(auto)]
+
+mod answer;
+mod event;
+mod front;
+mod law;
+#[cfg(test)]
+mod tests;
+
+pub use answer::{Answer, Body};
+pub use event::{HostEvent, LentEvent};
+pub use front::Front;
+pub use law::two_worlds;

@@ -1,0 +1,91 @@
+//! Worked rows as lists of events: what tenants of one host are answered, and a tenant alone.
+//!
+//! The events are text in tables, and one small function asks them: a test that holds many values itself is
+//! long to prove.
+mod rows;
+
+use crate::{Front, HostEvent};
+use etcd_types::Mem;
+use rows::{ALONE, Asked, FIRST_ROWS, NEIGHBOURS, REFUSALS, Row};
+use std::alloc::Global;
+use std::process::Abort;
+use std::test::Fail;
+use steps_core::Host;
+
+fn bytes(alloc: Global, text: &str) -> Mem<Vec<u8>> {
+    Vec::from_slice(alloc, text.as_bytes())
+}
+
+fn event_of(alloc: Global, asked: &Asked) -> Mem<HostEvent> {
+    Ok(match *asked {
+        Asked::Call(method, target, body) => HostEvent::Call {
+            method: bytes(alloc, method)?,
+            target: bytes(alloc, target)?,
+            body: bytes(alloc, body)?,
+        },
+        Asked::Take(tenant, slot) => HostEvent::Take {
+            tenant: bytes(alloc, tenant)?,
+            slot,
+        },
+        Asked::Drop(tenant, slot) => HostEvent::DropWatch {
+            tenant: bytes(alloc, tenant)?,
+            slot,
+        },
+        Asked::Tick(tenant, moment) => HostEvent::Tick {
+            tenant: bytes(alloc, tenant)?,
+            moment,
+        },
+        Asked::CatchUp(tenant, budget) => HostEvent::CatchUp {
+            tenant: bytes(alloc, tenant)?,
+            budget,
+        },
+    })
+}
+
+/// Each row is answered as it says.
+fn assert_rows(rt: &impl Abort, alloc: Global, front: &mut Front, rows: &[Row]) -> Mem<()> {
+    let mut events = Vec::new(alloc);
+    for row in rows {
+        events.push(event_of(alloc, &row.asked)?)?;
+    }
+    let answers = front.answer_all(alloc, events.as_slice())?;
+    assert!(rt; answers.len() == rows.len());
+    for (answer, row) in answers.iter().zip(rows) {
+        assert!(rt; answer.status() == row.status);
+        assert!(rt; answer.body() == row.body.as_bytes());
+    }
+    Ok(())
+}
+
+#[test]
+fn first_rows(rt: HostRuntime) -> Result<(), Fail> {
+    let mut front = Front::new(Host::new(rt.alloc(), 16)?);
+    assert_eq!(rt; front.host().add(rt.alloc(), b"one", 7, 1024, 1), Ok(()));
+    assert_rows(&rt, rt.alloc(), &mut front, &FIRST_ROWS)?;
+    Ok(())
+}
+
+#[test]
+fn a_full_neighbour_is_not_noticed(rt: HostRuntime) -> Result<(), Fail> {
+    let mut front = Front::new(Host::new(rt.alloc(), 17)?);
+    assert_eq!(rt; front.host().add(rt.alloc(), b"one", 7, 8, 1), Ok(()));
+    assert_eq!(rt; front.host().add(rt.alloc(), b"two", 9, 1024, 1), Ok(()));
+    assert_rows(&rt, rt.alloc(), &mut front, &NEIGHBOURS)?;
+    Ok(())
+}
+
+#[test]
+fn alone_the_answers_are_the_same(rt: HostRuntime) -> Result<(), Fail> {
+    let mut front = Front::new(Host::new(rt.alloc(), 16)?);
+    assert_eq!(rt; front.host().add(rt.alloc(), b"two", 9, 1024, 1), Ok(()));
+    assert_rows(&rt, rt.alloc(), &mut front, &ALONE)?;
+    Ok(())
+}
+
+#[test]
+fn refusals_in_their_order(rt: HostRuntime) -> Result<(), Fail> {
+    let mut front = Front::new(Host::new(rt.alloc(), 16)?);
+    assert_eq!(rt; front.host().add(rt.alloc(), b"one", 7, 1024, 1), Ok(()));
+    assert_rows(&rt, rt.alloc(), &mut front, &REFUSALS)?;
+    Ok(())
+}
