@@ -1,7 +1,6 @@
 pub mod LineLemmas
 pub mod NumberLemmas
 pub mod FirstLine
+pub mod ReadLemmas
 pub mod Replayed
 pub mod GoingLemmas
-pub mod ToldLemmas
-pub mod ServedLemmas

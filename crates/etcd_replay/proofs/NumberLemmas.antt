@@ -1,7 +1,6 @@
 -- Decimal digits are text, and a parse of them is the number that they spell.
-use Rattle.std.proofs.Common.{◌≡◌, ℕ, zero, suc, ◌<◌, ◌^◌, List, [], ◌∷◌, drop, Some, None, Result, Ok, Err, Bool, true, false, cond, refl, ap, sym, subst, ◌∙◌, ◌≤◌, arith, lit<, lt-ltb}
-use borrow.Author.Tests.{ltb-true, leb-true}
-use Rattle.etcd_replay.specs.Replaying.{within_limits}
+use Rattle.std.proofs.Common.{◌≡◌, ℕ, zero, suc, ◌<◌, ◌^◌, List, [], ◌∷◌, drop, Some, None, Result, Ok, Err, Bool, true, false, cond, refl, ap, sym, subst, ◌∙◌, arith, lit<, lt-ltb}
+use borrow.Author.Tests.{ltb-true}
 use Rattle.std.specs.Prelude.{IsUtf8, ◌&&◌, ◌==◌, nat_lt}
 use Rattle.std.specs.Char.{is_ascii_digit, digit_value}
 use Rattle.std.specs.List.{list_all}
@@ -51,9 +50,3 @@ number_parsed text r h p =
     let plain : OkIff r (IsNumeral 10 text × (digits_value 10 text < 2 ^ 64)) (digits_value 10 text) = subst (λ t. OkIff r (IsNumeral 10 t × (digits_value 10 t < 2 ^ 64)) (digits_value 10 t)) (no_plus text (and_parts _ _ h).1) p in
     decided r (digits_value 10 text) (nat_lt (digits_value 10 text) (2 ^ 64)) _ (λ q. lt-ltb _ _ q.1) (λ q. (numeral text h, ltb-true _ _ q)) plain
     ∙ ap (λ b. cond (b && nat_lt (digits_value 10 text) (2 ^ 64)) (Some (digits_value 10 text)) None) (sym h)
-
--- a first revision within the limits fits a signed number
-pub first_fits : (cluster quota first : ℕ) → within_limits cluster quota first ≡ true → first < 2 ^ 63
-first_fits cluster quota first h =
-    let low : first ≤ 2 ^ 62 = leb-true first (2 ^ 62) (and_parts _ _ (and_parts _ _ h).1).1 in
-    omega (arith, low)

@@ -1,14 +1,17 @@
 -- What is answered to a line, and the answer line that is written.
 use Rattle.std.specs.Prelude.{ℕ, List, [], ◌∷◌, ◌++◌, decimal, codes, if◌then◌else◌}
 use Rattle.std.specs.Io.BufRead.{ends_with_byte}
-use Rattle.etcd_replay.specs.declared.answer.AddFault.{AddFault}
-use Rattle.etcd_replay.specs.declared.answer.AddFault.TheVariants.{Name, Limits, Memory}
+use Rattle.steps_core.specs.declared.host.OperatorFault.{OperatorFault}
+use Rattle.steps_core.specs.declared.host.OperatorFault.TheVariants.{Name, Limits, Taken, NoTenant, Short, Memory}
 use Rattle.etcd_replay.specs.declared.answer.LineAnswer.{LineAnswer}
 use Rattle.etcd_replay.specs.declared.answer.LineAnswer.TheVariants.{Done, No, Told}
 
-abbrev pub word_of : AddFault → List ℕ
+abbrev pub word_of : OperatorFault → List ℕ
 word_of Name = codes "name"
 word_of Limits = codes "limits"
+word_of Taken = codes "taken"
+word_of NoTenant = codes "tenant"
+word_of Short = codes "short"
 word_of Memory = codes "memory"
 
 -- a newline, unless the text ends with one

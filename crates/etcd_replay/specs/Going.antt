@@ -1,21 +1,19 @@
 -- How far a replay has come.
-use Rattle.std.specs.Prelude.{◌≡◌, ℕ, List, ◌++◌, length, map, flat_map, Option, Some}
-use Rattle.std.specs.List.{AllByRecursion}
+use Rattle.std.specs.Prelude.{◌≡◌, ℕ, true, List, ◌++◌, length, map, flat_map, Option, Some}
 use Rattle.std.specs.Io.KnownBytes.{Appends}
-use Rattle.etcd_replay.specs.Script.{lines_of, read_line}
+use Rattle.steps_core.specs.Hosts.{HostState}
+use Rattle.etcd_replay.specs.Script.{lines_of, read_lines}
 use Rattle.etcd_replay.specs.Answers.{line_of}
-use Rattle.etcd_replay.specs.Replaying.{TenantState, LineTurn, IsReplayed, IsSpoken}
+use Rattle.etcd_replay.specs.Replaying.{LineTurn, AreTold, usual_host}
 
 -- n lines of the script are done, and the bytes after them are left
-pub record Going (script : List ℕ) (left old new : Option (List ℕ)) (tenant : Option TenantState) (n : ℕ)
-    : Type 0 where
+pub record Going (script : List ℕ) (left old new : Option (List ℕ)) (host : HostState) (n : ℕ) : Type 0 where
   pub done : List (List ℕ)
   pub rest : List ℕ
   pub remains : left ≡ Some rest
   pub lines : lines_of script ≡ done ++ lines_of rest
   pub number : length done ≡ n
   pub turns : List LineTurn
-  pub read : map read_line done ≡ map (λ x. Some x.asked) turns
-  pub replayed : IsReplayed turns tenant
-  pub spoken : AllByRecursion (λ (x : LineTurn). IsSpoken x.asked x.answer) turns
+  pub read : read_lines true done ≡ map (λ x. Some x.asked) turns
+  pub told : AreTold usual_host turns host
   pub text : Appends old new (flat_map (λ x. line_of x.answer) turns)

@@ -2,7 +2,6 @@ pub mod Script
 pub mod Lines
 pub mod Parted
 pub mod Answers
-pub mod Bodies
 pub mod Replaying
 pub mod Written
 pub mod Going

@@ -1,129 +1,67 @@
--- A replay: lines answered in turn, and the tenant that they made.
-use Rattle.std.specs.Prelude.{◌≡◌, ◌≢◌, ℕ, ◌==◌, ◌&&◌, ◌||◌, ◌++◌, not, Bool, true, false}
-use Rattle.std.specs.Prelude.{List, ◌∷◌, nat_lt, nat_le, length, filter_map, Option, None, Some, is_some}
-use Rattle.std.specs.Prelude.{Result, if◌then◌else◌, refl}
-use Rattle.std.specs.Char.{is_ascii_digit, is_ascii_lowercase}
-use Rattle.std.specs.List.{list_all, AllByRecursion}
-use Rattle.std.specs.Coded.{Coded, code_by, coded×, coded_ℕ, coded_list}
-use Rattle.etcd_types.specs.Limits.{max_name, min_quota, max_quota, last_revision}
-use Rattle.etcd_types.specs.declared.call.Call.{Call as KnownCall}
-use Rattle.etcd_types.specs.declared.refusal.Refusal.{Refusal}
-use Rattle.etcd_types.specs.declared.refusal.Refusal.TheVariants.{NoPath, NoTenant}
-use Rattle.etcd_types.specs.declared.reply.Reply.TheVariants.{Refused}
-use Rattle.etcd_types.specs.declared.step.Step.{Step}
-use Rattle.etcd_model.specs.declared.state.History.{History}
-use Rattle.etcd_model.specs.declared.state.State.{State}
+-- A replay: lines answered in turn, over one host.
+use Rattle.std.specs.Prelude.{◌≡◌, ◌≢◌, ℕ, ◌≤◌, List, [], ◌∷◌, filter_map, Option, None, Some}
+use Rattle.etcd_types.specs.declared.limits.TheConstants.{DEFAULT_SEGMENTS, MAX_SEGMENTS}
 use Rattle.etcd_model.specs.Machine.{opening}
-use Rattle.etcd_model.specs.Calls.{Target, target_of, call_of}
-use Rattle.etcd_model.specs.ReplyText.{Answer, memory_answer, text}
-use Rattle.etcd_model.specs.Alone.{Event, Called, Stepped, Turn, is_of, is_unanswered, own, asked, told}
-use Rattle.etcd_model.specs.Alone.{alone, alone_after, read_event, answer_to, after_read}
-use Rattle.etcd_model.specs.Held.{Holds}
-use Rattle.tenant_machine.specs.Tenants.{MachineState, machine_code, tenant}
-use Rattle.etcd_replay.specs.declared.answer.AddFault.{AddFault}
-use Rattle.etcd_replay.specs.declared.answer.AddFault.TheVariants.{Name, Limits, Memory}
+use Rattle.etcd_model.specs.Alone.{Turn}
+use Rattle.steps_core.specs.declared.host.OperatorFault.TheVariants.{Memory}
+use Rattle.steps_core.specs.Hosts.{HostState}
+use Rattle.steps_core.specs.Adding.{add_fault, Adds}
+use Rattle.host_front.specs.declared.front.Front.{Front}
+use Rattle.host_front.specs.Answering.{Answers}
+use Rattle.host_front.specs.Isolation.{IsAlone}
 use Rattle.etcd_replay.specs.declared.answer.LineAnswer.{LineAnswer}
 use Rattle.etcd_replay.specs.declared.answer.LineAnswer.TheVariants.{Done, No, Told}
-use Rattle.etcd_replay.specs.Script.{Asked, Add, Call}
+use Rattle.etcd_replay.specs.Script.{Asked, Pool, Add, Happens}
 
--- a tenant, by its name
-pub record TenantState : Type 0 where
-  pub name : List ℕ
-  pub machine : MachineState
+-- ---- the host
 
-abbrev pub tenant_state : List ℕ → MachineState → TenantState
-tenant_state name machine = record { name = name; machine = machine }
+-- a host of so many segments, and of no tenants
+abbrev pub new_host : ℕ → HostState
+new_host segments = record { tenants = []; segments = segments }
 
-abbrev pub tenant_code : Coded TenantState
-tenant_code =
-    code_by (List ℕ × MachineState) (coded× (coded_list coded_ℕ) machine_code)
-    (λ t. (t.name, t.machine)) (λ p. tenant_state p.0 p.1) (λ _. refl)
+-- the host of a script that names no pool
+abbrev pub usual_host : HostState
+usual_host = new_host DEFAULT_SEGMENTS
 
--- ---- adding a tenant
+abbrev pub host_in : Option Front → HostState
+host_in None = usual_host
+host_in (Some front) = front.host
 
-abbrev pub is_name_byte : ℕ → Bool
-is_name_byte c = is_ascii_lowercase c || is_ascii_digit c || c == 45
+-- a pool is named first, and is no larger than a pool may be
+pub record IsPoolInPlace (front : Option Front) (segments : ℕ) : Type 0 where
+  pub first : front ≡ None
+  pub some : 1 ≤ segments
+  pub most : segments ≤ MAX_SEGMENTS
 
--- 1 to 64 bytes of `a-z0-9-`
-abbrev pub is_name : List ℕ → Bool
-is_name name = nat_lt 0 (length name) && nat_le (length name) max_name && list_all is_name_byte name
-
-abbrev pub within_limits : ℕ → ℕ → ℕ → Bool
-within_limits cluster quota first =
-    nat_lt 0 cluster && (nat_le min_quota quota && nat_le quota max_quota)
-    && (nat_lt 0 first && nat_le first last_revision)
-
--- why a tenant is not added, where one is there already or not: one is the limit
-abbrev pub add_fault : Bool → List ℕ → ℕ → ℕ → ℕ → Option AddFault
-add_fault taken name cluster quota first =
-    if not (is_name name) then Some Name
-    else if not (within_limits cluster quota first) || taken then Some Limits
-    else None
-
--- ---- calls of nobody
-
--- what an event is told where the tenant that it names is not there
-abbrev pub refused_call : Option KnownCall → Refusal
-refused_call None = NoPath
-refused_call (Some c) = NoTenant
-
-abbrev pub refused_target : Option Target → Refusal
-refused_target None = NoPath
-refused_target (Some target) = refused_call (call_of target.path)
-
-abbrev pub nobody : Event → Refusal
-nobody (Called method target body) = refused_target (target_of target)
-nobody (Stepped tenant step) = NoTenant
+abbrev pub IsInPlace : Option Front → Asked → Type 0
+IsInPlace front (Pool segments) = IsPoolInPlace front segments
+IsInPlace front (Add name cluster quota first) = Unit {0}
+IsInPlace front (Happens e) = Unit {0}
 
 -- ---- one line
 
--- the event is of the tenant that is there
-abbrev pub is_there : Option TenantState → Event → Bool
-is_there None e = false
-is_there (Some t) e = is_of t.name e
+-- a pool is there before any tenant
+abbrev pub IsPool : HostState → ℕ → LineAnswer → HostState → Type 0
+IsPool old segments Done new = (old.tenants ≡ []) × (new ≡ new_host segments)
+IsPool old segments (No fault) new = ⊥
+IsPool old segments (Told a) new = ⊥
 
--- a machine is asked for a step, or for one that is refused
-pub record Serves (old : MachineState) (wanted : Result Step Refusal) (a : Answer) (new : MachineState)
-    : Type 0 where
-  pub served : (S : State History) → is_unanswered a ≡ false → Holds S (tenant old)
-      → (a ≡ answer_to S wanted) × Holds (after_read S wanted) (tenant new)
-  pub memory : is_unanswered a ≡ true → (new ≡ old) × (a ≡ memory_answer)
+-- a tenant is added at its opening if nothing speaks against it; else the first fault is told, or want of
+-- memory, and nothing changed
+abbrev pub IsAdded : HostState → List ℕ → ℕ → ℕ → ℕ → LineAnswer → HostState → Type 0
+IsAdded old name cluster quota first Done new =
+    (add_fault old name cluster quota first ≡ None) × Adds old name cluster quota first new
+IsAdded old name cluster quota first (No fault) new =
+    (new ≡ old) × (fault ≢ Memory → add_fault old name cluster quota first ≡ Some fault)
+IsAdded old name cluster quota first (Told a) new = ⊥
 
--- the tenant is there, at its opening
-pub record Opens (name : List ℕ) (cluster quota first : ℕ) (new : Option TenantState) : Type 0 where
-  pub machine : MachineState
-  pub is : new ≡ Some (tenant_state name machine)
-  pub holds : Holds (opening cluster quota first) (tenant machine)
-
--- a tenant is added where nothing speaks against it; one that is not changes nothing
-pub record IsAdded (old : Option TenantState) (name : List ℕ) (cluster quota first : ℕ) (answer : LineAnswer)
-    (new : Option TenantState) : Type 0 where
-  pub free : answer ≡ Done → add_fault (is_some old) name cluster quota first ≡ None
-  pub opens : answer ≡ Done → Opens name cluster quota first new
-  pub no : (fault : AddFault) → answer ≡ No fault
-      → (new ≡ old) × (fault ≢ Memory → add_fault (is_some old) name cluster quota first ≡ Some fault)
-  pub spoken : (a : Answer) → answer ≢ Told a
-
--- a call of the tenant that is there is answered as the machine answers it, and its next state is held
-pub record IsServed (old : Option TenantState) (e : Event) (a : Answer) (new : Option TenantState)
-    : Type 0 where
-  pub own : (t : TenantState) (S : State History) → old ≡ Some t → is_of t.name e ≡ true
-      → Holds S (tenant t.machine)
-      → (a ≡ answer_to S (read_event e))
-      × ((m : MachineState) × (new ≡ Some (tenant_state t.name m))
-      × Holds (after_read S (read_event e)) (tenant m))
-  pub none : is_there old e ≡ false → (new ≡ old) × (a ≡ text (Refused (nobody e)))
-
--- for want of memory nothing changed
-pub record IsCalled (old : Option TenantState) (e : Event) (a : Answer) (new : Option TenantState)
-    : Type 0 where
-  pub served : is_unanswered a ≡ false → IsServed old e a new
-  pub memory : is_unanswered a ≡ true → (new ≡ old) × (a ≡ memory_answer)
-
-abbrev pub Tells : Option TenantState → Asked → LineAnswer → Option TenantState → Type 0
+-- what a line is told, and the host that it leaves
+abbrev pub Tells : HostState → Asked → LineAnswer → HostState → Type 0
+Tells old (Pool segments) answer new = IsPool old segments answer new
 Tells old (Add name cluster quota first) answer new = IsAdded old name cluster quota first answer new
-Tells old (Call method target body) (Told a) new = IsCalled old (Called method target body) a new
-Tells old (Call method target body) answer new = ⊥
+Tells old (Happens e) (Told a) new = Answers old e a new
+Tells old (Happens e) Done new = ⊥
+Tells old (Happens e) (No fault) new = ⊥
 
 -- ---- many lines
 
@@ -135,9 +73,14 @@ pub record LineTurn : Type 0 where
 abbrev pub line_turn : Asked → LineAnswer → LineTurn
 line_turn asked answer = record { asked = asked; answer = answer }
 
--- the event of a line that is a call, with its answer
+-- lines that are answered in turn, each by the host that the one before it left
+abbrev pub AreTold : HostState → List LineTurn → HostState → Type 0
+AreTold old [] new = new ≡ old
+AreTold old (x ∷ xs) new = (mid : HostState) × Tells old x.asked x.answer mid × AreTold mid xs new
+
+-- the event of a line that asks a tenant, with its answer
 abbrev pub turn_by : Asked → LineAnswer → Option Turn
-turn_by (Call method target body) (Told a) = Some (record { event = Called method target body; answer = a })
+turn_by (Happens e) (Told a) = Some (record { event = e; answer = a })
 turn_by asked answer = None
 
 abbrev pub turn_of : LineTurn → Option Turn
@@ -146,62 +89,18 @@ turn_of x = turn_by x.asked x.answer
 abbrev pub turns : List LineTurn → List Turn
 turns xs = filter_map turn_of xs
 
--- a tenant is not added, and the fault is the first that applies, unless memory ran out
-abbrev pub IsRefused : Option AddFault → LineAnswer → Type 0
-IsRefused fault Done = ⊥
-IsRefused fault (No f) = f ≢ Memory → fault ≡ Some f
-IsRefused fault (Told a) = ⊥
+-- an add that made a tenant: in the lines after it the tenant is alone, from its opening
+abbrev pub IsAloneAfter : Asked → LineAnswer → List LineTurn → HostState → Type 0
+IsAloneAfter (Add name cluster quota first) Done later last =
+    IsAlone name (opening cluster quota first) (turns later) last
+IsAloneAfter asked answer later last = Unit {0}
 
--- a line that no tenant is there for
-abbrev pub IsUnserved : Bool → Asked → LineAnswer → Type 0
-IsUnserved taken (Add name cluster quota first) answer =
-    IsRefused (add_fault taken name cluster quota first) answer
-IsUnserved taken (Call method target body) (Told a) =
-    is_unanswered a ≡ false → a ≡ text (Refused (nobody (Called method target body)))
-IsUnserved taken (Call method target body) answer = ⊥
+-- that is so of each add
+abbrev pub AreAllAlone : List LineTurn → HostState → Type 0
+AreAllAlone [] last = Unit {0}
+AreAllAlone (x ∷ later) last = IsAloneAfter x.asked x.answer later last × AreAllAlone later last
 
--- lines before there is a tenant
-abbrev pub AreUnserved : List LineTurn → Type 0
-AreUnserved xs = AllByRecursion (λ (x : LineTurn). IsUnserved false x.asked x.answer) xs
-
--- an add is told that it was done or why not, and a call its answer; one that says nothing of its call says
--- that memory ran out
-abbrev pub IsSpoken : Asked → LineAnswer → Type 0
-IsSpoken (Add name cluster quota first) Done = Unit {0}
-IsSpoken (Add name cluster quota first) (No f) = Unit {0}
-IsSpoken (Add name cluster quota first) (Told a) = ⊥
-IsSpoken (Call method target body) (Told a) = is_unanswered a ≡ true → a ≡ memory_answer
-IsSpoken (Call method target body) answer = ⊥
-
--- a line is the tenant's own call
-abbrev pub is_own_call : List ℕ → Asked → Bool
-is_own_call name (Add n cluster quota first) = false
-is_own_call name (Call method target body) = is_of name (Called method target body)
-
--- what is told of the tenant's own events is what it is told alone, and its machine holds the state after
--- them; other lines are answered as if it was not there
-pub record IsAlone (name : List ℕ) (S : State History) (xs : List LineTurn) (t : TenantState) : Type 0 where
-  pub named : t.name ≡ name
-  pub told_alone : told (own name (turns xs)) ≡ alone S (asked (own name (turns xs)))
-  pub holds : Holds (alone_after S (asked (own name (turns xs)))) (tenant t.machine)
-  pub others : AllByRecursion (λ (x : LineTurn).
-      is_own_call name x.asked ≡ false → IsUnserved true x.asked x.answer) xs
-
--- the lines before the add that made the tenant are unserved, and from it on the tenant is alone, from its
--- opening
-pub record IsTenant (xs : List LineTurn) (t : TenantState) : Type 0 where
-  pub before : List LineTurn
-  pub name : List ℕ
-  pub cluster : ℕ
-  pub quota : ℕ
-  pub first : ℕ
-  pub later : List LineTurn
-  pub lines : xs ≡ before ++ line_turn (Add name cluster quota first) Done ∷ later
-  pub unserved : AreUnserved before
-  pub free : add_fault false name cluster quota first ≡ None
-  pub served : IsAlone name (opening cluster quota first) later t
-
--- all lines, and the tenant that is there after them
-abbrev pub IsReplayed : List LineTurn → Option TenantState → Type 0
-IsReplayed xs None = AreUnserved xs
-IsReplayed xs (Some t) = IsTenant xs t
+-- what all lines are told, and the host that is left
+pub record IsReplayed (xs : List LineTurn) (last : HostState) : Type 0 where
+  pub told : AreTold usual_host xs last
+  pub alone : AreAllAlone xs last

@@ -1,11 +1,17 @@
 -- What a script says: its lines, and what each line asks for.
-use Rattle.std.specs.Prelude.{ℕ, ◌+◌, ◌==◌, ◌^◌, ◌&&◌, Bool, List, [], ◌∷◌, length, take, drop, nat_lt}
-use Rattle.std.specs.Prelude.{position, Option, None, Some, option_map, option_and_then, if◌then◌else◌, codes}
+use Rattle.std.specs.Prelude.{ℕ, ◌+◌, ◌==◌, ◌^◌, ◌&&◌, Bool, true, false, List, [], ◌∷◌, length, take, drop}
+use Rattle.std.specs.Prelude.{nat_lt, nat_le, position, Option, None, Some, option_map, option_and_then, codes}
+use Rattle.std.specs.Prelude.{if◌then◌else◌}
 use Rattle.std.specs.Char.{is_ascii_digit}
 use Rattle.std.specs.List.{list_all}
 use Rattle.std.specs.Str.{bytes_eq}
 use Rattle.std.specs.Str.Parse.{digits_value}
 use Rattle.etcd_types.specs.Limits.{max_script_line}
+use Rattle.etcd_types.specs.declared.limits.TheConstants.{MAX_SEGMENTS}
+use Rattle.etcd_types.specs.declared.step.Step.{Step}
+use Rattle.etcd_types.specs.declared.step.Step.TheVariants.{Take, DropWatch, Tick, CatchUp}
+use Rattle.etcd_model.specs.Alone.{Event, Called, Stepped}
+use Rattle.host_front.specs.Events.{lent_event}
 use Rattle.etcd_replay.specs.declared.script.Line.{Line}
 use Rattle.etcd_replay.specs.declared.script.Line.TheVariants as line
 
@@ -23,11 +29,12 @@ lines_of (x ∷ xs) = if x == 10 then [] ∷ lines_of xs else onto x (lines_of x
 
 -- ---- what a line asks for
 
--- a new tenant: its name, cluster ID, quota in cells and first revision; or a call: its method, target and
--- body
+-- a pool of so many segments; a new tenant: its name, cluster ID, quota in cells and first revision; or what a
+-- tenant is asked
 pub data Asked : Type 0 where
+  Pool : ℕ → Asked
   Add : List ℕ → ℕ → ℕ → ℕ → Asked
-  Call : List ℕ → List ℕ → List ℕ → Asked
+  Happens : Event → Asked
 
 -- what is before the first space, and what is after it
 pub record Parts : Type 0 where
@@ -46,6 +53,20 @@ is_number text = nat_lt 0 (length text) && list_all is_ascii_digit text
 abbrev pub number_of : List ℕ → Option ℕ
 number_of text =
     if is_number text && nat_lt (digits_value 10 text) (2 ^ 64) then Some (digits_value 10 text) else None
+
+-- the number, if it is below a limit
+abbrev pub below : ℕ → ℕ → Option ℕ
+below limit n = if nat_lt n limit then Some n else None
+
+abbrev pub number_below : ℕ → List ℕ → Option ℕ
+number_below limit text = option_and_then (below limit) (number_of text)
+
+abbrev pub pool_of : ℕ → Option Asked
+pool_of n = if nat_lt 0 n && nat_le n MAX_SEGMENTS then Some (Pool n) else None
+
+-- `<segments>`
+abbrev pub read_pool : List ℕ → Option Asked
+read_pool text = option_and_then pool_of (number_of text)
 
 -- `<name> <cluster> <quota> <first>`
 abbrev pub read_add : List ℕ → Option Asked
@@ -66,26 +87,77 @@ read_add text =
 
 -- `<method> <target> <body>`: the body is all that follows, and without its space it is empty
 abbrev pub call_asked : List ℕ → List ℕ → Option Parts → Asked
-call_asked method text None = Call method text []
-call_asked method text (Some target) = Call method target.field target.rest
+call_asked method text None = Happens (Called method text [])
+call_asked method text (Some target) = Happens (Called method target.field target.rest)
 
 abbrev pub read_call_line : List ℕ → Option Asked
 read_call_line text =
     option_map (λ method. call_asked method.field method.rest (parts_of method.rest)) (parts_of text)
 
-abbrev pub read_word : List ℕ → List ℕ → Option Asked
-read_word word rest =
-    if bytes_eq word (codes "add") then read_add rest
-    else if bytes_eq word (codes "call") then read_call_line rest
+-- `<tenant> <number>`, for a step of that number
+abbrev pub read_step : (ℕ → Step) → (List ℕ → Option ℕ) → List ℕ → Option Asked
+read_step step number text =
+    option_and_then (λ tenant.
+    option_and_then (λ n. Some (Happens (Stepped tenant.field (step n)))) (number tenant.rest))
+    (parts_of text)
+
+abbrev pub read_take : List ℕ → Option Asked
+read_take text = read_step Take (number_below (2 ^ 8)) text
+
+abbrev pub read_drop : List ℕ → Option Asked
+read_drop text = read_step DropWatch (number_below (2 ^ 8)) text
+
+abbrev pub read_tick : List ℕ → Option Asked
+read_tick text = read_step Tick number_of text
+
+abbrev pub read_catch_up : List ℕ → Option Asked
+read_catch_up text = read_step CatchUp (number_below (2 ^ 32)) text
+
+-- what a tenant is asked
+abbrev pub read_event : List ℕ → List ℕ → Option Asked
+read_event word rest =
+    if bytes_eq word (codes "call") then read_call_line rest
+    else if bytes_eq word (codes "take") then read_take rest
+    else if bytes_eq word (codes "drop") then read_drop rest
+    else if bytes_eq word (codes "tick") then read_tick rest
+    else if bytes_eq word (codes "catchup") then read_catch_up rest
     else None
 
+abbrev pub read_word : List ℕ → List ℕ → Option Asked
+read_word word rest =
+    if bytes_eq word (codes "pool") then read_pool rest
+    else if bytes_eq word (codes "add") then read_add rest
+    else read_event word rest
+
 -- a line that is too long, or says anything else, can't be read
-unfoldable pub read_line : List ℕ → Option Asked
-read_line text =
+unfoldable pub read_words : List ℕ → Option Asked
+read_words text =
     if nat_lt max_script_line (length text) then None
     else option_and_then (λ word. read_word word.field word.rest) (parts_of text)
 
+-- a pool is named by the first line alone
+abbrev pub in_place : Bool → Asked → Option Asked
+in_place true q = Some q
+in_place false (Pool segments) = None
+in_place false (Add name cluster quota first) = Some (Add name cluster quota first)
+in_place false (Happens e) = Some (Happens e)
+
+-- a line, which is the first or a later one
+abbrev pub read_line : Bool → List ℕ → Option Asked
+read_line first text = option_and_then (in_place first) (read_words text)
+
+-- lines in order, of which the first is the script's first or not
+abbrev pub read_lines : Bool → List (List ℕ) → List (Option Asked)
+read_lines first [] = []
+read_lines first (l ∷ ls) = read_line first l ∷ read_lines false ls
+
+-- the line after some lines is the first
+abbrev pub is_first : List (List ℕ) → Bool
+is_first [] = true
+is_first (l ∷ ls) = false
+
 -- what a line asks for, by what was read of it
 abbrev pub asked_by : Line → Asked
+asked_by (line.Pool segments) = Pool segments
 asked_by (line.Add name cluster quota first) = Add name.now cluster quota first
-asked_by (line.Call method target body) = Call method.now target.now body.now
+asked_by (line.Event e) = Happens (lent_event e)

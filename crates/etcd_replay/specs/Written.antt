@@ -1,21 +1,20 @@
 -- What a replay writes: one answer line for each line of its script, and nothing else.
-use Rattle.std.specs.Prelude.{◌≡◌, ℕ, ◌+◌, List, ◌∷◌, ◌++◌, length, map, flat_map, Option, None, Some, IfSome}
-use Rattle.std.specs.Prelude.{Result, Ok, Err, ⊤}
-use Rattle.std.specs.List.{AllByRecursion}
+use Rattle.std.specs.Prelude.{◌≡◌, ℕ, ◌+◌, true, List, ◌∷◌, ◌++◌, length, map, flat_map, Option, None, Some}
+use Rattle.std.specs.Prelude.{IfSome, Result, Ok, Err, ⊤}
 use Rattle.std.specs.Io.KnownBytes.{Appends}
+use Rattle.steps_core.specs.Hosts.{HostState}
 use Rattle.etcd_replay.specs.declared.fault.ReplayFault.{ReplayFault}
 use Rattle.etcd_replay.specs.declared.fault.ReplayFault.TheVariants.{Line, Io, Memory}
-use Rattle.etcd_replay.specs.Script.{lines_of, read_line}
+use Rattle.etcd_replay.specs.Script.{lines_of, read_line, read_lines, is_first}
 use Rattle.etcd_replay.specs.Answers.{line_of}
-use Rattle.etcd_replay.specs.Replaying.{TenantState, LineTurn, IsReplayed, IsSpoken}
+use Rattle.etcd_replay.specs.Replaying.{LineTurn, IsReplayed}
 
 -- these lines can all be read, and what was written is their answers
 pub record Wrote (old new : Option (List ℕ)) (lines : List (List ℕ)) : Type 0 where
   pub turns : List LineTurn
-  pub last : Option TenantState
-  pub read : map read_line lines ≡ map (λ x. Some x.asked) turns
+  pub last : HostState
+  pub read : read_lines true lines ≡ map (λ x. Some x.asked) turns
   pub replayed : IsReplayed turns last
-  pub spoken : AllByRecursion (λ (x : LineTurn). IsSpoken x.asked x.answer) turns
   pub text : Appends old new (flat_map (λ x. line_of x.answer) turns)
 
 -- the n-th line is the first that can't be read, and the lines before it are answered
@@ -25,7 +24,7 @@ pub record EndsAtLine (n : ℕ) (script : List ℕ) (old new : Option (List ℕ)
   pub rest : List (List ℕ)
   pub lines : lines_of script ≡ before ++ line ∷ rest
   pub number : length before + 1 ≡ n
-  pub unread : read_line line ≡ None
+  pub unread : read_line (is_first before) line ≡ None
   pub wrote : Wrote old new before
 
 -- some lines are answered, and the others are not
@@ -36,8 +35,8 @@ pub record EndsEarly (script : List ℕ) (old new : Option (List ℕ)) : Type 0 
   pub wrote : Wrote old new before
 
 -- What a replay has written when it ends, if its script's bytes are known: at the script's end the answers of
--- all lines; at a line that can't be read those of the lines before it; if a line can't be held, those of
--- some first lines. After a fault of input or output nothing is said.
+-- all lines; at a line that can't be read those of the lines before it; if a line or the pool can't be held,
+-- those of some first lines. After a fault of input or output nothing is said.
 abbrev pub Replays : {T : Type 0}
     → Option (List ℕ) → Option (List ℕ) → Option (List ℕ) → Result T ReplayFault → Type 0
 Replays script old new (Ok end) = IfSome script (λ bytes. Wrote old new (lines_of bytes))

@@ -12,7 +12,7 @@ pub enum ReplayFault {
     Line(u32),
     #[error("input or output failed")]
     Io,
-    /// A line can't be held.
+    /// A line or the pool can't be held.
     #[error("out of memory")]
     Memory,
 }

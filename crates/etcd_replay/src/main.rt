@@ -1,14 +1,13 @@
 //! Answers the script on standard input: one answer line for each line, on standard output.
 //!
 //! The status is 0 at the script's end, 2 where a line can't be read, 3 where input or output failed
-//! and 4 where a line can't be held; the reason stands on standard error.
+//! and 4 where a line or the pool can't be held; the reason stands on standard error.
 #![tactic(auto)]
 
 mod answer;
 mod fault;
 mod lines;
 mod replay;
-mod reserve;
 mod run;
 mod script;
 #[cfg(test)]

@@ -6,9 +6,7 @@ use crate::answer::write_answer;
 use crate::fault::ReplayFault;
 use crate::lines::{Lines, Taken, without_newline};
 use crate::replay::Replay;
-use crate::reserve::Reserve;
 use crate::script::read_line;
-use segment_pool::Stock;
 use std::alloc::Global;
 use std::io::{BufRead, Write};
 
@@ -19,7 +17,7 @@ use std::io::{BufRead, Write};
 /// to the caller.
 ///
 /// It ends early at the first line that can't be read, at a fault of the reader or the writer, after
-/// 4,294,967,295 lines, and where a line can't be held.
+/// 4,294,967,295 lines, and where a line or the pool can't be held.
 pub fn run<R: BufRead, W: Write>(
     alloc: Global,
     reader: &mut R,
@@ -27,32 +25,21 @@ pub fn run<R: BufRead, W: Write>(
 ) -> Result<(), ReplayFault>
     ensures { Replays (R.remaining reader.old) (W.contents writer.old) (W.contents writer.new) result }
 {
-    run_over::<Stock, R, W>(alloc, reader, writer)
-}
-
-/// The same, whose tenant has its segments from any source.
-pub(crate) fn run_over<S: Reserve, R: BufRead, W: Write>(
-    alloc: Global,
-    reader: &mut R,
-    writer: &mut W,
-) -> Result<(), ReplayFault>
-    ensures { Replays (R.remaining reader.old) (W.contents writer.old) (W.contents writer.new) result }
-{
-    let mut replay = Replay::<S>::new();
+    let mut replay = Replay::new();
     let mut lines = Lines::new(reader);
     let mut text = Vec::new(alloc);
     run_lines(alloc, &mut lines, writer, &mut replay, &mut text)
 }
 
-/// The same with a replay that has no tenant yet, and with the memory for a line.
-fn run_lines<S: Reserve, R: BufRead, W: Write>(
+/// The same with a replay that has no host yet, and with the memory for a line.
+fn run_lines<R: BufRead, W: Write>(
     alloc: Global,
     lines: &mut Lines<R>,
     writer: &mut W,
-    replay: &mut Replay<S>,
+    replay: &mut Replay,
     text: &mut Vec<u8>,
 ) -> Result<(), ReplayFault>
-    requires { replay.old.tenant ≡ None }
+    requires { replay.old.front ≡ None }
     ensures { Replays (R.remaining lines.old.reader) (W.contents writer.old) (W.contents writer.new) result }
 {
     for n in 0..u32::MAX {
@@ -62,10 +49,12 @@ fn run_lines<S: Reserve, R: BufRead, W: Write>(
         if text.is_empty() {
             return Ok(());
         }
-        let Some(line) = read_line(without_newline(text)) else {
+        let Some(line) = read_line(without_newline(text), n == 0) else {
             return Err(ReplayFault::Line(n + 1));
         };
-        let answer = replay.answer(alloc, &line);
+        let Ok(answer) = replay.answer(alloc, &line) else {
+            return Err(ReplayFault::Memory);
+        };
         let Ok(()) = write_answer(writer, &answer) else {
             return Err(ReplayFault::Io);
         };

@@ -1,17 +1,23 @@
 //! What a line of a script asks for.
-ghost use Rattle.std.specs.Prelude.{◌≡◌, ◌==◌, ◌<◌, ◌≤◌, length, position, option_map, IfSome};
+ghost use Rattle.std.specs.Prelude.{◌≡◌, ◌==◌, ◌<◌, ◌≤◌, ◌^◌, length, position, option_map, IfSome};
 ghost use Rattle.std.specs.Char.{is_ascii_digit};
 ghost use Rattle.std.specs.List.{list_all};
 ghost use Rattle.etcd_types.specs.Limits.{max_script_line};
-ghost use Rattle.etcd_replay.specs.Script.{asked_by, is_number, number_of, parts_of};
-ghost use Rattle.etcd_replay.specs.Script.{read_add, read_call_line, read_line};
+ghost use Rattle.etcd_replay.specs.Script.{asked_by, is_number, number_of, number_below, parts_of};
+ghost use Rattle.etcd_replay.specs.Script.{read_add, read_call_line, read_line, read_pool, read_words};
+ghost use Rattle.etcd_replay.specs.Script.{read_event, read_take, read_drop, read_tick, read_catch_up};
 ghost use Rattle.etcd_replay.specs.Parted.{parts_by};
 
-use etcd_types::limits::MAX_SCRIPT_LINE;
+use etcd_types::limits::{MAX_SCRIPT_LINE, MAX_SEGMENTS};
+use host_front::LentEvent;
 
 /// What a line asks for.
 #[derive(Clone, Copy)]
 pub(crate) enum Line<'a> {
+    /// A pool of so many segments.
+    Pool {
+        segments: u32,
+    },
     /// A new tenant.
     Add {
         name: &'a [u8],
@@ -19,12 +25,8 @@ pub(crate) enum Line<'a> {
         quota: u64,
         first: u64,
     },
-    /// A call of the gateway.
-    Call {
-        method: &'a [u8],
-        target: &'a [u8],
-        body: &'a [u8],
-    },
+    /// What a tenant is asked.
+    Event(LentEvent<'a>),
 }
 
 /// A text parted at its first space.
@@ -34,20 +36,55 @@ struct Parts<'a> {
     rest: &'a [u8],
 }
 
-/// Reads a line, without its newline. A line that is longer than a line may be can't be read.
-#[tactic(auto, unfolding(crate::specs::Script::read_line))]
-pub(crate) fn read_line(text: &[u8]) -> Option<Line<'_>>
-    ensures { option_map asked_by result ≡ read_line text.now }
+/// Reads a line, without its newline. Only the first line may name a pool.
+pub(crate) fn read_line(text: &[u8], is_first: bool) -> Option<Line<'_>>
+    ensures { option_map asked_by result ≡ read_line is_first text.now }
+{
+    match read_words(text) {
+        Some(Line::Pool { .. }) if !is_first => None,
+        line => line,
+    }
+}
+
+/// A line that is longer than a line may be can't be read.
+#[tactic(auto, unfolding(crate::specs::Script::read_words))]
+fn read_words(text: &[u8]) -> Option<Line<'_>>
+    ensures { option_map asked_by result ≡ read_words text.now }
 {
     if text.len() > MAX_SCRIPT_LINE {
         return None;
     }
     let word = parts_of(text)?;
     match word.field {
+        b"pool" => read_pool(word.rest),
         b"add" => read_add(word.rest),
-        b"call" => read_call(word.rest),
+        _ => read_event(word.field, word.rest),
+    }
+}
+
+fn read_event<'a>(word: &[u8], rest: &'a [u8]) -> Option<Line<'a>>
+    ensures { option_map asked_by result ≡ read_event word.now rest.now }
+{
+    match word {
+        b"call" => read_call(rest),
+        b"take" => read_take(rest),
+        b"drop" => read_drop(rest),
+        b"tick" => read_tick(rest),
+        _ if word == b"catchup".as_slice() => read_catch_up(rest),
         _ => None,
     }
+}
+
+fn read_pool(text: &[u8]) -> Option<Line<'_>>
+    ensures { option_map asked_by result ≡ read_pool text.now }
+{
+    let segments = number_of(text)?;
+    if segments < 1 || segments > u64::from(MAX_SEGMENTS) {
+        return None;
+    }
+    Some(Line::Pool {
+        segments: segments as u32,
+    })
 }
 
 fn read_add(text: &[u8]) -> Option<Line<'_>>
@@ -72,11 +109,55 @@ fn read_call(text: &[u8]) -> Option<Line<'_>>
         field: method.rest,
         rest: &[],
     });
-    Some(Line::Call {
+    Some(Line::Event(LentEvent::Call {
         method: method.field,
         target: target.field,
         body: target.rest,
-    })
+    }))
+}
+
+fn read_take(text: &[u8]) -> Option<Line<'_>>
+    ensures { option_map asked_by result ≡ read_take text.now }
+{
+    let tenant = parts_of(text)?;
+    let slot = slot_of(tenant.rest)?;
+    Some(Line::Event(LentEvent::Take {
+        tenant: tenant.field,
+        slot,
+    }))
+}
+
+fn read_drop(text: &[u8]) -> Option<Line<'_>>
+    ensures { option_map asked_by result ≡ read_drop text.now }
+{
+    let tenant = parts_of(text)?;
+    let slot = slot_of(tenant.rest)?;
+    Some(Line::Event(LentEvent::DropWatch {
+        tenant: tenant.field,
+        slot,
+    }))
+}
+
+fn read_tick(text: &[u8]) -> Option<Line<'_>>
+    ensures { option_map asked_by result ≡ read_tick text.now }
+{
+    let tenant = parts_of(text)?;
+    let moment = number_of(tenant.rest)?;
+    Some(Line::Event(LentEvent::Tick {
+        tenant: tenant.field,
+        moment,
+    }))
+}
+
+fn read_catch_up(text: &[u8]) -> Option<Line<'_>>
+    ensures { option_map asked_by result ≡ read_catch_up text.now }
+{
+    let tenant = parts_of(text)?;
+    let budget = budget_of(tenant.rest)?;
+    Some(Line::Event(LentEvent::CatchUp {
+        tenant: tenant.field,
+        budget,
+    }))
 }
 
 /// A text parted at its first space, where it has one.
@@ -108,6 +189,28 @@ fn number_of(text: &[u8]) -> Option<u64>
         return None;
     };
     digits.parse().ok()
+}
+
+/// The same within 8 bits.
+fn slot_of(text: &[u8]) -> Option<u8>
+    ensures { result ≡ number_below (2 ^ 8) text.now }
+{
+    let slot = number_of(text)?;
+    if slot > u64::from(u8::MAX) {
+        return None;
+    }
+    Some(slot as u8)
+}
+
+/// The same within 32 bits.
+fn budget_of(text: &[u8]) -> Option<u32>
+    ensures { result ≡ number_below (2 ^ 32) text.now }
+{
+    let budget = number_of(text)?;
+    if budget > u64::from(u32::MAX) {
+        return None;
+    }
+    Some(budget as u32)
 }
 
 /// Whether a text is decimal digits, and at least one.

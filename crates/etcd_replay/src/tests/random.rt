@@ -4,9 +4,6 @@ ghost use Rattle.std.specs.Prelude.{◌<◌};
 use etcd_types::Mem;
 use std::alloc::Global;
 
-/// The tenant of the script. Its puts come to pass its quota.
-pub(super) const OPENING: &str = "add one 7 192 1\n";
-
 /// The last letters of the keys.
 const LETTERS: &[u8; 40] = b"ABCDEFGHIJKLMNOPQRSTUVWXYZabcdefghijklmn";
 
@@ -27,8 +24,10 @@ impl Random {
     }
 
     /// A call of a tenant whose revision is this one.
-    pub(super) fn line(&mut self, alloc: Global, revision: u64) -> Mem<String> {
-        let mut text = String::from_str(alloc, "call POST /t/one/v3/")?;
+    pub(super) fn line(&mut self, alloc: Global, tenant: &str, revision: u64) -> Mem<String> {
+        let mut text = String::from_str(alloc, "call POST /t/")?;
+        text.push_str(tenant)?;
+        text.push_str("/v3/")?;
         self.write_call(&mut text, revision)?;
         text.push_str("}\n")?;
         Ok(text)
@@ -147,7 +146,7 @@ impl Random {
     }
 
     /// The next number, below a bound.
-    fn below(&mut self, bound: u64) -> u64
+    pub(super) fn below(&mut self, bound: u64) -> u64
         requires { 0 < bound }
         ensures { result < bound }
     {
