@@ -23,7 +23,7 @@ use Rattle.etcd_replay.specs.Written.{EndsAtLine, EndsEarly, Replays, Wrote}
 use Rattle.etcd_replay.specs.Going.{Going}
 use Rattle.etcd_replay.proofs.FirstLine.{first_line, at_end}
 use Rattle.etcd_replay.proofs.ReadLemmas.{first_is, read_push}
-use Rattle.etcd_replay.proofs.Replayed.{all_alone, told_push}
+use Rattle.etcd_replay.proofs.Replayed.{all_alone, names_told, told_push}
 
 abbrev written : LineTurn → List ℕ
 written x = line_of x.answer
@@ -68,7 +68,11 @@ module _ (script : List ℕ) (now old new : Option (List ℕ)) (host : HostState
     turns = going.turns;
     last = host;
     read = going.read;
-    replayed = record { told = going.told; alone = all_alone usual_host host going.turns going.told };
+    replayed = record {
+      told = going.told;
+      names = names_told usual_host host going.turns going.told;
+      alone = all_alone usual_host host going.turns going.told;
+    };
     text = going.text;
   }
 

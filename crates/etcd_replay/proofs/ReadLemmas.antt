@@ -11,16 +11,21 @@ use Rattle.etcd_types.specs.declared.limits.TheConstants.{MAX_SEGMENTS}
 use Rattle.etcd_types.specs.declared.step.Step.{Step}
 use Rattle.etcd_types.specs.declared.step.Step.TheVariants.{Take, DropWatch, Tick, CatchUp}
 use Rattle.host_front.specs.declared.front.Front.{Front}
-use Rattle.etcd_replay.specs.Script.{Asked, Pool, Add, Happens, Parts, call_asked, in_place, is_first, number_of, parts_of, pool_of, read_line, read_lines, read_word, read_words, read_pool, read_add, read_call_line, read_take, read_drop, read_tick, read_catch_up, read_step, read_event, number_below}
+use Rattle.etcd_replay.specs.Script.{Asked, Pool, Add, Happens, Parts, call_asked, in_place, is_first}
+use Rattle.etcd_replay.specs.Script.{number_of, parts_of, pool_of, read_line, read_lines, read_word, read_words}
+use Rattle.etcd_replay.specs.Script.{read_pool, read_add, read_call_line, read_take, read_drop, read_tick}
+use Rattle.etcd_replay.specs.Script.{read_catch_up, read_step, read_event, number_below}
 use Rattle.etcd_replay.specs.Replaying.{IsInPlace}
 
 -- ---- one more line
 
-later_push : (ls : List (List ℕ)) (l : List ℕ) → read_lines false (ls ++ l ∷ []) ≡ read_lines false ls ++ read_line false l ∷ []
+later_push : (ls : List (List ℕ)) (l : List ℕ)
+    → read_lines false (ls ++ l ∷ []) ≡ read_lines false ls ++ read_line false l ∷ []
 later_push [] l = refl
 later_push (k ∷ ls) l = ap (λ qs. read_line false k ∷ qs) (later_push ls l)
 
-pub read_push : (ls : List (List ℕ)) (l : List ℕ) → read_lines true (ls ++ l ∷ []) ≡ read_lines true ls ++ read_line (is_first ls) l ∷ []
+pub read_push : (ls : List (List ℕ)) (l : List ℕ)
+    → read_lines true (ls ++ l ∷ []) ≡ read_lines true ls ++ read_line (is_first ls) l ∷ []
 read_push [] l = refl
 read_push (k ∷ ls) l = ap (λ qs. read_line true k ∷ qs) (later_push ls l)
 
@@ -43,7 +48,8 @@ IfSize : Option Asked → Type 0
 IfSize None = Unit {0}
 IfSize (Some q) = IsPoolSize q
 
-sized_then : {A : Type 0} (f : A → Option Asked) (o : Option A) → ((x : A) → IfSize (f x)) → IfSize (option_and_then f o)
+sized_then : {A : Type 0} (f : A → Option Asked) (o : Option A) → ((x : A) → IfSize (f x))
+    → IfSize (option_and_then f o)
 unfolding IfSize
 sized_then f None each = tt
 sized_then f (Some x) each = each x
@@ -59,8 +65,12 @@ pool_sized n = by (nat_lt 0 n && nat_le n MAX_SEGMENTS) refl
 add_sized : (text : List ℕ) → IfSize (read_add text)
 unfolding IfSize IsPoolSize
 add_sized text =
-    sized_then _ (parts_of text) (λ name. sized_then _ (parts_of name.rest) (λ cluster. sized_then _ (parts_of cluster.rest) (λ quota.
-    sized_then _ (number_of cluster.field) (λ i. sized_then _ (number_of quota.field) (λ c. sized_then _ (number_of quota.rest) (λ f. tt))))))
+    sized_then _ (parts_of text) (λ name.
+    sized_then _ (parts_of name.rest) (λ cluster.
+    sized_then _ (parts_of cluster.rest) (λ quota.
+    sized_then _ (number_of cluster.field) (λ i.
+    sized_then _ (number_of quota.field) (λ c.
+    sized_then _ (number_of quota.rest) (λ f. tt))))))
 
 call_sized : (text : List ℕ) → IfSize (read_call_line text)
 unfolding IfSize IsPoolSize
@@ -70,7 +80,8 @@ call_sized text = by (parts_of text)
     target method None = tt
     target method (Some t) = tt
 
-    by : (o : Option Parts) → IfSize (option_map (λ method. call_asked method.field method.rest (parts_of method.rest)) o)
+    by : (o : Option Parts)
+        → IfSize (option_map (λ method. call_asked method.field method.rest (parts_of method.rest)) o)
     by None = tt
     by (Some method) = target method (parts_of method.rest)
 
@@ -84,7 +95,8 @@ event_sized word rest =
     by (bytes_eq word (codes "call")) (bytes_eq word (codes "take")) (bytes_eq word (codes "drop"))
     (bytes_eq word (codes "tick")) (bytes_eq word (codes "catchup"))
   where
-    by : (c t d k u : Bool) → IfSize (cond c (read_call_line rest) (cond t (read_take rest) (cond d (read_drop rest)
+    by : (c t d k u : Bool)
+        → IfSize (cond c (read_call_line rest) (cond t (read_take rest) (cond d (read_drop rest)
         (cond k (read_tick rest) (cond u (read_catch_up rest) None)))))
     by true t d k u = call_sized rest
     by false true d k u = step_sized Take (number_below (2 ^ 8)) rest
@@ -105,23 +117,30 @@ words_sized : (text : List ℕ) → IfSize (read_words text)
 unfolding read_words IfSize
 words_sized text = by (nat_lt max_script_line (length text))
   where
-    by : (b : Bool) → IfSize (cond b None (option_and_then (λ word. read_word word.field word.rest) (parts_of text)))
+    by : (b : Bool)
+        → IfSize (cond b None (option_and_then (λ word. read_word word.field word.rest) (parts_of text)))
     by true = tt
-    by false = sized_then (λ word. read_word word.field word.rest) (parts_of text) (λ word. word_sized word.field word.rest)
+    by false =
+        sized_then (λ word. read_word word.field word.rest) (parts_of text)
+        (λ word. word_sized word.field word.rest)
 
 -- a line that was read is in its place
-pub line_in_place : (front : Option Front) (first : Bool) (text : List ℕ) (q : Asked) → read_line first text ≡ Some q → (first ≡ true → front ≡ None) → IsInPlace front q
+pub line_in_place : (front : Option Front) (first : Bool) (text : List ℕ) (q : Asked)
+    → read_line first text ≡ Some q → (first ≡ true → front ≡ None) → IsInPlace front q
 unfolding IfSize IsPoolSize
 line_in_place front first text q read empty = by first (read_words text) q read (words_sized text) empty
   where
-    by : (b : Bool) (o : Option Asked) (q : Asked) → option_and_then (in_place b) o ≡ Some q → IfSize o → (b ≡ true → front ≡ None) → IsInPlace front q
+    by : (b : Bool) (o : Option Asked) (q : Asked) → option_and_then (in_place b) o ≡ Some q → IfSize o
+        → (b ≡ true → front ≡ None) → IsInPlace front q
     by b o (Add name cluster quota first) is sized empty = tt
     by b o (Happens e) is sized empty = tt
     by b None (Pool n) is sized empty = cc
     by true (Some p) (Pool n) is sized empty = at p is sized
       where
         at : (p : Asked) → Some p ≡ Some (Pool n) → IfSize (Some p) → IsInPlace front (Pool n)
-        at p is sized = let size : (1 ≤ n) × (n ≤ MAX_SEGMENTS) = subst IfSize is sized in record { first = empty refl; some = size.0; most = size.1 }
+        at p is sized =
+            let size : (1 ≤ n) × (n ≤ MAX_SEGMENTS) = subst IfSize is sized in
+            record { first = empty refl; some = size.0; most = size.1 }
     by false (Some (Pool m)) (Pool n) is sized empty = cc
     by false (Some (Add name cluster quota first)) (Pool n) is sized empty = cc
     by false (Some (Happens e)) (Pool n) is sized empty = cc

@@ -1,10 +1,10 @@
 -- A replay: lines answered in turn, over one host.
-use Rattle.std.specs.Prelude.{◌≡◌, ◌≢◌, ℕ, ◌≤◌, List, [], ◌∷◌, filter_map, Option, None, Some}
+use Rattle.std.specs.Prelude.{◌≡◌, ◌≢◌, ℕ, ◌≤◌, List, [], ◌∷◌, ◌++◌, filter_map, Option, None, Some}
 use Rattle.etcd_types.specs.declared.limits.TheConstants.{DEFAULT_SEGMENTS, MAX_SEGMENTS}
 use Rattle.etcd_model.specs.Machine.{opening}
 use Rattle.etcd_model.specs.Alone.{Turn}
 use Rattle.steps_core.specs.declared.host.OperatorFault.TheVariants.{Memory}
-use Rattle.steps_core.specs.Hosts.{HostState}
+use Rattle.steps_core.specs.Hosts.{HostState, names_of}
 use Rattle.steps_core.specs.Adding.{add_fault, Adds}
 use Rattle.host_front.specs.declared.front.Front.{Front}
 use Rattle.host_front.specs.Answering.{Answers}
@@ -100,7 +100,17 @@ abbrev pub AreAllAlone : List LineTurn → HostState → Type 0
 AreAllAlone [] last = Unit {0}
 AreAllAlone (x ∷ later) last = IsAloneAfter x.asked x.answer later last × AreAllAlone later last
 
--- what all lines are told, and the host that is left
+-- the name of the tenant that a line added
+abbrev pub added_by : Asked → LineAnswer → List (List ℕ)
+added_by (Add name cluster quota first) Done = name ∷ []
+added_by asked answer = []
+
+abbrev pub names_added : List LineTurn → List (List ℕ)
+names_added [] = []
+names_added (x ∷ xs) = added_by x.asked x.answer ++ names_added xs
+
+-- what all lines are told, and the host that is left: its tenants are those that were added
 pub record IsReplayed (xs : List LineTurn) (last : HostState) : Type 0 where
   pub told : AreTold usual_host xs last
+  pub names : names_of last ≡ names_added xs
   pub alone : AreAllAlone xs last

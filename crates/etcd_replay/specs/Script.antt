@@ -1,7 +1,7 @@
 -- What a script says: its lines, and what each line asks for.
-use Rattle.std.specs.Prelude.{ℕ, ◌+◌, ◌==◌, ◌^◌, ◌&&◌, Bool, true, false, List, [], ◌∷◌, length, take, drop}
-use Rattle.std.specs.Prelude.{nat_lt, nat_le, position, Option, None, Some, option_map, option_and_then, codes}
-use Rattle.std.specs.Prelude.{if◌then◌else◌}
+use Rattle.std.specs.Prelude.{ℕ, ◌+◌, ◌==◌, ◌^◌, ◌&&◌, Bool, true, false, List, [], ◌∷◌, length, take}
+use Rattle.std.specs.Prelude.{drop, nat_lt, nat_le, position, Option, None, Some, option_map, codes}
+use Rattle.std.specs.Prelude.{option_and_then, if◌then◌else◌}
 use Rattle.std.specs.Char.{is_ascii_digit}
 use Rattle.std.specs.List.{list_all}
 use Rattle.std.specs.Str.{bytes_eq}
@@ -29,8 +29,8 @@ lines_of (x ∷ xs) = if x == 10 then [] ∷ lines_of xs else onto x (lines_of x
 
 -- ---- what a line asks for
 
--- a pool of so many segments; a new tenant: its name, cluster ID, quota in cells and first revision; or what a
--- tenant is asked
+-- a pool of so many segments; a new tenant: its name, cluster ID, quota in cells and first revision; or what
+-- a tenant is asked
 pub data Asked : Type 0 where
   Pool : ℕ → Asked
   Add : List ℕ → ℕ → ℕ → ℕ → Asked

@@ -1,21 +1,24 @@
-//! The rows, and scripts of two tenants that are shuffled together.
+//! The rows, scripts of two tenants that are shuffled together, and such a script over each source of segments.
 //!
 //! Scripts are text in tables or made by chance, and are run by one small function: a test that holds many
 //! values itself is long to prove.
 mod random;
 mod rows;
+mod single;
 
 use crate::answer::write_answer;
 use crate::fault::ReplayFault;
 use crate::lines::without_newline;
 use crate::replay::Replay;
 use crate::run::run;
-use crate::script::read_line;
+use crate::script::{Line, read_line};
 use etcd_types::Mem;
 use random::Random;
 use rows::{ROWS, Row};
+use single::{Single, Source};
 use std::alloc::Global;
 use std::process::Abort;
+use test_segments::{Filled, Highest, Lowest};
 
 /// Lines by chance, of both tenants.
 const LINES: u32 = 10_000;
@@ -123,6 +126,29 @@ fn assert_alone(rt: &impl Abort, alloc: Global, part: &Part) {
     assert_answers(rt, alloc, part.script.as_bytes(), &part.answers);
 }
 
+/// What the calls of a script are answered over a source of segments.
+fn answers_over<S: Source>(alloc: Global, script: &[u8]) -> Mem<Vec<u8>> {
+    let mut single = Single::<S>::new(alloc)?;
+    let mut answers = Vec::from_slice(alloc, b"ok\n")?;
+    for line in script.split(|byte| *byte == b'\n') {
+        if let Some(Line::Event(event)) = read_line(line, false) {
+            let (status, body) = single.answer(alloc, event)?;
+            let status = format!(in alloc; "{status} ")?;
+            answers.extend_from_slice(status.as_bytes())?;
+            answers.extend_from_slice(&body)?;
+            answers.push(b'\n')?;
+        }
+    }
+    Ok(answers)
+}
+
+/// Over this source of segments, the part is answered as it was.
+fn assert_over<S: Source>(rt: &impl Abort, alloc: Global, part: &Part) -> Mem<()> {
+    let answers = answers_over::<S>(alloc, part.script.as_bytes())?;
+    assert!(rt; answers.as_slice() == part.answers.as_slice());
+    Ok(())
+}
+
 #[test]
 fn rows_are_answered(rt: HostRuntime) {
     for row in &ROWS {
@@ -140,5 +166,7 @@ fn shuffled_tenants_are_answered_as_alone(rt: HostRuntime) -> Mem<()> {
     ask_by_chance(&rt, rt.alloc(), &mut replay, &mut one, &mut two)?;
     assert_alone(&rt, rt.alloc(), &one);
     assert_alone(&rt, rt.alloc(), &two);
-    Ok(())
+    assert_over::<Lowest>(&rt, rt.alloc(), &one)?;
+    assert_over::<Highest>(&rt, rt.alloc(), &one)?;
+    assert_over::<Filled>(&rt, rt.alloc(), &one)
 }

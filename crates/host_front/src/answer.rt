@@ -10,7 +10,7 @@ use std::marker::Model;
 
 /// A body's bytes: made for the answer, or always the same.
 #[derive(Drop)]
-pub enum Body {
+enum Body {
     Made(Vec<u8>),
     Fixed(&'static [u8]),
 }

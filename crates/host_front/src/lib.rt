@@ -11,7 +11,7 @@ mod law;
 #[cfg(test)]
 mod tests;
 
-pub use answer::{Answer, Body};
+pub use answer::Answer;
 pub use event::{HostEvent, LentEvent};
 pub use front::Front;
 pub use law::two_worlds;

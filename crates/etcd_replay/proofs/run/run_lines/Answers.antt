@@ -5,7 +5,8 @@ use Rattle.etcd_replay.specs.Replaying.{host_in}
 use Rattle.etcd_replay.proofs.ReadLemmas.{line_in_place}
 use Rattle.etcd_replay.specs.Going.{Going}
 use Rattle.etcd_replay.specs.Script.{asked_by, read_line}
-use Rattle.etcd_replay.proofs.GoingLemmas.{going_first, going_more, going_ends, going_stops, going_among, going_long, going_fault, going_kept, line_taken, empty_is, full_is}
+use Rattle.etcd_replay.proofs.GoingLemmas.{going_first, going_more, going_ends, going_stops, going_among}
+use Rattle.etcd_replay.proofs.GoingLemmas.{going_long, going_fault, going_kept, line_taken, empty_is, full_is}
 use Rattle.std.specs.Prelude.{◌==◌}
 use borrow.Author.Tests.{eqb-true}
 use Rattle.etcd_replay.proofs.run.run_lines.Goals as goal
@@ -15,7 +16,9 @@ loop-n-init g c =
     let left = g.R.Read.remaining c.args.lines.now.reader in
     let told = g.W.Write.contents c.args.writer.now in
     record {
-      going = subst (λ (h : HostState). IfSome left (λ script. Going script left told told h 0)) (sym (ap host_in c.requires)) (going_first left told);
+      going =
+          subst (λ (h : HostState). IfSome left (λ script. Going script left told told h 0))
+          (sym (ap host_in c.requires)) (going_first left told);
       first = λ _. c.requires;
     }
 
@@ -33,7 +36,8 @@ pub returns-then-is_empty : goal.returns-then-is_empty
 returns-then-is_empty g c =
     let going = going_kept _ _ _ _ _ _ _ c.loop-n.invariant.going c.in_ok-take_line.ensures.written in
     let line = ap Ok (line_taken c.in_ok-take_line.field-0 c.in_default.not-TooLong) in
-    let len : vec_len c.take_line.new.line ≡ length c.take_line.new.line.items = omega (arith, c.take_line.new.line.ok.0) in
+    let len : vec_len c.take_line.new.line ≡ length c.take_line.new.line.items =
+    omega (arith, c.take_line.new.line.ok.0) in
     let none = empty_is _ _ len (sym c.is_empty.ensures ∙ c.if-is_empty.true) in
     going_ends _ _ _ _ _ _ _ going (c.in_ok-take_line.ensures.line line) none
 
@@ -41,9 +45,11 @@ pub returns-in_default-read_line : goal.returns-in_default-read_line
 returns-in_default-read_line g c =
     let going = going_kept _ _ _ _ _ _ _ c.loop-n.invariant.going c.in_ok-take_line.ensures.written in
     let line = ap Ok (line_taken c.in_ok-take_line.field-0 c.in_default.not-TooLong) in
-    let len : vec_len c.take_line.new.line ≡ length c.take_line.new.line.items = omega (arith, c.take_line.new.line.ok.0) in
+    let len : vec_len c.take_line.new.line ≡ length c.take_line.new.line.items =
+    omega (arith, c.take_line.new.line.ok.0) in
     let some = full_is _ _ len (sym c.is_empty.ensures ∙ c.if-is_empty.false) in
-    let unread = ap (read_line (c.loop-n.n == 0)) (sym (c.without_newline.ensures ∙ ap (strip_last 10) c.deref.ensures.value)) ∙ sym c.in_default-read_line.ensures in
+    let text = c.without_newline.ensures ∙ ap (strip_last 10) c.deref.ensures.value in
+    let unread = ap (read_line (c.loop-n.n == 0)) (sym text) ∙ sym c.in_default-read_line.ensures in
     going_stops _ _ _ _ _ _ _ _ going (c.in_ok-take_line.ensures.line line) some unread refl
 
 pub returns-in_default-answer : goal.returns-in_default-answer
@@ -55,15 +61,21 @@ pub loop-n-preserved : goal.loop-n-preserved
 loop-n-preserved g c =
     let going = going_kept _ _ _ _ _ _ _ c.loop-n.invariant.going c.in_ok-take_line.ensures.written in
     let line = ap Ok (line_taken c.in_ok-take_line.field-0 c.in_default.not-TooLong) in
-    let len : vec_len c.take_line.new.line ≡ length c.take_line.new.line.items = omega (arith, c.take_line.new.line.ok.0) in
+    let len : vec_len c.take_line.new.line ≡ length c.take_line.new.line.items =
+    omega (arith, c.take_line.new.line.ok.0) in
     let some = full_is _ _ len (sym c.is_empty.ensures ∙ c.if-is_empty.false) in
-    let is = ap (read_line (c.loop-n.n == 0)) (sym (c.without_newline.ensures ∙ ap (strip_last 10) c.deref.ensures.value)) ∙ sym c.in-Some.ensures in
+    let text = c.without_newline.ensures ∙ ap (strip_last 10) c.deref.ensures.value in
+    let is = ap (read_line (c.loop-n.n == 0)) (sym text) ∙ sym c.in-Some.ensures in
     record {
-      going = going_more _ _ _ _ _ _ _ _ _ _ (asked_by c.in-Some.line) c.in-Ok.answer going (c.in_ok-take_line.ensures.line line) (c.in_ok-take_line.ensures.rest line) some is c.in-Ok.ensures c.in-Ok-write_answer.ensures;
+      going =
+          going_more _ _ _ _ _ _ _ _ _ _ (asked_by c.in-Some.line) c.in-Ok.answer going
+          (c.in_ok-take_line.ensures.line line) (c.in_ok-take_line.ensures.rest line) some is
+          c.in-Ok.ensures c.in-Ok-write_answer.ensures;
       first = λ zero. absurd (omega (arith, zero));
     }
 
 pub answer-requires : goal.answer-requires
 answer-requires g c =
-    let is = ap (read_line (c.loop-n.n == 0)) (sym (c.without_newline.ensures ∙ ap (strip_last 10) c.deref.ensures.value)) ∙ sym c.in-Some.ensures in
+    let text = c.without_newline.ensures ∙ ap (strip_last 10) c.deref.ensures.value in
+    let is = ap (read_line (c.loop-n.n == 0)) (sym text) ∙ sym c.in-Some.ensures in
     line_in_place _ (c.loop-n.n == 0) _ _ is (λ zero. c.loop-n.invariant.first (eqb-true _ 0 zero))
