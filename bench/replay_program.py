@@ -8,6 +8,8 @@ from replay_calls import Wrong
 from replay_process import memory, processor_seconds
 
 PATIENCE = 60
+# Cells of a segment of the pool.
+SEGMENT_CELLS = 64
 # The program writes its answers when its buffer is full or the script ends. So lines that name no tenant follow
 # those that are timed: their answers push the others out, and are then dropped.
 PUSH = b"call POST /t/none/v3/kv/range {}\n"
@@ -79,9 +81,11 @@ class Replay(Program):
     """The replay program with its one tenant."""
 
     def add(self, quota, first):
-        answers, _ = self.lines(b"add one 7 %d %d\n" % (quota, first), 1)
-        if answers != [b"ok"]:
-            raise Wrong(f"{self.path}: adding a tenant of {quota} cells was answered {answers[0]!r}")
+        """Adds the tenant, over a pool that has the segments of its quota."""
+        segments = -(-quota // SEGMENT_CELLS)
+        answers, _ = self.lines(b"pool %d\nadd one 7 %d %d\n" % (segments, quota, first), 2)
+        if answers != [b"ok", b"ok"]:
+            raise Wrong(f"{self.path}: adding a tenant of {quota} cells was answered {answers!r}")
 
     @staticmethod
     def script(calls):
