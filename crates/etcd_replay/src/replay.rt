@@ -26,7 +26,7 @@ impl Replay {
         Replay { front: None }
     }
 
-    /// Answers one line. It fails where the pool can't be held.
+    /// Answers one line. It fails if the pool can't be held.
     pub(crate) fn answer(&mut self, alloc: Global, line: &Line<'_>) -> Mem<LineAnswer>
         requires { IsInPlace self.old.front (asked_by line.now) }
         ensures { IfOk result

@@ -35,7 +35,7 @@ abbrev pub refused_target : Option Target → Refusal
 refused_target None = NoPath
 refused_target (Some target) = refused_call (call_of target.path)
 
--- what an event is told where the tenant that it names is not there
+-- what an event is told if the tenant that it names is not there
 abbrev pub nobody : Event → Refusal
 nobody (Called method target body) = refused_target (target_of target)
 nobody (Stepped tenant step) = NoTenant

@@ -37,7 +37,7 @@ impl Front {
     }
 
     /// Answers one event. Its tenant's machine has then made the step that the event asks for, or for want of
-    /// memory nothing changed; where no such tenant is there, that is told.
+    /// memory nothing changed; if no such tenant is there, that is told.
     pub fn answer(&mut self, alloc: Global, event: &HostEvent) -> Answer
         ensures { Answers self.old.host (event_of event.now) result self.new.host }
     {
@@ -65,7 +65,7 @@ impl Front {
         }
     }
 
-    /// Answers events of any tenants in any order. Where the answers can't be held, none is asked for.
+    /// Answers events of any tenants in any order. If the answers can't be held, none is asked for.
     pub fn answer_all(&mut self, alloc: Global, events: &[HostEvent]) -> Mem<Vec<Answer>>
         ensures alone { IfOk result
             (λ answers. AllAlone self.old.host (turns_of events.now answers.items) self.new.host) }
