@@ -1,12 +1,15 @@
 -- One event is answered: refused, or its step made.
 use Rattle.std.proofs.Common.{◌≡◌, ◌≢◌, ◌∙◌, sym, ap, subst, refl, ℕ, List, true, false}
-use Rattle.std.proofs.Common.{Some, Ok, Err, is_some}
+use Rattle.std.proofs.Common.{Bool, Some, Ok, Err, is_some}
+use Rattle.std.specs.Prelude.{if◌then◌else◌}
 use Rattle.std.specs.Str.{bytes_eq}
 use Rattle.std.specs.Cmp.Lexicographic.{bytes_decides}
 use Rattle.std.proofs.lemmas.Bool.{true≢false}
 use Rattle.etcd_types.specs.declared.step.Step.{Step}
+use Rattle.etcd_types.specs.declared.step.Step.TheVariants.{DropWatch, Tick, CatchUp}
 use Rattle.etcd_types.specs.declared.refusal.Refusal.{Refusal}
-use Rattle.etcd_types.specs.declared.refusal.Refusal.TheVariants.{Memory}
+use Rattle.etcd_types.specs.declared.refusal.Refusal.TheVariants.{Memory, NoTenant}
+use Rattle.etcd_types.specs.declared.reply.Reply.TheVariants.{Refused}
 use Rattle.etcd_model.specs.declared.state.History.{History}
 use Rattle.etcd_model.specs.declared.state.State.{State}
 use Rattle.etcd_model.specs.Calls.{Target, read_posted, target_of}
@@ -15,9 +18,12 @@ use Rattle.etcd_model.specs.Alone.{Called, Stepped, names, is_of, is_unanswered,
 use Rattle.etcd_model.specs.Alone.{answer_to, after_read}
 use Rattle.etcd_model.specs.Held.{Holds}
 use Rattle.tenant_machine.specs.Tenants.{tenant}
-use Rattle.tenant_machine.specs.Plans.{Plan}
-use Rattle.steps_core.specs.Hosts.{HostState, HoldsAt, PlansAt, CommitsAt, machine_at, has_tenant}
-use Rattle.host_front.specs.Answering.{Answers, Refuses, is_there, is_target_there}
+use Rattle.tenant_machine.specs.Plans.{Plan, takes_memory}
+use Rattle.steps_core.specs.Hosts.{HostState, HoldsAt, IsSureAt, PlansAt, CommitsAt, machine_at, has_tenant}
+use Rattle.steps_core.specs.Hosts.{unplanned}
+use Rattle.steps_core.proofs.Runs.{sure_at}
+use Rattle.steps_core.proofs.Stepped.{unplanned_by}
+use Rattle.host_front.specs.Answering.{Answers, Refuses, is_there, is_target_there, takes_none}
 use Rattle.host_front.proofs.Told.{text_answered, refused_answered}
 
 same_name : (t u : List ℕ) → bytes_eq t u ≡ true → t ≡ u
@@ -101,3 +107,26 @@ step_made h new t step p a at commits is =
       others = λ u apart. commits.others.machines u (λ same. true≢false (sym ((bytes_decides u t).1 same) ∙ apart));
       same = commits.others.same;
     }
+
+takes_step : (t : List ℕ) (step : Step) → takes_none (Stepped t step) ≡ true → takes_memory step ≡ false
+takes_step t (DropWatch slot) h = refl
+takes_step t (Tick moment) h = refl
+takes_step t (CatchUp budget) h = refl
+takes_step t step h = absurd (true≢false (sym h))
+
+-- a step that has no plan
+pub step_unplanned : (h : HostState) (t : List ℕ) (step : Step) (r : Refusal) (a : Answer) → r ≡ unplanned h t
+    → (IsSureAt h t step → false ≡ true) → Refuses r a → Answers h (Stepped t step) a h
+step_unplanned h t step r a err sure refuses = record {
+  own = λ u S mine answered held.
+      let found = ap (machine_at h) (sym (same_name u t mine)) ∙ held.is in
+      absurd (refused_answered r a answered (refuses.told answered) (err ∙ unplanned_by h t found));
+  none = λ apart. (refl, λ answered. refuses.told answered ∙ ap (λ (q : Refusal). text (Refused q))
+      (err ∙ ap (λ (b : Bool). if b then Memory else NoTenant) apart));
+  memory = λ unanswered. (refl, refuses.memory unanswered);
+  sure = λ u S mine takes held.
+      let found = ap (machine_at h) (sym (same_name u t mine)) ∙ held.is in
+      absurd (true≢false (sym (sure (sure_at h t step (takes_step t step takes) (ap is_some found)))));
+  others = λ u apart. refl;
+  same = record { names = refl; reserved = refl; segments = refl };
+}

@@ -59,7 +59,7 @@ none_there None h = refl
 none_there (Some x) h = absurd (true≢false h)
 
 -- a tenant that is there is sure of a step that takes no memory
-sure_at : (h : HostState) (t : List ℕ) (step : Step) → takes_memory step ≡ false → has_tenant h t ≡ true → IsSureAt h t step
+pub sure_at : (h : HostState) (t : List ℕ) (step : Step) → takes_memory step ≡ false → has_tenant h t ≡ true → IsSureAt h t step
 sure_at h t step free there = by (machine_at h t) refl there
   where
     by : (o : Option MachineState) → machine_at h t ≡ o → is_some o ≡ true → IsSureAt h t step
