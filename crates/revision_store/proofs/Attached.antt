@@ -1,6 +1,6 @@
 -- The rows that a lease holds, by the cells that they are under: how they stay, and their deletes.
-use Rattle.std.proofs.Common.{◌≡◌, ℕ, ◌+◌, ◌*◌, ◌^◌, ◌<◌, ◌≤◌, List, [], ◌∷◌, map, Some, Option, refl, sym, ap, ◌∙◌, subst, arith}
-use Rattle.std.specs.Prelude.{ℤ, Bool, true, false, cond, filter, option_and_then, sum_by}
+use Rattle.std.proofs.Common.{◌≡◌, ℕ, ◌+◌, ◌*◌, ◌^◌, ◌<◌, ◌≤◌, List, [], ◌∷◌, map, Some, refl, sym, ap, ◌∙◌, subst, arith}
+use Rattle.std.specs.Prelude.{ℤ, Bool, true, false, cond, filter, sum_by}
 use Rattle.std.specs.List.{AllByRecursion}
 use Rattle.std.specs.Ordering.{int_eq}
 use Rattle.std.proofs.lemmas.List.Elements.{recursion_from_All}
@@ -19,7 +19,7 @@ use Rattle.model_laws.specs.Once.{IsOnce}
 use Rattle.model_laws.proofs.AttachedLaws.{all_passing}
 use Rattle.model_laws.proofs.OnceStoreLaws.{finish_changes_once}
 use Rattle.model_laws.proofs.RowLaws.{live-key, rows_inside}
-use Rattle.key_index.specs.Links.{Cells, change_at}
+use Rattle.key_index.specs.Links.{Cells}
 use Rattle.revision_store.specs.Logged.{AllStay}
 use Rattle.revision_store.specs.Plans.{cost_in, costs_in, head_deletes}
 use Rattle.revision_store.specs.Stored.{CanCommit, Follows, IsPlanFor, RowsStay, StoreState, cells, changes_of, reads, row_at}
