@@ -1,11 +1,10 @@
 -- A replay: lines answered in turn, over one host.
-use Rattle.std.specs.Prelude.{◌≡◌, ◌≢◌, ℕ, ◌≤◌, List, [], ◌∷◌, ◌++◌, filter_map, Option, None, Some}
+use Rattle.std.specs.Prelude.{◌≡◌, ℕ, ◌≤◌, List, [], ◌∷◌, ◌++◌, filter_map, Option, None, Some}
 use Rattle.etcd_types.specs.declared.limits.TheConstants.{DEFAULT_SEGMENTS, MAX_SEGMENTS}
 use Rattle.etcd_model.specs.Machine.{opening}
 use Rattle.etcd_model.specs.Alone.{Turn}
-use Rattle.steps_core.specs.declared.host.OperatorFault.TheVariants.{Memory}
 use Rattle.steps_core.specs.Hosts.{HostState, names_of}
-use Rattle.steps_core.specs.Adding.{add_fault, Adds}
+use Rattle.steps_core.specs.Adding.{add_fault, reason, Adds}
 use Rattle.host_front.specs.declared.front.Front.{Front}
 use Rattle.host_front.specs.Answering.{Answers}
 use Rattle.host_front.specs.Isolation.{IsAlone}
@@ -46,13 +45,13 @@ IsPool old segments Done new = (old.tenants ≡ []) × (new ≡ new_host segment
 IsPool old segments (No fault) new = ⊥
 IsPool old segments (Told a) new = ⊥
 
--- a tenant is added at its opening if nothing speaks against it; else the first fault is told, or want of
--- memory, and nothing changed
+-- a tenant is added at its opening, and nothing speaks against it; or the first fault is told, or if there is
+-- none want of memory, and nothing changed
 abbrev pub IsAdded : HostState → List ℕ → ℕ → ℕ → ℕ → LineAnswer → HostState → Type 0
 IsAdded old name cluster quota first Done new =
     (add_fault old name cluster quota first ≡ None) × Adds old name cluster quota first new
 IsAdded old name cluster quota first (No fault) new =
-    (new ≡ old) × (fault ≢ Memory → add_fault old name cluster quota first ≡ Some fault)
+    (new ≡ old) × (add_fault old name cluster quota first ≡ reason fault)
 IsAdded old name cluster quota first (Told a) new = ⊥
 
 -- what a line is told, and the host that it leaves
