@@ -1,0 +1,13 @@
+pub mod Changes
+pub mod Notes
+pub mod Wanted
+pub mod Rings
+pub mod Firsts
+pub mod Slotted
+pub mod Walks
+pub mod Gathers
+pub mod Dropping
+pub mod Told
+pub mod Takes
+pub mod Committed
+pub mod Filling

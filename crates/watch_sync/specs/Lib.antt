@@ -1,0 +1,5 @@
+pub mod Ahead
+pub mod Agreeing
+pub mod Gathering
+pub mod Slots
+pub mod Telling

@@ -1,0 +1,147 @@
+//! How a ring follows its store: over the newest revision, over those before, and over a compaction.
+ghost use Rattle.std.specs.Prelude.{◌≡◌, ◌<◌, ◌≤◌, ◌++◌, IfSome, IsFalse, IsSome, IsTrue, Some, map, nat_le};
+ghost use Rattle.std.specs.List.{AllByRecursion};
+ghost use Rattle.etcd_model.specs.Changes.{since};
+ghost use Rattle.key_index.specs.Links.{change_at};
+ghost use Rattle.revision_store.specs.Stored.{cells};
+ghost use Rattle.watch_sync.specs.Ahead.{is_ahead_at, notes_at};
+ghost use Rattle.watch_sync.specs.Agreeing.{Agrees, IsStretch, cut_to, reached, with_ring};
+
+use crate::wanting::{is_ahead, note_of, revision_at};
+use crate::watch::OpenWatch;
+use etcd_types::CellNo;
+use revision_store::Store;
+
+/// The first revision after that of the first of some cells, or after the current one.
+fn reached(store: &Store, changes: &[CellNo]) -> u64
+    requires { AllByRecursion (λ c. IsSome (cells store.now c)) changes.now }
+    ensures { result ≡ reached store.now changes.now }
+{
+    let current = store.current();
+    match changes {
+        [] => current + 1,
+        [cell, ..] => revision_at(store, *cell).min(current) + 1,
+    }
+}
+
+impl OpenWatch {
+    /// Whether it has missed nothing that a compaction took.
+    fn is_whole(&self, store: &Store) -> bool
+        ensures { result ≡ nat_le store.now.kept.compacted self.now.watch.next }
+    {
+        store.compacted() <= self.next()
+    }
+
+    /// Whether it is to be told of the change under a cell.
+    pub(crate) fn is_ahead(&self, store: &Store, cell: CellNo) -> bool
+        requires { IsSome (cells store.now cell) }
+        ensures { result ≡ is_ahead_at (cells store.now) self.now.watch cell }
+    {
+        is_ahead(&self.watch, store, cell)
+    }
+
+    /// Takes up the changes under some cells, those that are ahead, if there is room for all of them.
+    fn take_up(&mut self, store: &Store, changes: &[CellNo]) -> bool
+        requires { AllByRecursion (λ c. IsSome (cells store.now c)) changes.now }
+        ensures all { IsTrue result
+            → self.new ≡ with_ring self.old (self.old.ring ++ notes_at (cells store.now) self.old.watch changes.now) }
+        ensures none { IsFalse result → self.new ≡ self.old }
+    {
+        let before = self.ring_len();
+        for cell in changes {
+            if self.is_ahead(store, *cell) {
+                if !self.push(note_of(store, *cell)) {
+                    self.shorten(before);
+                    return false;
+                }
+            }
+        }
+        true
+    }
+
+    /// Goes on over the changes up to a later revision, if there is room for those that are ahead.
+    fn pass(&mut self, store: &Store, changes: &[CellNo], to: u64) -> bool
+        requires whole { store.now.kept.compacted ≤ self.old.watch.next }
+        requires stretch { IsStretch store.now self.old.position to changes.now }
+        ensures agrees { Agrees self.old store.now → Agrees self.new store.now }
+        ensures watch { self.new.watch ≡ self.old.watch }
+        ensures moved { IsTrue result → self.new.position ≡ to }
+    {
+        // The store tells with its revision that its revisions don't fall.
+        store.current();
+        if !self.take_up(store, changes) {
+            return false;
+        }
+        self.move_to(to);
+        true
+    }
+
+    /// Takes up the newest revision, if the ring has all before it and room for it.
+    pub fn note(&mut self, store: &Store, newest: &[CellNo])
+        requires { map (change_at (cells store.now)) newest.now
+            ≡ map Some (since store.now.kept.current store.now.kept.changes) }
+        ensures agrees { Agrees self.old store.now → Agrees self.new store.now }
+        ensures watch { self.new.watch ≡ self.old.watch }
+    {
+        let current = store.current();
+        if self.position() != current {
+            return;
+        }
+        if !self.is_whole(store) {
+            return;
+        }
+        self.pass(store, newest, current + 1);
+    }
+
+    /// Goes on by one revision that has changes, or to the end, over so many changes at most. Answers
+    /// how many it went over, or nothing if it can't go on.
+    fn go_on(&mut self, store: &Store, budget: usize) -> Option<usize>
+        requires whole { store.now.kept.compacted ≤ self.old.watch.next }
+        requires behind { self.old.position ≤ store.now.kept.current }
+        ensures agrees { Agrees self.old store.now → Agrees self.new store.now }
+        ensures watch { self.new.watch ≡ self.old.watch }
+        ensures further { IfSome result (λ n. (n ≤ budget) × (self.old.position < self.new.position)) }
+    {
+        // The store tells with its revision that its revisions don't fall.
+        store.current();
+        let changes = store.since(self.position());
+        let to = reached(store, changes);
+        let later = store.since(to);
+        let count = changes.len() - later.len();
+        if count > budget {
+            return None;
+        }
+        if !self.pass(store, &changes[..count], to) {
+            return None;
+        }
+        Some(count)
+    }
+
+    /// Goes on over so many changes at most. Answers how many are left of them.
+    pub fn catch_up(&mut self, store: &Store, budget: usize) -> usize
+        ensures agrees { Agrees self.old store.now → Agrees self.new store.now }
+        ensures watch { self.new.watch ≡ self.old.watch }
+        ensures left { result ≤ budget }
+    {
+        let mut left = budget;
+        if !self.is_whole(store) {
+            return left;
+        }
+        while self.position() <= store.current() {
+            match self.go_on(store, left) {
+                Some(scanned) => left -= scanned,
+                None => return left,
+            }
+        }
+        left
+    }
+
+    /// Follows a compaction: a watch that missed what it took keeps no note.
+    pub fn cut(&mut self, store: &Store)
+        ensures { self.new ≡ cut_to store.now self.old }
+    {
+        if !self.is_whole(store) {
+            self.clear();
+        }
+    }
+}

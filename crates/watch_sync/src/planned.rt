@@ -1,0 +1,38 @@
+//! What is planned for a slot.
+use crate::watch::OpenWatch;
+use etcd_types::Reply;
+use std::marker::Model;
+
+/// A watch that is to be opened: the slot that it gets, and its ring, which is made.
+#[derive(Drop)]
+pub struct NewWatch {
+    pub(crate) slot: u8,
+    pub(crate) watch: OpenWatch,
+}
+
+impl Model for NewWatch {
+    ghost use Rattle.watch_sync.specs.Slots.{Opening};
+
+    ghost Value = { Opening };
+
+    ghost view = { λ n. record { slot = n.slot; watch = n.watch } };
+}
+
+/// What a take makes of the watches.
+#[derive(Clone, Copy)]
+pub enum Taken {
+    Nothing,
+    /// The watch of a slot goes.
+    Canceled(u8),
+    /// The watch of a slot was told of all below this revision.
+    Told { slot: u8, next: u64 },
+}
+
+/// A take that is decided.
+#[derive(Drop)]
+pub struct PlannedTake {
+    /// What it makes of the watches.
+    pub taken: Taken,
+    /// What it is answered.
+    pub reply: Reply,
+}

@@ -1,0 +1,88 @@
+//! Slots: what a watch does, if a slot has one, and what all do.
+ghost use Rattle.std.specs.Prelude.{◌≡◌, ◌≤◌, Some, IfSome, map, option_map};
+ghost use Rattle.etcd_model.specs.Changes.{since};
+ghost use Rattle.key_index.specs.Links.{change_at};
+ghost use Rattle.revision_store.specs.Stored.{cells};
+ghost use Rattle.watch_sync.specs.Agreeing.{cut_to, with_next};
+ghost use Rattle.watch_sync.specs.Slots.{AllAgree, GoesOn, OneAgrees, watches};
+
+use crate::watch::OpenWatch;
+use etcd_types::CellNo;
+use revision_store::Store;
+
+/// Takes up the newest revision.
+fn note(slot: &mut Option<OpenWatch>, store: &Store, newest: &[CellNo])
+    requires { map (change_at (cells store.now)) newest.now
+        ≡ map Some (since store.now.kept.current store.now.kept.changes) }
+    ensures agrees { OneAgrees store.now slot.old → OneAgrees store.now slot.new }
+    ensures watch { option_map (λ w. w.watch) slot.new ≡ option_map (λ w. w.watch) slot.old }
+{
+    if let Some(watch) = slot {
+        watch.note(store, newest);
+    }
+}
+
+/// Goes on over so many changes at most. Answers how many are left of them.
+fn catch_up(slot: &mut Option<OpenWatch>, store: &Store, budget: usize) -> usize
+    ensures agrees { OneAgrees store.now slot.old → OneAgrees store.now slot.new }
+    ensures watch { option_map (λ w. w.watch) slot.new ≡ option_map (λ w. w.watch) slot.old }
+    ensures left { result ≤ budget }
+{
+    match slot {
+        Some(watch) => watch.catch_up(store, budget),
+        None => budget,
+    }
+}
+
+/// Follows a compaction.
+fn cut(slot: &mut Option<OpenWatch>, store: &Store)
+    ensures { slot.new ≡ option_map (cut_to store.now) slot.old }
+{
+    if let Some(watch) = slot {
+        watch.cut(store);
+    }
+}
+
+/// Goes on at a later revision, after a response.
+pub(crate) fn told(slot: &mut Option<OpenWatch>, store: &Store, next: u64)
+    requires agrees { OneAgrees store.now slot.old }
+    requires on { IfSome slot.old (GoesOn store.now next) }
+    ensures agrees { OneAgrees store.now slot.new }
+    ensures watch { option_map (λ w. w.watch) slot.new
+        ≡ option_map (λ w. with_next w.watch next) slot.old }
+{
+    if let Some(watch) = slot {
+        watch.told(store, next);
+    }
+}
+
+/// Takes up the newest revision in each slot.
+pub(crate) fn note_all(slots: &mut [Option<OpenWatch>], store: &Store)
+    ensures agree { AllAgree slots.old store.now → AllAgree slots.new store.now }
+    ensures watches { watches slots.new ≡ watches slots.old }
+{
+    let newest = store.since(store.current());
+    for slot in slots.iter_mut() {
+        note(slot, store, newest);
+    }
+}
+
+/// Goes on in each slot, over so many changes at most in all.
+pub(crate) fn catch_up_all(slots: &mut [Option<OpenWatch>], store: &Store, budget: usize)
+    ensures agree { AllAgree slots.old store.now → AllAgree slots.new store.now }
+    ensures watches { watches slots.new ≡ watches slots.old }
+{
+    let mut left = budget;
+    for slot in slots.iter_mut() {
+        left = catch_up(slot, store, left);
+    }
+}
+
+/// Follows a compaction in each slot.
+pub(crate) fn cut_all(slots: &mut [Option<OpenWatch>], store: &Store)
+    ensures { slots.new ≡ map (option_map (cut_to store.now)) slots.old }
+{
+    for slot in slots.iter_mut() {
+        cut(slot, store);
+    }
+}

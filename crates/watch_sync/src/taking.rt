@@ -1,0 +1,89 @@
+//! What a take is answered.
+ghost use Rattle.std.specs.Prelude.{◌≡◌, ◌<◌, ◌^◌, List, Option, Some, IfOk, pos, slice_get};
+ghost use Rattle.std.specs.Option.{option_copied};
+ghost use Rattle.etcd_types.specs.declared.reply.Reply.TheVariants.{Canceled};
+ghost use Rattle.watch_sync.specs.Agreeing.{Agrees, WatchState};
+ghost use Rattle.watch_sync.specs.Slots.{AllAgree, PlansTake, watch_in};
+
+use crate::planned::{PlannedTake, Taken};
+use crate::watch::OpenWatch;
+use crate::watchers::Watchers;
+use etcd_types::{Header, Mem, Reply};
+use revision_store::Store;
+use std::alloc::Global;
+
+/// A revision as answers have it.
+fn signed(revision: u64) -> i64
+    requires { revision < 2 ^ 63 }
+    ensures { result ≡ pos revision }
+{
+    revision as i64
+}
+
+impl OpenWatch {
+    /// The answer of a cancel.
+    fn cancel(&self, store: &Store, header: Header) -> Reply
+        ensures { result ≡ Canceled header self.now.watch.id (pos store.now.kept.compacted) }
+    {
+        // The store tells with its revision that this and the compaction's are less than 2^63.
+        store.current();
+        Reply::Canceled {
+            header,
+            watch_id: self.watch.id,
+            compact_revision: signed(store.compacted()),
+        }
+    }
+
+    /// What a take of the watch, which has this slot, makes of it, and what it is answered.
+    fn plan(&self, alloc: Global, store: &Store, header: Header, slot: u8) -> Mem<PlannedTake>
+        requires { Agrees self.now store.now }
+        ensures { IfOk result (λ planned. (slots : List (Option WatchState))
+            → slice_get slots slot ≡ Some (Some self.now) → PlansTake slots store.now header slot planned) }
+    {
+        if self.next() < store.compacted() {
+            let reply = self.cancel(store, header);
+            return Ok(PlannedTake {
+                taken: Taken::Canceled(slot),
+                reply,
+            });
+        }
+        let (reply, next) = self.tell(alloc, store, header)?;
+        Ok(PlannedTake {
+            taken: Taken::Told { slot, next },
+            reply,
+        })
+    }
+}
+
+impl Watchers {
+    /// The watch of a slot.
+    fn watch(&self, slot: u8) -> Option<&OpenWatch>
+        ensures { option_copied result ≡ watch_in self.now slot }
+    {
+        match self.slots.get(slot as usize) {
+            Some(Some(watch)) => Some(watch),
+            _ => None,
+        }
+    }
+
+    /// What a slot is told next, and what its watch is then: nothing if it is free or there is no event, a
+    /// cancel if a compaction took what it was still to be told of.
+    pub fn plan_take(
+        &self,
+        alloc: Global,
+        store: &Store,
+        header: Header,
+        slot: u8,
+    ) -> Mem<PlannedTake>
+        requires { AllAgree self.now store.now }
+        ensures { IfOk result (PlansTake self.now store.now header slot) }
+    {
+        match self.watch(slot) {
+            Some(watch) => watch.plan(alloc, store, header, slot),
+            None => Ok(PlannedTake {
+                taken: Taken::Nothing,
+                reply: Reply::Quiet,
+            }),
+        }
+    }
+}

@@ -1,0 +1,102 @@
+//! Whether a watch is to be told of a change, which is read where it lies.
+ghost use Rattle.std.specs.Prelude.{◌≡◌, IsSome};
+ghost use Rattle.std.specs.Str.{bytes_eq};
+ghost use Rattle.etcd_model.specs.Interval.{is_in};
+ghost use Rattle.etcd_model.specs.Order.{key_cmp, key_le};
+ghost use Rattle.revision_store.specs.Plans.{key_at};
+ghost use Rattle.revision_store.specs.Stored.{cells};
+ghost use Rattle.watch_sync.specs.Ahead.{is_ahead_at, is_put_at, note_at, revision_at};
+
+use crate::noted::Noted;
+use etcd_model::state::Watch;
+use etcd_types::CellNo;
+use key_index::Records;
+use revision_store::Store;
+use std::cmp::Ordering;
+
+/// The revision of a change.
+pub(crate) fn revision_at(store: &Store, cell: CellNo) -> u64
+    requires { IsSome (cells store.now cell) }
+    ensures { result ≡ revision_at (cells store.now) cell }
+{
+    store.records().revision(cell)
+}
+
+/// Whether it is a put, and not a delete.
+pub(crate) fn is_put_at(store: &Store, cell: CellNo) -> bool
+    requires { IsSome (cells store.now cell) }
+    ensures { result ≡ is_put_at (cells store.now) cell }
+{
+    store.records().is_put(cell)
+}
+
+/// How its key stands to another one.
+fn key_cmp(store: &Store, cell: CellNo, key: &[u8]) -> Ordering
+    requires { IsSome (cells store.now cell) }
+    ensures { result ≡ key_cmp (key_at (cells store.now) cell) key.now }
+{
+    store.records().key_cmp(cell, key)
+}
+
+/// Whether its key is the key.
+#[tactic(auto, using(revision_store::proofs::PendingStores::same_key))]
+fn is_of(store: &Store, cell: CellNo, key: &[u8]) -> bool
+    requires { IsSome (cells store.now cell) }
+    ensures { result ≡ bytes_eq (key_at (cells store.now) cell) key.now }
+{
+    key_cmp(store, cell, key).is_eq()
+}
+
+/// Whether its key is the key or a later one.
+#[tactic(auto, using(revision_store::proofs::PendingStores::from_key))]
+fn is_from(store: &Store, cell: CellNo, key: &[u8]) -> bool
+    requires { IsSome (cells store.now cell) }
+    ensures { result ≡ key_le key.now (key_at (cells store.now) cell) }
+{
+    key_cmp(store, cell, key).is_ge()
+}
+
+/// Whether its key lies in an interval.
+fn lies_in(store: &Store, cell: CellNo, key: &[u8], range_end: &[u8]) -> bool
+    requires { IsSome (cells store.now cell) }
+    ensures { result ≡ is_in key.now range_end.now (key_at (cells store.now) cell) }
+{
+    match range_end {
+        [] => is_of(store, cell, key),
+        _ => {
+            is_from(store, cell, key)
+                && (range_end == [0].as_slice() || key_cmp(store, cell, range_end).is_lt())
+        }
+    }
+}
+
+/// Whether a watch is to be told of the change.
+#[tactic(auto, using(crate::proofs::Wanted::read_ahead))]
+pub(crate) fn is_ahead(watch: &Watch, store: &Store, cell: CellNo) -> bool
+    requires { IsSome (cells store.now cell) }
+    ensures { result ≡ is_ahead_at (cells store.now) watch.now cell }
+{
+    watch.next <= revision_at(store, cell)
+        && lies_in(
+            store,
+            cell,
+            watch.key.as_slice(),
+            watch.range_end.as_slice(),
+        )
+        && (if is_put_at(store, cell) {
+            !watch.no_put
+        } else {
+            !watch.no_delete
+        })
+}
+
+/// What a ring has of the change.
+pub(crate) fn note_of(store: &Store, cell: CellNo) -> Noted
+    requires { IsSome (cells store.now cell) }
+    ensures { result ≡ note_at (cells store.now) cell }
+{
+    Noted {
+        revision: revision_at(store, cell),
+        cell,
+    }
+}

@@ -1,0 +1,154 @@
+//! The watches of one tenant.
+ghost use Rattle.std.specs.Prelude.{◌≡◌, ℕ, List, None, Some, IfOk, IsOk, MatchResult, is_none, position, replicate, slice_set};
+ghost use Rattle.etcd_types.specs.Limits.{watch_slots};
+ghost use Rattle.etcd_types.specs.declared.refusal.Refusal.TheVariants.{TooManyWatches};
+ghost use Rattle.etcd_model.specs.Watches.{watch_of};
+ghost use Rattle.revision_store.specs.Stored.{StoreState, Commits};
+ghost use Rattle.revision_store.specs.declared.plan.Write.{Write};
+ghost use Rattle.watch_sync.specs.Agreeing.{Agrees, Compacts};
+ghost use Rattle.watch_sync.specs.Slots.{AllAgree, FitsTake, StillAgree, slots_after, watches};
+
+use crate::planned::{NewWatch, Taken};
+use crate::slots::{catch_up_all, cut_all, note_all, told};
+use crate::watch::OpenWatch;
+use etcd_types::limits::WATCH_SLOTS;
+use etcd_types::{Mem, Refusal, WatchReq};
+use revision_store::Store;
+use std::alloc::Global;
+use std::marker::Model;
+
+/// Slots, each free or with a watch.
+#[derive(Drop)]
+pub struct Watchers {
+    pub(crate) slots: Vec<Option<OpenWatch>>,
+}
+
+impl Model for Watchers {
+    ghost use Rattle.std.specs.Prelude.{List, Option, length, ◌≡◌};
+    ghost use Rattle.etcd_types.specs.Limits.{watch_slots};
+    ghost use Rattle.watch_sync.specs.Agreeing.{WatchState};
+
+    ghost Value = { List (Option WatchState) };
+
+    ghost view = { λ a. a.slots.items };
+
+    ghost invariant = { λ a. length a.slots.items ≡ watch_slots };
+}
+
+/// The first slot that is free.
+fn free_slot(slots: &[Option<OpenWatch>]) -> Option<usize>
+    ensures { result ≡ position is_none slots.now }
+{
+    slots.iter().position(|slot| slot.is_none())
+}
+
+impl Watchers {
+    /// All slots free.
+    pub fn new(alloc: Global) -> Mem<Watchers>
+        ensures watches { IfOk result (λ all. watches all ≡ replicate watch_slots None) }
+        ensures agree { IfOk result (λ all. (store : StoreState) → AllAgree all store) }
+    {
+        let mut slots = Vec::with_capacity(alloc, WATCH_SLOTS)?;
+        'freeing: for _slot in 0..WATCH_SLOTS {
+            slots.push_reserved(None);
+        }
+        Ok(Watchers { slots })
+    }
+
+    /// A watch that is to be opened, with its ring, or the refusal if no slot is free, which takes no memory.
+    pub fn plan_create(
+        &self,
+        alloc: Global,
+        store: &Store,
+        request: &WatchReq,
+    ) -> Mem<Result<NewWatch, Refusal>>
+        ensures slot { IfOk result (λ answer. MatchResult answer
+            (λ new. position is_none (watches self.now) ≡ Some new.slot)
+            (λ refusal. (position is_none (watches self.now) ≡ None) × (refusal ≡ TooManyWatches))) }
+        ensures watch { IfOk result (λ answer. IfOk answer
+            (λ new. new.watch.watch ≡ watch_of store.now.kept.current request.now)) }
+        ensures agrees { IfOk result (λ answer. IfOk answer (λ new. Agrees new.watch store.now)) }
+        ensures sure { position is_none (watches self.now) ≡ None → IsOk result }
+    {
+        let Some(slot) = free_slot(&self.slots) else {
+            return Ok(Err(Refusal::TooManyWatches));
+        };
+        let watch = OpenWatch::open(alloc, store, request)?;
+        Ok(Ok(NewWatch {
+            slot: slot as u8,
+            watch,
+        }))
+    }
+
+    /// Opens a watch in its slot, which it answers. It takes no memory and cannot fail.
+    pub fn create(&mut self, new: NewWatch) -> u8
+        requires { position is_none (watches self.old) ≡ Some new.slot }
+        ensures slot { result ≡ new.slot }
+        ensures watches { watches self.new ≡ slice_set (watches self.old) new.slot (Some new.watch.watch) }
+        ensures agree { (store : StoreState) → AllAgree self.old store → Agrees new.watch store
+            → AllAgree self.new store }
+    {
+        let NewWatch { slot, watch } = new;
+        self.slots[slot as usize] = Some(watch);
+        slot
+    }
+
+    /// Frees a slot. It takes no memory and cannot fail.
+    pub fn drop_watch(&mut self, slot: u8)
+        ensures watches { watches self.new ≡ slice_set (watches self.old) slot None }
+        ensures agree { StillAgree self.old self.new }
+    {
+        let slot = slot as usize;
+        if slot < self.slots.len() {
+            self.slots[slot] = None;
+        }
+    }
+
+    /// Takes up the newest revision, after a commit, in each ring that has all before it. It takes no memory
+    /// and cannot fail.
+    pub fn note(&mut self, store: &Store)
+        ensures watches { watches self.new ≡ watches self.old }
+        ensures agree { (old : StoreState) (writes : List Write) → Commits old store.now writes
+            → AllAgree self.old old → AllAgree self.new store.now }
+    {
+        note_all(&mut self.slots, store);
+    }
+
+    /// Goes on with the rings that are behind, over so many kept changes at most. It takes no memory and
+    /// cannot fail.
+    pub fn catch_up(&mut self, store: &Store, budget: u32)
+        requires { AllAgree self.old store.now }
+        ensures watches { watches self.new ≡ watches self.old }
+        ensures agree { AllAgree self.new store.now }
+    {
+        catch_up_all(&mut self.slots, store, budget as usize);
+    }
+
+    /// Follows a compaction: rings keep nothing that it took. It takes no memory and cannot fail.
+    pub fn cut(&mut self, store: &Store)
+        ensures watches { watches self.new ≡ watches self.old }
+        ensures agree { (old : StoreState) (revision : ℕ) → Compacts old store.now revision
+            → AllAgree self.old old → AllAgree self.new store.now }
+    {
+        cut_all(&mut self.slots, store);
+    }
+
+    /// Makes what a take planned. It takes no memory and cannot fail.
+    pub fn take(&mut self, store: &Store, taken: Taken)
+        requires agree { AllAgree self.old store.now }
+        requires fits { FitsTake self.old store.now taken }
+        ensures watches { watches self.new ≡ slots_after (watches self.old) taken }
+        ensures agree { AllAgree self.new store.now }
+    {
+        match taken {
+            Taken::Nothing => {}
+            Taken::Canceled(slot) => self.drop_watch(slot),
+            Taken::Told { slot, next } => {
+                let slot = slot as usize;
+                if slot < self.slots.len() {
+                    told(&mut self.slots[slot], store, next);
+                }
+            }
+        }
+    }
+}
