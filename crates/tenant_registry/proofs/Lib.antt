@@ -1,0 +1,6 @@
+-- Proofs of this crate.
+pub mod ClosedLemmas
+pub mod ClosingLemmas
+pub mod KeptLemmas
+pub mod RegistryLemmas
+pub mod SeatLemmas

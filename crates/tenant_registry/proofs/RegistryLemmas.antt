@@ -1,0 +1,29 @@
+-- The tenants that a registry shows, over the entries of its map.
+use Rattle.std.proofs.Common.{◌≡◌, ◌∙◌, sym, ap, refl, ℕ, Bool, true, false, cond, List, [], ◌∷◌, Option, None, Some, is_some, Vec}
+use Rattle.std.specs.Option.{option_map}
+use Rattle.std.specs.Str.{bytes_eq}
+use Rattle.std.specs.Map.{lookup}
+use Rattle.tenant_registry.specs.declared.tenant.Tenant.{Tenant}
+use Rattle.tenant_registry.specs.Registries.{RegistryState, has_tenant, is_among, tenants_of}
+use Rattle.tenant_registry.proofs.SeatLemmas.{test}
+
+shown : {A : Type 0} (t : List ℕ) (es : List (Vec ℕ A × Tenant)) → lookup (bytes_eq t) (tenants_of es) ≡ option_map (λ x. x.opening) (lookup (test t) es)
+shown t [] = refl
+shown t (e ∷ es) = by (bytes_eq t e.0.items) (shown t es)
+  where
+    by : (b : Bool) → lookup (bytes_eq t) (tenants_of es) ≡ option_map (λ x. x.opening) (lookup (test t) es)
+        → cond b (Some e.1.opening) (lookup (bytes_eq t) (tenants_of es)) ≡ option_map (λ x. x.opening) (cond b (Some e.1) (lookup (test t) es))
+    by true rest = refl
+    by false rest = rest
+
+-- a tenant is found where it is shown
+pub found_shown : {A : Type 0} (t : List ℕ) (es : List (Vec ℕ A × Tenant)) → is_some (lookup (test t) es) ≡ is_among (tenants_of es) t
+found_shown t es = by (lookup (test t) es) ∙ ap is_some (sym (shown t es))
+  where
+    by : (o : Option Tenant) → is_some o ≡ is_some (option_map (λ (x : Tenant). x.opening) o)
+    by None = refl
+    by (Some x) = refl
+
+-- what a look-up found, or did not, is what the registry tells
+pub told_there : {A : Type 0} (t : List ℕ) (es : List (Vec ℕ A × Tenant)) (given : ℕ) (r : RegistryState) (o : Option Tenant) → record { tenants = tenants_of es; given = given } ≡ r → o ≡ lookup (test t) es → has_tenant r t ≡ is_some o
+told_there t es given r o view at = sym (ap (λ (x : RegistryState). has_tenant x t) view) ∙ sym (found_shown t es) ∙ ap is_some (sym at)

@@ -1,0 +1,226 @@
+-- A seat's lists, over the entries of its map.
+use Rattle.std.specs.Prelude.{Result, Ok, Err, OnOk}
+use Rattle.std.proofs.Common.{◌≡◌, ◌≢◌, ◌∙◌, sym, ap, subst, refl, ℕ, ◌+◌, ◌-◌, ◌^◌, min, Bool, true, false, cond, List, [], ◌∷◌, ◌++◌, map, Option, None, Some, is_some, Vec, true≢false}
+use Rattle.std.specs.Str.{bytes_eq}
+use Rattle.std.specs.Cmp.Lexicographic.{bytes_decides}
+use Rattle.std.specs.Map.{lookup, set_value}
+use Rattle.std.proofs.lemmas.List.{map-append}
+use Rattle.steps_core.proofs.Lists.{lookup_last, lookup_others}
+use Rattle.indexmap.specs.IndexMap.{insert_entry}
+use Rattle.etcd_types.specs.declared.step.Step.{Step}
+use Rattle.tenant_registry.specs.declared.audit.Entry.{Entry}
+use Rattle.tenant_registry.specs.declared.kept.Served.{Served}
+use Rattle.tenant_registry.specs.declared.tally.Call.{Call}
+use Rattle.tenant_registry.specs.Audits.{copy_at, entry}
+use Rattle.tenant_registry.specs.Receipts.{Slip, slip_of}
+use Rattle.tenant_registry.specs.Serving.{IsServed}
+use Rattle.tenant_registry.specs.Seats.{SeatState, TallyState, seat_of, tally_on, has_tally, calls_in, calls_on, missed_in, missed_on, HasRoom, HasRoomOn, Keeps, call, KeepsLists, KeepsOthers, AddsCall, AddsMissed}
+
+-- the test by which a name is looked up
+abbrev pub test : {A : Type 0} → List ℕ → Vec ℕ A → Bool
+test t k = bytes_eq t k.items
+
+-- ---- look-ups
+
+pub shown : {A X : Type 0} (t : List ℕ) (es : List (Vec ℕ A × X)) → lookup (bytes_eq t) (map (λ e. (e.0.items, e.1)) es) ≡ lookup (test t) es
+shown t [] = refl
+shown t (e ∷ es) = ap (λ o. cond (bytes_eq t e.0.items) (Some e.1) o) (shown t es)
+
+-- a name that is t is no other
+apart : (t u k : List ℕ) → u ≢ t → bytes_eq t k ≡ true → bytes_eq u k ≡ false
+apart t u k differ h = by (bytes_eq u k) refl
+  where
+    by : (b : Bool) → bytes_eq u k ≡ b → bytes_eq u k ≡ false
+    by false e = e
+    by true e = absurd (differ ((bytes_decides u k).0 e ∙ sym ((bytes_decides t k).0 h)))
+
+others_set : {A X : Type 0} (t u : List ℕ) (es : List (Vec ℕ A × X)) (w : X) → u ≢ t → lookup (test u) (set_value (test t) es w) ≡ lookup (test u) es
+others_set t u [] w differ = refl
+others_set t u (e ∷ es) w differ = by (bytes_eq t e.0.items) refl (others_set t u es w differ)
+  where
+    here : bytes_eq t e.0.items ≡ true → cond (bytes_eq u e.0.items) (Some w) (lookup (test u) es) ≡ cond (bytes_eq u e.0.items) (Some e.1) (lookup (test u) es)
+    here h = rw (apart t u e.0.items differ h)
+
+    by : (b : Bool) → bytes_eq t e.0.items ≡ b → lookup (test u) (set_value (test t) es w) ≡ lookup (test u) es
+        → lookup (test u) (cond b ((e.0, w) ∷ es) (e ∷ set_value (test t) es w)) ≡ cond (bytes_eq u e.0.items) (Some e.1) (lookup (test u) es)
+    by true h rest = here h
+    by false h rest = ap (λ o. cond (bytes_eq u e.0.items) (Some e.1) o) rest
+
+own_set : {A X : Type 0} (t : List ℕ) (es : List (Vec ℕ A × X)) (v w : X) → lookup (test t) es ≡ Some v → lookup (test t) (set_value (test t) es w) ≡ Some w
+own_set t [] v w h = cc
+own_set t (e ∷ es) v w h = by (bytes_eq t e.0.items) refl h (own_set t es v w)
+  where
+    here : bytes_eq t e.0.items ≡ true → cond (bytes_eq t e.0.items) (Some w) (lookup (test t) es) ≡ Some w
+    here k = rw k
+
+    next : bytes_eq t e.0.items ≡ false → lookup (test t) (set_value (test t) es w) ≡ Some w → cond (bytes_eq t e.0.items) (Some e.1) (lookup (test t) (set_value (test t) es w)) ≡ Some w
+    next k r = rw k r
+
+    by : (b : Bool) → bytes_eq t e.0.items ≡ b → cond b (Some e.1) (lookup (test t) es) ≡ Some v → (lookup (test t) es ≡ Some v → lookup (test t) (set_value (test t) es w) ≡ Some w)
+        → lookup (test t) (cond b ((e.0, w) ∷ es) (e ∷ set_value (test t) es w)) ≡ Some w
+    by true k r rest = here k
+    by false k r rest = next k (rest r)
+
+-- a list that stays, and the others too
+pub all_keep : (t : List ℕ) (old new : SeatState) → calls_on t new ≡ calls_on t old → missed_on t new ≡ missed_on t old → KeepsOthers t old new → KeepsLists old new
+all_keep t old new calls missed others = record {
+  number = others.number;
+  calls = λ u. by_calls u (bytes_eq u t) refl;
+  missed = λ u. by_missed u (bytes_eq u t) refl;
+}
+  where
+    by_calls : (u : List ℕ) (b : Bool) → bytes_eq u t ≡ b → calls_on u new ≡ calls_on u old
+    by_calls u true e = subst (λ v. calls_on v new ≡ calls_on v old) (sym ((bytes_decides u t).0 e)) calls
+    by_calls u false e = others.calls u (λ same. true≢false (sym ((bytes_decides u t).1 same) ∙ e))
+
+    by_missed : (u : List ℕ) (b : Bool) → bytes_eq u t ≡ b → missed_on u new ≡ missed_on u old
+    by_missed u true e = subst (λ v. missed_on v new ≡ missed_on v old) (sym ((bytes_decides u t).0 e)) missed
+    by_missed u false e = others.missed u (λ same. true≢false (sym ((bytes_decides u t).1 same) ∙ e))
+
+-- a key that no test finds goes last
+pub insert_last : {A X : Type 0} (es : List (Vec ℕ A × X)) (k : Vec ℕ A) (v : X) (t : List ℕ) → k.items ≡ t → lookup (test t) es ≡ None → insert_entry (λ x y. bytes_eq x.items y.items) es k v ≡ es ++ (k, v) ∷ []
+insert_last {A = A} {X = X} es k v t key none = pushed es (subst (λ (u : List ℕ). lookup (test u) es ≡ None) (sym key) none)
+  where
+    pushed : (xs : List (Vec ℕ A × X)) → lookup (test k.items) xs ≡ None → insert_entry (λ x y. bytes_eq x.items y.items) xs k v ≡ xs ++ (k, v) ∷ []
+    pushed [] none = refl
+    pushed (e ∷ xs) none = by (bytes_eq k.items e.0.items) none (pushed xs)
+      where
+        by : (b : Bool) → cond b (Some e.1) (lookup (test k.items) xs) ≡ None → (lookup (test k.items) xs ≡ None → insert_entry (λ x y. bytes_eq x.items y.items) xs k v ≡ xs ++ (k, v) ∷ [])
+            → cond b ((e.0, v) ∷ xs) (e ∷ insert_entry (λ x y. bytes_eq x.items y.items) xs k v) ≡ e ∷ xs ++ (k, v) ∷ []
+        by true found rest = cc
+        by false none rest = ap (λ ys. e ∷ ys) (rest none)
+
+-- ---- one list is written
+
+module _ {A : Type 0} (number : ℕ) (t : List ℕ) (es : List (Vec ℕ A × TallyState)) where
+  -- what a look-up finds is what the seat shows
+  pub found : (s : SeatState) (o : Option TallyState) → seat_of number es ≡ s → o ≡ lookup (test t) es → tally_on t s ≡ o
+  found s o view at = sym (ap (tally_on t) view) ∙ shown t es ∙ sym at
+
+  pub own : (v w : TallyState) → lookup (test t) es ≡ Some v → tally_on t (seat_of number (set_value (test t) es w)) ≡ Some w
+  own v w at = shown t (set_value (test t) es w) ∙ own_set t es v w at
+
+  other : (u : List ℕ) (w : TallyState) → u ≢ t → tally_on u (seat_of number (set_value (test t) es w)) ≡ tally_on u (seat_of number es)
+  other u w differ = shown u (set_value (test t) es w) ∙ others_set t u es w differ ∙ sym (shown u es)
+
+  -- the others stay
+  pub others : (s n : SeatState) (w : TallyState) → seat_of number es ≡ s → seat_of number (set_value (test t) es w) ≡ n → KeepsOthers t s n
+  others s n w old new =
+      let same : (u : List ℕ) → u ≢ t → tally_on u n ≡ tally_on u s = λ u differ. sym (ap (tally_on u) new) ∙ other u w differ ∙ ap (tally_on u) old in
+      record {
+        number = sym (ap (λ (x : SeatState). x.number) new) ∙ ap (λ (x : SeatState). x.number) old;
+        calls = λ u differ. ap calls_in (same u differ);
+        missed = λ u differ. ap missed_in (same u differ);
+      }
+
+  -- what is written to the tally of the tenant
+  pub call_set : (s : SeatState) (fs : List (Vec ℕ A × TallyState)) (v w : TallyState) (c : Call) → seat_of number es ≡ s → Some v ≡ lookup (test t) es → fs ≡ set_value (test t) es w
+      → w.calls ≡ v.calls ++ c ∷ [] → w.missed ≡ v.missed → AddsCall t c s (seat_of number fs)
+  call_set s fs v w c view at set calls missed =
+      let now : tally_on t (seat_of number fs) ≡ Some w = ap (λ xs. tally_on t (seat_of number xs)) set ∙ own v w (sym at) in
+      let was : tally_on t s ≡ Some v = found s (Some v) view at in
+      record {
+        calls = ap calls_in now ∙ calls ∙ ap (λ cs. cs ++ c ∷ []) (sym (ap calls_in was));
+        missed = ap missed_in now ∙ missed ∙ sym (ap missed_in was);
+        others = others s (seat_of number fs) w view (sym (ap (seat_of number) set));
+      }
+
+  pub missed_set : (s : SeatState) (fs : List (Vec ℕ A × TallyState)) (v w : TallyState) → seat_of number es ≡ s → Some v ≡ lookup (test t) es → fs ≡ set_value (test t) es w
+      → w.calls ≡ v.calls → w.missed ≡ min (v.missed + 1) (2 ^ 32 - 1) → AddsMissed t s (seat_of number fs)
+  missed_set s fs v w view at set calls missed =
+      let now : tally_on t (seat_of number fs) ≡ Some w = ap (λ xs. tally_on t (seat_of number xs)) set ∙ own v w (sym at) in
+      let was : tally_on t s ≡ Some v = found s (Some v) view at in
+      record {
+        calls = ap calls_in now ∙ calls ∙ sym (ap calls_in was);
+        missed = ap missed_in now ∙ missed ∙ ap (λ n. min (n + 1) (2 ^ 32 - 1)) (sym (ap missed_in was));
+        others = others s (seat_of number fs) w view (sym (ap (seat_of number) set));
+      }
+
+  pub kept_set : (s : SeatState) (fs : List (Vec ℕ A × TallyState)) (v w : TallyState) → seat_of number es ≡ s → Some v ≡ lookup (test t) es → fs ≡ set_value (test t) es w
+      → w.calls ≡ v.calls → w.missed ≡ v.missed → KeepsLists s (seat_of number fs)
+  kept_set s fs v w view at set calls missed =
+      let now : tally_on t (seat_of number fs) ≡ Some w = ap (λ xs. tally_on t (seat_of number xs)) set ∙ own v w (sym at) in
+      let was : tally_on t s ≡ Some v = found s (Some v) view at in
+      all_keep t s (seat_of number fs) (ap calls_in now ∙ calls ∙ sym (ap calls_in was)) (ap missed_in now ∙ missed ∙ sym (ap missed_in was))
+      (others s (seat_of number fs) w view (sym (ap (seat_of number) set)))
+
+  pub room_set : (fs : List (Vec ℕ A × TallyState)) (v w : TallyState) → Some v ≡ lookup (test t) es → fs ≡ set_value (test t) es w → HasRoom w → HasRoomOn t (seat_of number fs)
+  room_set fs v w at set room =
+      record { tally = w; is = ap (λ xs. tally_on t (seat_of number xs)) set ∙ own v w (sym at); room = room }
+
+  -- a tally that holds no call is written after all others
+  pub kept_begun : (s : SeatState) (gs fs : List (Vec ℕ A × TallyState)) (k : Vec ℕ A) (v : TallyState) → seat_of number es ≡ s → None ≡ lookup (test t) es → k.items ≡ t
+      → gs ≡ es ++ (k, v) ∷ [] → fs ≡ gs → v.calls ≡ [] → v.missed ≡ 0 → KeepsLists s (seat_of number fs) × (has_tally t (seat_of number fs) ≡ true)
+  kept_begun s gs fs k v view none key entries same calls missed =
+      let shows : (seat_of number fs).tallies ≡ (seat_of number es).tallies ++ (t, v) ∷ [] =
+      ap (map (λ e. (e.0.items, e.1))) (same ∙ entries) ∙ map-append (λ e. (e.0.items, e.1)) es ((k, v) ∷ []) ∙ ap (λ n. (seat_of number es).tallies ++ (n, v) ∷ []) key in
+      let absent : lookup (bytes_eq t) (seat_of number es).tallies ≡ None = shown t es ∙ sym none in
+      let was : tally_on t s ≡ None = found s None view none in
+      let now : tally_on t (seat_of number fs) ≡ Some v = ap (lookup (bytes_eq t)) shows ∙ lookup_last t (seat_of number es).tallies v absent in
+      let rest : (u : List ℕ) → u ≢ t → tally_on u (seat_of number fs) ≡ tally_on u s = λ u differ.
+      ap (lookup (bytes_eq u)) shows ∙ lookup_others t u (seat_of number es).tallies v differ ∙ ap (tally_on u) view in (
+        all_keep t s (seat_of number fs) (ap calls_in now ∙ calls ∙ sym (ap calls_in was)) (ap missed_in now ∙ missed ∙ sym (ap missed_in was))
+            (record { number = ap (λ (x : SeatState). x.number) view; calls = λ u differ. ap calls_in (rest u differ); missed = λ u differ. ap missed_in (rest u differ) }),
+        ap is_some now,
+      )
+
+pub on_ok : {B E P Q : Type 0} (r : Result B E) → (P → Q) → OnOk r P → OnOk r Q
+on_ok (Ok x) f h = f h
+on_ok (Err e) f h = h
+
+-- ---- a call, once its room is made
+
+pub keeps_twice : (old mid new : SeatState) → KeepsLists old mid → KeepsLists mid new → KeepsLists old new
+keeps_twice old mid new first second = record {
+  number = second.number ∙ first.number;
+  calls = λ t. second.calls t ∙ first.calls t;
+  missed = λ t. second.missed t ∙ first.missed t;
+}
+
+pub added_after : (t : List ℕ) (c : Call) (old mid new : SeatState) → KeepsLists old mid → AddsCall t c mid new → AddsCall t c old new
+added_after t c old mid new keeps adds = record {
+  calls = adds.calls ∙ ap (λ cs. cs ++ c ∷ []) (keeps.calls t);
+  missed = adds.missed ∙ keeps.missed t;
+  others = record {
+    number = adds.others.number ∙ keeps.number;
+    calls = λ u differ. adds.others.calls u differ ∙ keeps.calls u;
+    missed = λ u differ. adds.others.missed u differ ∙ keeps.missed u;
+  };
+}
+
+pub missed_after : (t : List ℕ) (old mid new : SeatState) → KeepsLists old mid → AddsMissed t mid new → AddsMissed t old new
+missed_after t old mid new keeps adds = record {
+  calls = adds.calls ∙ keeps.calls t;
+  missed = adds.missed ∙ ap (λ n. min (n + 1) (2 ^ 32 - 1)) (keeps.missed t);
+  others = record {
+    number = adds.others.number ∙ keeps.number;
+    calls = λ u differ. adds.others.calls u differ ∙ keeps.calls u;
+    missed = λ u differ. adds.others.missed u differ ∙ keeps.missed u;
+  };
+}
+
+-- ---- what is kept of a step that was served
+
+-- the turn of a receipt is the one at which the copy was made
+turn_of_served : (seat : ℕ) (step : Step) (served : Served) (h : IsServed seat step served) → served.receipt.turn ≡ h.turn
+turn_of_served seat step served h = ap (λ (r : Slip). r.turn) h.receipt
+
+pub keeps_call : (seat turn : ℕ) (step : Step) (served : Served) (e : Entry) (t : List ℕ) (old mid new : SeatState) → IsServed seat step served
+    → served.receipt.turn ≡ Some turn → served.mine ≡ Some e → KeepsLists old mid → AddsCall t (call turn e.step e.reply) mid new → Keeps served.receipt.turn t step served.receipt old new
+keeps_call seat turn step served e t old mid new h at mine keeps adds =
+    let turns : h.turn ≡ Some turn = sym (turn_of_served seat step served h) ∙ at in
+    let copied : served.mine ≡ Some (entry seat step h.reply) = h.mine ∙ ap (λ o. copy_at o (entry seat step h.reply)) turns in
+    let same : e ≡ entry seat step h.reply = cc (mine, copied) in
+    let made : AddsCall t (call turn step h.reply) mid new = subst (λ (x : Entry). AddsCall t (call turn x.step x.reply) mid new) same adds in
+    let told : served.receipt ≡ slip_of (Some turn) h.reply = h.receipt ∙ ap (λ o. slip_of o h.reply) turns in
+    subst (λ o. Keeps o t step served.receipt old new) (sym at) ((h.reply, told, added_after t (call turn step h.reply) old mid new keeps made))
+
+pub keeps_miss : (step : Step) (receipt : Slip) (t : List ℕ) (old mid new : SeatState) → receipt.turn ≡ None → KeepsLists old mid → AddsMissed t mid new → Keeps receipt.turn t step receipt old new
+keeps_miss step receipt t old mid new none keeps adds = subst (λ o. Keeps o t step receipt old new) (sym none) (missed_after t old mid new keeps adds)
+
+-- a receipt with a turn has a copy
+pub has_copy : (seat turn : ℕ) (step : Step) (served : Served) → IsServed seat step served → served.receipt.turn ≡ Some turn → served.mine ≡ None → ⊥
+has_copy seat turn step served h at none =
+    let turns : h.turn ≡ Some turn = sym (turn_of_served seat step served h) ∙ at in
+    let copied : served.mine ≡ Some (entry seat step h.reply) = h.mine ∙ ap (λ o. copy_at o (entry seat step h.reply)) turns in
+    cc (none, copied)

@@ -1,0 +1,8 @@
+use Rattle.std.proofs.Common.{◌≡◌, ◌++◌}
+use Rattle.tenant_registry.specs.Closed.{AreLawful, given_of}
+use Rattle.tenant_registry.specs.Registries.{tenants_of}
+use Rattle.tenant_registry.proofs.closed.sheets_of.Given as goal
+
+-- the tenants so far are sheets, and the others are left
+abbrev pub invariant-loop-name : goal.invariant-loop-name
+invariant-loop-name l = record { given : given_of l.sheets.items ++ tenants_of l.name-iterator ≡ tenants_of l.fn.tenants.entries; lawful : AreLawful l.sheets.items }

@@ -1,0 +1,16 @@
+use Rattle.std.proofs.Common.{◌≡◌, ◌∙◌, sym, ap, arith, rules, FitsSigned, to_z-of_z}
+use Rattle.std.specs.Int.{w64}
+use Rattle.cell_arena.specs.Loan.{undrawn}
+use Rattle.etcd_model.specs.Pool.{StockState}
+use Rattle.tenant_registry.specs.Audits.{first_of}
+use Rattle.tenant_registry.proofs.KeptLemmas.{first_is, opened_kept}
+use Rattle.tenant_registry.proofs.kept.Kept.open.Goals as goal
+
+pub invariant_of-result : goal.invariant_of-result
+invariant_of-result c =
+    let o = c.args.opening in
+    let fits : FitsSigned w64 o.first = search rules in
+    let held : c.move_to.new.to.held ≡ c.segments_for-segments.result =
+    omega (arith, c.move_to.ensures.to_held, ap (λ (s : StockState). s.held) c.in_ok-make_room.ensures.ok, ap (λ (s : StockState). s.held) c.in_ok-left.ensures) in
+    opened_kept c.in_ok-machine.machine c.in_ok-audit.audit c.move_to.new.to o c.segments_for-segments.result c.in_ok-audit.ensures
+    (c.in_ok-machine.ensures.holds (first_of o.first) (to_z-of_z fits ∙ first_is o.first c.requires.allowed.positive)) (c.in_ok-machine.ensures.share ∙ ap undrawn (sym c.segments_for-segments.ensures)) held

@@ -1,0 +1,16 @@
+-- What a contract sees of an audit.
+use Rattle.std.specs.Prelude.{◌≤◌, length}
+use Rattle.std.specs.Vec.{vec_capacity}
+use Rattle.tenant_registry.specs.Audits.{Log}
+use Rattle.tenant_registry.specs.declared.audit.Audit.TheInside.{Inside}
+
+abbrev pub log_of : Inside → Log
+log_of a = record {
+  opening = record { cluster = a.cluster; quota = a.quota; first = a.first; cap = a.cap };
+  entries = a.entries.items;
+}
+
+-- it has no more entries than it takes, for which there is room
+pub record IsWithin (a : Inside) : Type 0 where
+  pub count : length a.entries.items ≤ a.cap
+  pub room : a.cap ≤ vec_capacity a.entries

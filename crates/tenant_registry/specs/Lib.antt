@@ -1,0 +1,10 @@
+pub mod Audits
+pub mod AuditInside
+pub mod Receipts
+pub mod Keeping
+pub mod Serving
+pub mod KeptInside
+pub mod Seats
+pub mod Registries
+pub mod Closing
+pub mod Closed

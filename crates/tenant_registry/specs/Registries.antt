@@ -1,0 +1,24 @@
+-- What a contract sees of a registry.
+use Rattle.std.specs.Prelude.{ℕ, Bool, List, Vec, map, is_some}
+use Rattle.std.specs.Str.{bytes_eq}
+use Rattle.std.specs.Map.{lookup}
+use Rattle.tenant_registry.specs.declared.audit.Opening.{Opening}
+use Rattle.tenant_registry.specs.declared.tenant.Tenant.{Tenant}
+
+-- the tenants' names, in the order in which they were added, with what each was opened with; and how many
+-- seats were given
+pub record RegistryState : Type 0 where
+  pub tenants : List (List ℕ × Opening)
+  pub given : ℕ
+
+-- the names and openings of the entries of a map of tenants
+abbrev pub tenants_of : {A : Type 0} → List (Vec ℕ A × Tenant) → List (List ℕ × Opening)
+tenants_of es = map (λ e. (e.0.items, e.1.opening)) es
+
+-- one of these tenants has the name
+abbrev pub is_among : List (List ℕ × Opening) → List ℕ → Bool
+is_among ts name = is_some (lookup (bytes_eq name) ts)
+
+-- a tenant of that name is there
+abbrev pub has_tenant : RegistryState → List ℕ → Bool
+has_tenant r name = is_among r.tenants name

@@ -1,0 +1,135 @@
+//! What was served on a tenant, in order, from its opening on.
+ghost use Rattle.std.specs.Prelude.{◌≡◌, [], length, IfOk};
+ghost use Rattle.tenant_registry.specs.Audits.{copy_at, entry, turn_of, with_entry_at};
+
+use etcd_types::{CopyOf, Mem, Reply, Step};
+use std::alloc::Global;
+use std::marker::Model;
+
+/// What a tenant is opened with.
+#[derive(Clone, Copy, Debug, PartialEq, Eq)]
+pub struct Opening {
+    /// The cluster's ID.
+    pub cluster: u64,
+    /// The cells that the tenant may use.
+    pub quota: u32,
+    /// The revision of the empty store.
+    pub first: i64,
+    /// How many entries the audit takes.
+    pub cap: u32,
+}
+
+/// One step that was served: who asked it, what was asked, and what was answered.
+#[derive(Debug, Drop)]
+pub struct Entry {
+    /// The number of the caller's seat.
+    pub seat: u8,
+    pub step: Step,
+    pub reply: Reply,
+}
+
+impl Entry {
+    /// A copy of the entry that a step has at its turn, if it has one.
+    pub(crate) fn copy_at(
+        alloc: Global,
+        turn: Option<u32>,
+        seat: u8,
+        step: &Step,
+        reply: &Reply,
+    ) -> Mem<Option<Entry>>
+        ensures { IfOk result (λ mine. mine ≡ copy_at turn (entry seat step.now reply.now)) }
+    {
+        match turn {
+            None => Ok(None),
+            Some(_) => Ok(Some(Entry {
+                seat,
+                step: step.copy_of(alloc)?,
+                reply: reply.copy_of(alloc)?,
+            })),
+        }
+    }
+}
+
+/// The steps that were served on a tenant, in order, up to a number of them. Later ones are not kept.
+#[derive(Drop)]
+pub struct Audit {
+    /// How many entries it takes. Their room is there.
+    pub cap: u32,
+    pub cluster: u64,
+    /// The quota that the tenant was opened with.
+    pub quota: u32,
+    pub first: i64,
+    pub entries: Vec<Entry>,
+}
+
+impl Model for Audit {
+    ghost use Rattle.tenant_registry.specs.Audits.{Log};
+
+    ghost Value = { Log };
+
+    ghost use Rattle.tenant_registry.specs.AuditInside.{IsWithin, log_of};
+
+    ghost view = { log_of };
+
+    ghost invariant = { IsWithin };
+}
+
+impl Audit {
+    /// An audit with no entries, and with room for all that it takes.
+    pub(crate) fn new(alloc: Global, opening: Opening) -> Mem<Audit>
+        ensures { IfOk result (λ audit. audit ≡ record { opening = opening; entries = [] }) }
+    {
+        let Opening {
+            cluster,
+            quota,
+            first,
+            cap,
+        } = opening;
+        let entries = Vec::with_capacity(alloc, cap as usize)?;
+        Ok(Audit {
+            cap,
+            cluster,
+            quota,
+            first,
+            entries,
+        })
+    }
+
+    /// What its tenant was opened with.
+    pub(crate) fn opening(&self) -> Opening
+        ensures { result ≡ self.now.opening }
+    {
+        Opening {
+            cluster: self.cluster,
+            quota: self.quota,
+            first: self.first,
+            cap: self.cap,
+        }
+    }
+
+    /// How many entries it has.
+    pub(crate) fn len(&self) -> u32
+        ensures { result ≡ length self.now.entries }
+    {
+        let _cap = self.cap;
+        self.entries.len() as u32
+    }
+
+    /// The place of the next entry, counted from 0, unless the audit is full.
+    pub(crate) fn next_turn(&self) -> Option<u32>
+        ensures { result ≡ turn_of self.now }
+    {
+        let turn = self.len();
+        if turn < self.cap { Some(turn) } else { None }
+    }
+
+    /// Appends an entry, unless the audit is full.
+    pub(crate) fn keep(&mut self, entry: Entry)
+        ensures { self.new ≡ with_entry_at (turn_of self.old) self.old entry }
+    {
+        match self.next_turn() {
+            Some(_) => self.entries.push_reserved(entry),
+            None => drop(entry),
+        }
+    }
+}

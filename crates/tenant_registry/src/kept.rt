@@ -1,0 +1,197 @@
+//! What lies under a tenant's lock, and how a step is served there.
+ghost use Rattle.std.specs.Prelude.{◌≡◌, ◌+◌, ◌≤◌, [], IfOk, OnOk, OnErr};
+ghost use Rattle.cell_arena.specs.Loan.{segments_for};
+ghost use Rattle.etcd_model.specs.Held.{Holds};
+ghost use Rattle.tenant_machine.specs.Tenants.{tenant};
+ghost use Rattle.tenant_registry.specs.Audits.{IsAllowed, IsLawful, opening_of};
+ghost use Rattle.tenant_registry.specs.Receipts.{is_cancel, slip_of, slot_of};
+ghost use Rattle.tenant_registry.specs.Serving.{Serves};
+
+use crate::audit::{Audit, Entry, Opening};
+use etcd_types::{Mem, Reply, Step};
+use gateway_text::write_reply;
+use segment_pool::Stock;
+use std::alloc::Global;
+use std::marker::Model;
+use tenant_machine::{Machine, segments_for};
+
+/// What a call was answered. Only `Kept::serve` makes one.
+#[derive(Debug, Drop)]
+pub struct Receipt {
+    turn: Option<u32>,
+    status: u16,
+    body: Vec<u8>,
+    slot: Option<u8>,
+    canceled: bool,
+}
+
+impl Model for Receipt {
+    ghost use Rattle.tenant_registry.specs.Receipts.{Slip};
+
+    ghost Value = { Slip };
+
+    ghost view = { λ r. record {
+      turn = r.turn;
+      status = r.status;
+      body = r.body.items;
+      slot = r.slot;
+      canceled = r.canceled;
+    } };
+}
+
+impl Receipt {
+    /// The call's place in the audit, counted from 0, unless the audit was full.
+    pub fn turn(&self) -> Option<u32>
+        ensures { result ≡ self.now.turn }
+    {
+        self.turn
+    }
+
+    /// The status of HTTP.
+    pub fn status(&self) -> u16
+        ensures { result ≡ self.now.status }
+    {
+        self.status
+    }
+
+    /// The answer's text.
+    pub fn body(&self) -> &[u8]
+        ensures { result.now ≡ self.now.body }
+    {
+        self.body.as_slice()
+    }
+
+    /// The slot of the watch that the call created.
+    pub fn slot(&self) -> Option<u8>
+        ensures { result ≡ self.now.slot }
+    {
+        self.slot
+    }
+
+    /// The call was a take of a watch, which it found canceled.
+    pub fn canceled(&self) -> bool
+        ensures { result ≡ self.now.canceled }
+    {
+        self.canceled
+    }
+
+    /// The receipt of a reply, with its text.
+    fn of(alloc: Global, turn: Option<u32>, reply: &Reply) -> Mem<Receipt>
+        ensures { IfOk result (λ receipt. receipt ≡ slip_of turn reply.now) }
+    {
+        let (status, body) = write_reply(alloc, reply)?;
+        Ok(Receipt {
+            turn,
+            status,
+            body,
+            slot: slot_of(reply),
+            canceled: is_cancel(reply),
+        })
+    }
+}
+
+/// The slot of the watch that was created.
+fn slot_of(reply: &Reply) -> Option<u8>
+    ensures { result ≡ slot_of reply.now }
+{
+    match reply {
+        Reply::Created { slot, .. } => Some(*slot),
+        _ => None,
+    }
+}
+
+/// The reply ends a watch.
+fn is_cancel(reply: &Reply) -> bool
+    ensures { result ≡ is_cancel reply.now }
+{
+    matches!(reply, Reply::Canceled { .. })
+}
+
+/// A step that was served.
+#[derive(Drop)]
+pub struct Served {
+    pub receipt: Receipt,
+    /// A copy of the audit's entry, for the caller, unless the audit was full.
+    pub mine: Option<Entry>,
+}
+
+/// One tenant, as its lock keeps it: its machine, its audit, and the segments that it may draw and has not.
+#[derive(Drop)]
+pub struct Kept {
+    machine: Machine,
+    audit: Audit,
+    left: Stock,
+    alloc: Global,
+}
+
+impl Model for Kept {
+    ghost use Rattle.std.specs.Coded.{codes};
+    ghost use Rattle.tenant_registry.specs.Keeping.{Content, content_code};
+
+    ghost Value = { Content };
+
+    ghost coded = { content_code (Prim.hlevel codes) };
+
+    ghost use Rattle.tenant_registry.specs.KeptInside.{IsKeptInside, content_of};
+
+    ghost view = { content_of };
+
+    ghost invariant = { IsKeptInside };
+}
+
+impl Kept {
+    /// A tenant at its opening, with the segments that its quota takes, which are moved from the free ones.
+    /// Where it finds no memory, none was moved.
+    pub(crate) fn open(alloc: Global, opening: Opening, free: &mut Stock) -> Mem<Kept>
+        requires allowed { IsAllowed opening }
+        requires enough { segments_for opening.quota ≤ free.old.held }
+        ensures holds { IfOk result (λ kept. Holds (opening_of opening) (tenant kept.machine)) }
+        ensures audit { IfOk result (λ kept. kept.audit ≡ record { opening = opening; entries = [] }) }
+        ensures moved { OnOk result (free.new.held + segments_for opening.quota ≡ free.old.held) }
+        ensures err { OnErr result (free.new ≡ free.old) }
+    {
+        let segments = segments_for(opening.quota);
+        let machine = Machine::new(alloc, opening.cluster, opening.quota, opening.first)?;
+        let audit = Audit::new(alloc, opening)?;
+        let mut left = Stock::new(alloc, 0)?;
+        left.make_room(segments)?;
+        // From here on no memory is taken, so no segment is lost.
+        free.move_to(&mut left, segments);
+        Ok(Kept {
+            machine,
+            audit,
+            left,
+            alloc,
+        })
+    }
+
+    /// Serves one step of the machine. Unless the audit is full, it keeps the step with its reply. All memory
+    /// is taken before the commit, and where there is none, nothing changes.
+    pub fn serve(&mut self, seat: u8, step: Step) -> Mem<Served>
+        ensures ok { IfOk result (λ served. Serves self.old seat step served self.new) }
+        ensures err { OnErr result (self.new ≡ self.old) }
+    {
+        let turn = self.audit.next_turn();
+        let planned = self.machine.plan(self.alloc, &step)?;
+        let told = planned.reply();
+        let receipt = Receipt::of(self.alloc, turn, told)?;
+        let mine = Entry::copy_at(self.alloc, turn, seat, &step, told)?;
+        let reply = self.machine.commit(&mut self.left, planned);
+        self.audit.keep(Entry { seat, step, reply });
+        Ok(Served { receipt, mine })
+    }
+
+    /// Its audit.
+    pub(crate) fn into_audit(self) -> Audit
+        ensures same { result ≡ self.audit }
+        ensures lawful { IsLawful result }
+    {
+        let Kept {
+            machine: _,
+            audit,
+            left: _,
+            alloc: _,
+        } = self;
+        audit
+    }
+}

@@ -1,0 +1,23 @@
+//! Tenants under locks, for running threads, with audits that close.
+//!
+//! Each tenant has a lock of its own, round its machine, its audit and the segments that it may draw. A call
+//! takes that lock and no other. A caller has a seat, which keeps lists of its calls; closing compares these
+//! lists with the audits.
+#![tactic(auto)]
+
+mod audit;
+mod close;
+mod closed;
+mod gate;
+mod kept;
+mod registry;
+mod seat;
+mod tally;
+mod tenant;
+
+pub use audit::{Audit, Entry, Opening};
+pub use closed::{CloseFault, Closed};
+pub use gate::{Gate, OpenGate};
+pub use kept::{Kept, Receipt, Served};
+pub use registry::{Registry, SeatFault};
+pub use seat::Seat;

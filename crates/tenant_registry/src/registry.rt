@@ -1,0 +1,168 @@
+//! All tenants, by name, each under a lock of its own.
+ghost use Rattle.std.specs.Prelude.{◌≡◌, ◌≢◌, ◌+◌, [], true, false, map, None, Some, Err, IfErr, IfOk};
+ghost use Rattle.std.specs.Prelude.{OnErr, OnOk};
+ghost use Rattle.etcd_types.specs.declared.refusal.Refusal.TheVariants as refusal;
+ghost use Rattle.tenant_registry.specs.Closed.{AreClosed, TellsFault, audits_of};
+ghost use Rattle.tenant_registry.specs.Registries.{has_tenant};
+ghost use Rattle.tenant_registry.specs.Seats.{Keeps, KeepsLists};
+ghost use Rattle.tenant_registry.specs.Serving.{IsServed};
+
+use crate::closed::{CloseFault, Closed, close};
+use crate::gate::{Gate, pass};
+use crate::kept::{Kept, Receipt, Served};
+use crate::seat::Seat;
+use crate::tally::Call;
+use crate::tenant::Tenant;
+use etcd_types::limits::MAX_SEATS;
+use etcd_types::{Mem, Refusal, Step};
+use indexmap::IndexMap;
+use segment_pool::Stock;
+use std::alloc::Global;
+use std::marker::Model;
+use std::rt::Clock;
+use std::sync::{Mutex, Wait};
+
+/// Why no seat is given.
+#[derive(Clone, Copy, Debug, PartialEq, Eq)]
+pub enum SeatFault {
+    /// 64 were given.
+    Full,
+    /// A growth was refused.
+    Memory,
+}
+
+/// Many tenants, each under a lock of its own.
+#[derive(Drop)]
+pub struct Registry {
+    tenants: IndexMap<Vec<u8>, Tenant>,
+    /// How many seats were given.
+    given: u8,
+    /// The segments that no tenant reserved.
+    free: Mutex<Stock>,
+    alloc: Global,
+}
+
+impl Model for Registry {
+    ghost use Rattle.std.specs.Prelude.{◌≤◌};
+    ghost use Rattle.tenant_registry.specs.Registries.{RegistryState, tenants_of};
+
+    ghost Value = { RegistryState };
+
+    ghost view = { λ r. record { tenants = tenants_of r.tenants.entries; given = r.given } };
+
+    ghost invariant = { λ r. r.given ≤ 64 };
+}
+
+impl Registry {
+    /// A tenant of this name is there.
+    pub fn has(&self, tenant: &[u8]) -> bool
+        ensures { result ≡ has_tenant self.now tenant.now }
+    {
+        self.tenants.contains_key(tenant)
+    }
+
+    /// A seat with no calls, under a number that no other of this registry has.
+    pub fn seat(&mut self) -> Result<Seat, SeatFault>
+        ensures seat { IfOk result (λ seat. seat ≡ record { number = self.old.given; tallies = [] }) }
+        ensures ok { OnOk result (self.new ≡ record self.old { given = self.old.given + 1 }) }
+        ensures full { result ≡ Err SeatFault.Full → self.old.given ≡ 64 }
+        ensures err { OnErr result (self.new ≡ self.old) }
+    {
+        if usize::from(self.given) >= MAX_SEATS {
+            return Err(SeatFault::Full);
+        }
+        let Ok(seat) = Seat::new(self.alloc, self.given, self.tenants.len()) else {
+            return Err(SeatFault::Memory);
+        };
+        self.given += 1;
+        Ok(seat)
+    }
+
+    /// One step of a tenant under its lock, once the gate lets it pass. No other lock is taken. It is refused
+    /// where no such tenant is there, or for want of memory; every other refusal has a receipt.
+    pub fn call<R: Wait + Clock, G: Gate>(
+        &self,
+        rt: &R,
+        seat: &mut Seat,
+        gate: &G,
+        tenant: &[u8],
+        step: Step,
+    ) -> Result<Receipt, Refusal>
+        ensures keeps { IfOk result
+            (λ receipt. Keeps receipt.turn tenant.now step receipt seat.old seat.new) }
+        ensures there { OnOk result (has_tenant self.now tenant.now ≡ true) }
+        ensures refused { IfErr result (λ r. r ≢ refusal.Memory
+            → (r ≡ refusal.NoTenant) × (has_tenant self.now tenant.now ≡ false)) }
+        ensures err { OnErr result (KeepsLists seat.old seat.new) }
+    {
+        match self.tenants.get(tenant) {
+            Some(held) => match serve(rt, seat, gate, &held.kept, tenant, step) {
+                Ok(receipt) => Ok(receipt),
+                Err(_) => Err(Refusal::Memory),
+            },
+            None => Err(Refusal::NoTenant),
+        }
+    }
+
+    /// Ends the registry. It hands out the audits where they are the seats' lists and nothing else.
+    pub fn close(self, seats: Vec<Seat>) -> Result<Closed, CloseFault>
+        ensures ok { IfOk result
+            (λ closed. AreClosed self.tenants seats.items (audits_of closed.audits.items)) }
+        ensures fault { IfErr result (λ f. TellsFault self.tenants seats.items f) }
+    {
+        let Registry {
+            tenants,
+            given: _,
+            free: _,
+            alloc,
+        } = self;
+        close(alloc, tenants, seats)
+    }
+}
+
+/// One step of a tenant, which the seat keeps. The seat's memory is taken before the lock.
+#[tactic(auto, using(crate::proofs::SeatLemmas::keeps_call, crate::proofs::SeatLemmas::keeps_miss))]
+fn serve<R: Wait + Clock, G: Gate>(
+    rt: &R,
+    seat: &mut Seat,
+    gate: &G,
+    kept: &Mutex<Kept>,
+    tenant: &[u8],
+    step: Step,
+) -> Mem<Receipt>
+    ensures keeps { IfOk result (λ receipt. Keeps receipt.turn tenant.now step receipt seat.old seat.new) }
+    ensures err { OnErr result (KeepsLists seat.old seat.new) }
+{
+    seat.prepare(tenant)?;
+    let Served { receipt, mine } = serve_locked(rt, gate, kept, tenant, seat.number(), step)?;
+    let Some(turn) = receipt.turn() else {
+        seat.miss(tenant);
+        return Ok(receipt);
+    };
+    let Some(entry) = mine else { unreachable!() };
+    seat.record(
+        tenant,
+        Call {
+            turn,
+            step: entry.step,
+            reply: entry.reply,
+        },
+    );
+    Ok(receipt)
+}
+
+/// Serves a step under the lock, once the gate lets it pass.
+fn serve_locked<R: Wait + Clock, G: Gate>(
+    rt: &R,
+    gate: &G,
+    kept: &Mutex<Kept>,
+    tenant: &[u8],
+    seat: u8,
+    step: Step,
+) -> Mem<Served>
+    ensures { IfOk result (λ served. IsServed seat step served) }
+{
+    let mut kept = kept.lock(rt);
+    pass(rt, gate, tenant);
+    kept.serve(seat, step)
+}
