@@ -1,5 +1,6 @@
 -- Laws: the ID that is chosen for a lease, and the order in which leases end.
-use Rattle.std.specs.Prelude.{◌≡◌, ◌⊎◌, nat_le, nat_lt, ℕ, ◌+◌, ◌<◌, ◌≤◌, pos, ℤ, true, false, not, List, [], ◌∷◌}
+use Rattle.std.specs.Prelude.{◌≡◌, ◌⊎◌, nat_le, nat_lt, ℕ, ◌+◌, ◌<◌, ◌≤◌, pos, ℤ, true, false, not, List, []}
+use Rattle.std.specs.Prelude.{◌∷◌}
 use Rattle.std.specs.Prelude.{length, filter, fold, max, min}
 use Rattle.std.specs.List.Sorted.{IsStrictlySortedBy}
 use Rattle.std.specs.Ordering.{int_eq}

@@ -1,7 +1,8 @@
 -- What is planned for a step, and what its commit makes of a machine.
 use Rattle.std.specs.Prelude.{◌≡◌, ◌≢◌, ℕ, ◌+◌, ◌*◌, ◌<◌, ◌≤◌, Bool, true, false, ℤ, List}
 use Rattle.etcd_types.specs.declared.step.Step.{Step}
-use Rattle.etcd_types.specs.declared.step.Step.TheVariants.{Compact, DropWatch, Grant, Revoke, KeepAlive, Alarm}
+use Rattle.etcd_types.specs.declared.step.Step.TheVariants.{Compact, DropWatch, Grant, Revoke, KeepAlive}
+use Rattle.etcd_types.specs.declared.step.Step.TheVariants.{Alarm}
 use Rattle.etcd_types.specs.declared.step.Step.TheVariants.{Status, Defragment, Tick, CatchUp}
 use Rattle.etcd_types.specs.declared.refusal.Refusal.TheVariants.{Memory}
 use Rattle.etcd_types.specs.declared.reply.Reply.{Reply}

@@ -1,5 +1,6 @@
 -- What one response tells of: the changes of the first revisions that have any.
-use Rattle.std.specs.Prelude.{ℕ, ◌+◌, Bool, true, false, ◌&&◌, List, [], ◌∷◌, ◌++◌, fold, map, max, filter, take}
+use Rattle.std.specs.Prelude.{ℕ, ◌+◌, Bool, true, false, ◌&&◌, List, [], ◌∷◌, ◌++◌, fold, map, max, filter}
+use Rattle.std.specs.Prelude.{take}
 use Rattle.std.specs.Prelude.{nat_eq, nat_le, nat_lt, if◌then◌else◌}
 use Rattle.std.specs.List.{list_any}
 use Rattle.etcd_types.specs.Limits.{response_revisions}

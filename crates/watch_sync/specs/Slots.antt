@@ -1,5 +1,6 @@
 -- The watches of a tenant in their slots, and what is planned for one of them.
-use Rattle.std.specs.Prelude.{◌≡◌, ℕ, ◌≤◌, List, map, Option, Some, None, option_and_then, option_map, slice_get, slice_set, IfSome}
+use Rattle.std.specs.Prelude.{◌≡◌, ℕ, ◌≤◌, List, map, Option, Some, None, option_and_then, option_map}
+use Rattle.std.specs.Prelude.{slice_get, slice_set, IfSome}
 use Rattle.std.specs.List.{All}
 use Rattle.etcd_types.specs.declared.reply.Header.{Header}
 use Rattle.etcd_model.specs.declared.state.Watch.{Watch}
@@ -70,7 +71,9 @@ abbrev pub take_of : State Store → ℕ → Outcome Store
 take_of t slot = model.taken kept_store t slot (slice_get t.slots slot)
 
 -- what is planned is the take of each such tenant
-pub record PlansTake (slots : List (Option WatchState)) (store : StoreState) (h : Header) (slot : ℕ) (p : PlannedTake) : Type 0 where
+pub record PlansTake
+    (slots : List (Option WatchState)) (store : StoreState) (h : Header) (slot : ℕ) (p : PlannedTake)
+    : Type 0 where
   pub fits : FitsTake slots store p.taken
   pub reply : (t : State Store) → IsTenant t store slots h → p.reply ≡ (take_of t slot).reply
   pub state : (t : State Store) → IsTenant t store slots h

@@ -100,7 +100,8 @@ pub(crate) fn events_of(
     notes: &[Noted],
 ) -> Mem<List<Event>>
     requires { AllByRecursion (λ n. IsKept store.now n.cell) notes.now }
-    ensures { IfOk result (λ events. events ≡ events_at (cells store.now) store.now.kept watch.now notes.now) }
+    ensures { IfOk result
+        (λ events. events ≡ events_at (cells store.now) store.now.kept watch.now notes.now) }
 {
     let mut events = Vec::with_capacity(alloc, notes.len())?;
     for note in notes {

@@ -1,5 +1,6 @@
 //! An open watch, and its ring.
-ghost use Rattle.std.specs.Prelude.{◌≡◌, ◌<◌, ◌++◌, ◌∷◌, [], IsFalse, IsTrue, Some, drop, length, slice_get, take};
+ghost use Rattle.std.specs.Prelude.{◌≡◌, ◌<◌, ◌++◌, ◌∷◌, [], IsFalse, IsTrue, Some, drop, length, slice_get};
+ghost use Rattle.std.specs.Prelude.{take};
 ghost use Rattle.watch_sync.specs.Agreeing.{from_next, moved_to, with_ring};
 
 use crate::noted::Noted;

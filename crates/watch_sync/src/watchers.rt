@@ -1,5 +1,6 @@
 //! The watches of one tenant.
-ghost use Rattle.std.specs.Prelude.{◌≡◌, ℕ, List, None, Some, IfOk, IsOk, MatchResult, is_none, position, replicate, slice_set};
+ghost use Rattle.std.specs.Prelude.{◌≡◌, ℕ, List, None, Some, IfOk, IsOk, MatchResult, is_none, position};
+ghost use Rattle.std.specs.Prelude.{replicate, slice_set};
 ghost use Rattle.etcd_types.specs.Limits.{watch_slots};
 ghost use Rattle.etcd_types.specs.declared.refusal.Refusal.TheVariants.{TooManyWatches};
 ghost use Rattle.etcd_model.specs.Watches.{watch_of};
