@@ -50,11 +50,11 @@ all_still rs free now (e ∷ es) none agree held =
     (held_still rs e.1.ticket.number free e.1.ticket.reserved now held.0 (held_apart rs e.1.ticket.number free e.1.ticket.reserved held.0 agree.0.some none), all_still rs free now es none agree.1 held.1)
 
 -- a key that no test finds goes last
-pub last : {A : Type 0} (es gs : List (Vec ℕ A × Tenant)) (k : Vec ℕ A) (v : Tenant) (name : List ℕ) → gs ≡ es → k.items ≡ name → lookup (test name) es ≡ None → insert_entry (λ x y. bytes_eq x.items y.items) gs k v ≡ es ++ (k, v) ∷ []
-last {A = A} es gs k v name same key none =
+pub last : {A X : Type 0} (es gs : List (Vec ℕ A × X)) (k : Vec ℕ A) (v : X) (name : List ℕ) → gs ≡ es → k.items ≡ name → lookup (test name) es ≡ None → insert_entry (λ x y. bytes_eq x.items y.items) gs k v ≡ es ++ (k, v) ∷ []
+last {A = A} {X = X} es gs k v name same key none =
     ap (λ xs. insert_entry (λ x y. bytes_eq x.items y.items) xs k v) same ∙ pushed es (subst (λ (t : List ℕ). lookup (test t) es ≡ None) (sym key) none)
   where
-    pushed : (xs : List (Vec ℕ A × Tenant)) → lookup (test k.items) xs ≡ None → insert_entry (λ x y. bytes_eq x.items y.items) xs k v ≡ xs ++ (k, v) ∷ []
+    pushed : (xs : List (Vec ℕ A × X)) → lookup (test k.items) xs ≡ None → insert_entry (λ x y. bytes_eq x.items y.items) xs k v ≡ xs ++ (k, v) ∷ []
     pushed [] none = refl
     pushed (e ∷ xs) none = by (bytes_eq k.items e.0.items) none (pushed xs)
       where

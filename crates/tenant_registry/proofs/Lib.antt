@@ -1,4 +1,5 @@
 -- Proofs of this crate.
+pub mod AddingLemmas
 pub mod ClosedLemmas
 pub mod ClosingLemmas
 pub mod KeptLemmas

@@ -6,5 +6,6 @@ pub mod Serving
 pub mod KeptInside
 pub mod Seats
 pub mod Registries
+pub mod Adding
 pub mod Closing
 pub mod Closed

@@ -5,6 +5,7 @@
 //! lists with the audits.
 #![tactic(auto)]
 
+mod adding;
 mod audit;
 mod close;
 mod closed;
@@ -14,7 +15,10 @@ mod registry;
 mod seat;
 mod tally;
 mod tenant;
+#[cfg(test)]
+mod tests;
 
+pub use adding::TenantConfig;
 pub use audit::{Audit, Entry, Opening};
 pub use closed::{CloseFault, Closed};
 pub use gate::{Gate, OpenGate};

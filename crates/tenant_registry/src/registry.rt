@@ -2,18 +2,21 @@
 ghost use Rattle.std.specs.Prelude.{◌≡◌, ◌≢◌, ◌+◌, [], true, false, map, None, Some, Err, IfErr, IfOk};
 ghost use Rattle.std.specs.Prelude.{OnErr, OnOk};
 ghost use Rattle.etcd_types.specs.declared.refusal.Refusal.TheVariants as refusal;
+ghost use Rattle.steps_core.specs.declared.adding.OperatorFault.TheVariants as operator;
+ghost use Rattle.tenant_registry.specs.Adding.{new_fault, opened};
 ghost use Rattle.tenant_registry.specs.Closed.{AreClosed, TellsFault, audits_of};
 ghost use Rattle.tenant_registry.specs.Registries.{has_tenant};
 ghost use Rattle.tenant_registry.specs.Seats.{Keeps, KeepsLists};
 ghost use Rattle.tenant_registry.specs.Serving.{IsServed};
 
+use crate::adding::{TenantConfig, add};
 use crate::closed::{CloseFault, Closed, close};
 use crate::gate::{Gate, pass};
 use crate::kept::{Kept, Receipt, Served};
 use crate::seat::Seat;
 use crate::tally::Call;
 use crate::tenant::Tenant;
-use etcd_types::limits::MAX_SEATS;
+use etcd_types::limits::{MAX_SEATS, MAX_SEGMENTS};
 use etcd_types::{Mem, Refusal, Step};
 use indexmap::IndexMap;
 use segment_pool::Stock;
@@ -21,6 +24,7 @@ use std::alloc::Global;
 use std::marker::Model;
 use std::rt::Clock;
 use std::sync::{Mutex, Wait};
+use steps_core::OperatorFault;
 
 /// Why no seat is given.
 #[derive(Clone, Copy, Debug, PartialEq, Eq)]
@@ -54,6 +58,36 @@ impl Model for Registry {
 }
 
 impl Registry {
+    /// A registry of so many segments and of these tenants, each at its opening.
+    pub fn new(
+        alloc: Global,
+        configs: Vec<TenantConfig>,
+        segments: u32,
+    ) -> Result<Registry, OperatorFault>
+        ensures opens { IfOk result
+            (λ registry. registry ≡ record { tenants = map opened configs.items; given = 0 }) }
+        ensures none { OnOk result (new_fault segments configs.items ≡ None) }
+        ensures fault { IfErr result
+            (λ f. f ≢ operator.Memory → new_fault segments configs.items ≡ Some f) }
+    {
+        if segments == 0 || segments > MAX_SEGMENTS {
+            return Err(OperatorFault::Limits);
+        }
+        let Ok(mut free) = Stock::new(alloc, segments) else {
+            return Err(OperatorFault::Memory);
+        };
+        let mut tenants = IndexMap::new(alloc);
+        for config in &configs {
+            add(alloc, &mut tenants, &mut free, config)?;
+        }
+        Ok(Registry {
+            tenants,
+            given: 0,
+            free: Mutex::new(free),
+            alloc,
+        })
+    }
+
     /// A tenant of this name is there.
     pub fn has(&self, tenant: &[u8]) -> bool
         ensures { result ≡ has_tenant self.now tenant.now }
