@@ -121,8 +121,11 @@ step_unplanned h t step r a err sure refuses = record {
   own = λ u S mine answered held.
       let found = ap (machine_at h) (sym (same_name u t mine)) ∙ held.is in
       absurd (refused_answered r a answered (refuses.told answered) (err ∙ unplanned_by h t found));
-  none = λ apart. (refl, λ answered. refuses.told answered ∙ ap (λ (q : Refusal). text (Refused q))
-      (err ∙ ap (λ (b : Bool). if b then Memory else NoTenant) apart));
+  none = λ apart. (
+    refl,
+    λ answered. refuses.told answered ∙ ap (λ (q : Refusal). text (Refused q))
+        (err ∙ ap (λ (b : Bool). if b then Memory else NoTenant) apart),
+  );
   memory = λ unanswered. (refl, refuses.memory unanswered);
   sure = λ u S mine takes held.
       let found = ap (machine_at h) (sym (same_name u t mine)) ∙ held.is in

@@ -40,7 +40,7 @@ abbrev pub book_code : Coded Book
 book_code =
     code_by ((List Lease × List ℕ) × ((ℕ × ℕ) × List Attachment))
     (coded× (coded× (coded_list lease_code) (coded_list coded_ℕ))
-        (coded× (coded× coded_ℕ coded_ℕ) (coded_list attachment_code)))
+    (coded× (coded× coded_ℕ coded_ℕ) (coded_list attachment_code)))
     (λ b. ((b.leases, b.cells), ((b.counter, b.room), b.attachments)))
     (λ p. record {
       leases = p.0.0;

@@ -45,7 +45,7 @@ impl OpenWatch {
         requires { AllByRecursion (λ c. IsSome (cells store.now c)) changes.now }
         ensures all { IsTrue result
             → self.new ≡ with_ring self.old
-                (self.old.ring ++ notes_at (cells store.now) self.old.watch changes.now) }
+            (self.old.ring ++ notes_at (cells store.now) self.old.watch changes.now) }
         ensures none { IsFalse result → self.new ≡ self.old }
     {
         let before = self.ring_len();
