@@ -1,5 +1,5 @@
 //! Items one after another.
-ghost use Rattle.std.specs.Prelude.{◌≡◌, take, drop};
+ghost use Rattle.std.specs.Prelude.{◌≡◌, length, nat_eq, take, drop};
 ghost use Rattle.chunk_list.specs.Chunked.{HasItems, position_of};
 
 use crate::list::ChunkList;
@@ -25,6 +25,22 @@ impl<T: Copy> ChunkList<T> {
             place: from,
             left: count,
         }
+    }
+}
+
+impl<'a, T> Walk<'a, T> {
+    /// How many items are left.
+    pub fn len(&self) -> usize
+        ensures { result ≡ length self.now }
+    {
+        self.left
+    }
+
+    /// Whether no item is left.
+    pub fn is_empty(&self) -> bool
+        ensures { result ≡ nat_eq (length self.now) 0 }
+    {
+        self.len() == 0
     }
 }
 

@@ -7,7 +7,6 @@ mod TransactionRuns
 mod LeaseRuns
 mod WatchRuns
 mod RangeRuns
-pub mod OfferedRuns
 pub mod OrderLaws
 pub mod RowLaws
 pub mod HistoryLaws
@@ -16,3 +15,4 @@ pub mod GrowthLaws
 pub mod OldRevisionLaws
 pub mod ReadLaws
 pub mod OnceLaws
+pub mod QuietSteps

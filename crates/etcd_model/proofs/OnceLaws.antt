@@ -200,7 +200,7 @@ once_after H (c ∷ cs) once h = λ key. All-push (λ xs. length (changes_of key
 pub finish_once : (S : State History) (id : ℤ) → ChangesOnce S.store → ChangesOnce (finish history S id).store
 finish_once S id once =
     let H = S.store in
-    let inside : List ℕ → Bool = is_in (0 ∷ []) (0 ∷ []) in
+    let inside : List ℕ → Bool = is_in [] (0 ∷ []) in
     let held : KeyValue → Bool = λ row. int_eq row.lease id in
     let rs = filter held (history_rows H inside (current H)) in
     once_after H (map Del (attached (reads history S) id)) once (λ key.

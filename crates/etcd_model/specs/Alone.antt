@@ -8,8 +8,7 @@ use Rattle.etcd_types.specs.declared.refusal.Refusal.{Refusal}
 use Rattle.etcd_types.specs.declared.refusal.Refusal.TheVariants.{NoPath}
 use Rattle.etcd_types.specs.declared.reply.Reply.TheVariants.{Refused}
 use Rattle.etcd_model.specs.History.{History}
-use Rattle.etcd_model.specs.Machine.{State}
-use Rattle.etcd_model.specs.Offered.{built_machine}
+use Rattle.etcd_model.specs.Machine.{State, machine}
 use Rattle.etcd_model.specs.Calls.{Target, target_of, read_posted}
 use Rattle.etcd_model.specs.ReplyText.{Answer, text}
 
@@ -69,11 +68,11 @@ read_event (Called method target body) = read_target method (target_of target) b
 read_event (Stepped tenant step) = Ok step
 
 abbrev pub answer_to : State History → Result Step Refusal → Answer
-answer_to S (Ok step) = text (built_machine S step).reply
+answer_to S (Ok step) = text (machine S step).reply
 answer_to S (Err r) = text (Refused r)
 
 abbrev pub after_read : State History → Result Step Refusal → State History
-after_read S (Ok step) = (built_machine S step).state
+after_read S (Ok step) = (machine S step).state
 after_read S (Err r) = S
 
 -- the answers to some events of one tenant, and its state after them

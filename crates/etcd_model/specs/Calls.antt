@@ -12,14 +12,13 @@ use Rattle.etcd_types.specs.Limits.{max_body}
 use Rattle.etcd_types.specs.declared.call.Call.{Call}
 use Rattle.etcd_types.specs.declared.call.Call.TheVariants as call
 use Rattle.etcd_types.specs.declared.refusal.Refusal.{Refusal}
-use Rattle.etcd_types.specs.declared.refusal.Refusal.TheVariants.{NoPath, NotPost, NotOffered, TooLarge}
+use Rattle.etcd_types.specs.declared.refusal.Refusal.TheVariants.{NoPath, NotPost, TooLarge}
 use Rattle.etcd_types.specs.declared.step.Step.{Step}
 use Rattle.etcd_types.specs.declared.step.Step.TheVariants as step
 use Rattle.etcd_model.specs.Fields.{fields, is_empty}
 use Rattle.etcd_model.specs.Members.{IsAnswer, and_then, or_bad, named}
 use Rattle.etcd_model.specs.Requests.{read_alarm_request, read_compaction, read_delete, read_grant, read_id}
 use Rattle.etcd_model.specs.Requests.{read_put, read_range, read_time_to_live, read_txn, read_watch}
-use Rattle.etcd_model.specs.Offered.{is_built}
 
 -- ---- paths
 
@@ -126,19 +125,15 @@ within_size body r = if nat_lt max_body (length body) then Err TooLarge else r
 unfoldable pub read_step : Call → List ℕ → Result Step Refusal
 read_step c body = within_size body (and_then (and_then (read_body body) (read_members c)) check_fields)
 
--- a call that is not built is refused after its size, and before its body is read
-unfoldable pub read_built : Call → List ℕ → Result Step Refusal
-read_built c body = if is_built c then read_step c body else within_size body (Err NotOffered)
-
 abbrev pub for_call : Option Call → (Call → Result Step Refusal) → Result Step Refusal
 for_call None f = Err NoPath
 for_call (Some c) f = f c
 
 -- the step that a path, which follows `/v3/`, and a body ask for, or why they are refused
 unfoldable pub read_call : List ℕ → List ℕ → Result Step Refusal
-read_call path body = for_call (call_of path) (λ c. read_built c body)
+read_call path body = for_call (call_of path) (λ c. read_step c body)
 
 -- the same, with the method, which goes after the path and before the body
 abbrev pub read_posted : List ℕ → List ℕ → List ℕ → Result Step Refusal
 read_posted method path body =
-    for_call (call_of path) (λ c. if bytes_eq method (codes "POST") then read_built c body else Err NotPost)
+    for_call (call_of path) (λ c. if bytes_eq method (codes "POST") then read_step c body else Err NotPost)

@@ -14,9 +14,9 @@ use Rattle.etcd_model.specs.Tenant.{State, Asks, reads}
 abbrev pub lease_at : List Lease → ℤ → Option Lease
 lease_at leases id = find (λ l. int_eq l.id id) leases
 
--- the live keys whose row has the lease, in byte order
+-- the keys, of all that are live, whose row has the lease, in byte order
 abbrev pub attached : Reads → ℤ → List (List ℕ)
-attached R id = map (λ row. row.key) (filter (λ row. int_eq row.lease id) (R.rows (0 ∷ []) (0 ∷ [])))
+attached R id = map (λ row. row.key) (filter (λ row. int_eq row.lease id) (R.rows [] (0 ∷ [])))
 
 -- in order of their ends, and then of their IDs
 abbrev pub end_cmp : Lease → Lease → Ordering

@@ -15,7 +15,6 @@ pub mod Machine
 pub mod Changes
 pub mod Store
 pub mod Held
-pub mod Offered
 pub mod Spelling
 pub mod Members
 pub mod Requests

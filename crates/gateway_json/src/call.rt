@@ -1,11 +1,10 @@
-//! The calls: which are built, and the steps that their bodies ask for.
+//! The calls, and the steps that their bodies ask for.
 ghost use Rattle.std.specs.Prelude.{◌≡◌, Ok, Err, nat_lt, length, if◌then◌else◌};
 ghost use Rattle.serde_json.specs.View.{view};
 ghost use Rattle.etcd_types.specs.Limits.{max_body};
 ghost use Rattle.etcd_types.specs.declared.refusal.Refusal.TheVariants.{TooLarge};
 ghost use Rattle.etcd_model.specs.Members.{IsAnswer};
-ghost use Rattle.etcd_model.specs.Offered.{is_built};
-ghost use Rattle.etcd_model.specs.Calls.{check_fields, read_built, read_call, read_members, read_posted};
+ghost use Rattle.etcd_model.specs.Calls.{check_fields, read_call, read_members, read_posted};
 ghost use Rattle.etcd_model.specs.Calls.{read_step};
 
 use crate::body::read_body;
@@ -66,7 +65,7 @@ fn check_size(body: &[u8]) -> Result<(), Refusal>
 }
 
 /// The step that a call's body asks for, or why it is refused: for its size, else for what can't be
-/// read, else for its fields. It does not ask what is built.
+/// read, else for its fields.
 #[tactic(auto, unfolding(etcd_model::specs::Calls::read_step))]
 pub fn read_step(alloc: Global, call: Call, body: &[u8]) -> Result<Step, Refusal>
     ensures { IsAnswer result (read_step call body.now) }
@@ -76,43 +75,13 @@ pub fn read_step(alloc: Global, call: Call, body: &[u8]) -> Result<Step, Refusal
     check_fields(read_members(alloc, call, &value)?)
 }
 
-/// Whether the body of this call is read.
-fn is_built(call: Call) -> bool
-    ensures { result ≡ is_built call }
-{
-    matches!(
-        call,
-        Call::Range
-            | Call::Put
-            | Call::DeleteRange
-            | Call::Txn
-            | Call::Compaction
-            | Call::Alarm
-            | Call::Status
-            | Call::Defragment
-    )
-}
-
-/// `read_step` of what is built.
-#[tactic(auto, unfolding(etcd_model::specs::Calls::read_built))]
-fn read_built(alloc: Global, call: Call, body: &[u8]) -> Result<Step, Refusal>
-    ensures { IsAnswer result (read_built call body.now) }
-{
-    if is_built(call) {
-        read_step(alloc, call, body)
-    } else {
-        check_size(body).and(Err(Refusal::NotOffered))
-    }
-}
-
-/// The step that a path, what follows `/v3/`, and a body ask for, or why they are refused. A call
-/// that is not built is refused after its size and before its body is read.
+/// The step that a path, what follows `/v3/`, and a body ask for, or why they are refused.
 #[tactic(auto, unfolding(etcd_model::specs::Calls::read_call))]
 pub fn read_call(alloc: Global, path: &[u8], body: &[u8]) -> Result<Step, Refusal>
     ensures { IsAnswer result (read_call path.now body.now) }
 {
     match call_of(path) {
-        Some(call) => read_built(alloc, call, body),
+        Some(call) => read_step(alloc, call, body),
         None => Err(Refusal::NoPath),
     }
 }
@@ -128,5 +97,5 @@ pub fn read_posted(alloc: Global, method: &[u8], path: &[u8], body: &[u8]) -> Re
     if method != b"POST".as_slice() {
         return Err(Refusal::NotPost);
     }
-    read_built(alloc, call, body)
+    read_step(alloc, call, body)
 }

@@ -1,4 +1,4 @@
-//! Every call, on bodies with known meaning. What is built so far is not asked.
+//! Every call, on bodies with known meaning.
 use crate::read_step;
 use crate::tests::{Wanted, assert_bad, assert_read, assert_refusal, refusal};
 use etcd_types::limits::MAX_OPS;

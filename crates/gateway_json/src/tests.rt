@@ -298,12 +298,12 @@ const GATED: [(&str, &str, Option<Refusal>); 8] = [
     ),
     ("kv/deleterange", "{", Some(Refusal::BadBody)),
     ("kv/txn", "{", Some(Refusal::BadBody)),
-    ("lease/grant", "{", Some(Refusal::NotOffered)),
-    ("watch", "{", Some(Refusal::NotOffered)),
+    ("lease/grant", "{", Some(Refusal::BadBody)),
+    ("watch", "{", Some(Refusal::BadBody)),
     ("kv/none", "{", Some(Refusal::NoPath)),
 ];
 
-/// The body of what is built is read, and that of what is not built is not.
+/// The body of each call is read, and that of no call is not.
 #[test]
 fn gate(rt: HostRuntime) {
     for (path, body, wanted) in GATED.iter() {

@@ -2,21 +2,23 @@
 use Rattle.std.proofs.Common.{◌≡◌, ◌∙◌, sym, ap, subst, refl, ℕ, ◌+◌, ◌<◌, Bool, true, false, cond, not, ◌&&◌}
 use Rattle.std.proofs.Common.{List, [], ◌∷◌, ◌++◌, Option, None, Some, is_some, length, map, take, get_or}
 use Rattle.std.proofs.Common.{arith, length-take-le}
-use Rattle.std.specs.Str.{bytes_eq}
 use Rattle.std.specs.List.{AllByRecursion}
-use Rattle.std.specs.Map.{lookup}
 use Rattle.std.proofs.lemmas.Bool.{true≢false}
 use Rattle.std.proofs.lemmas.List.{take_more}
 use Rattle.etcd_types.specs.declared.reply.Reply.TheVariants.{Refused}
 use Rattle.etcd_types.specs.declared.step.Step.TheVariants.{CatchUp}
 use Rattle.etcd_model.specs.declared.state.History.{History}
 use Rattle.etcd_model.specs.declared.state.State.{State}
+use Rattle.etcd_model.specs.Tenant.{Outcome}
 use Rattle.etcd_model.specs.Calls.{Target, target_of}
 use Rattle.etcd_model.specs.ReplyText.{Answer, memory_answer, text}
 use Rattle.etcd_model.specs.Alone.{Event, Called, Stepped, Turn, is_of, is_catch_up, is_own, is_unanswered, own}
 use Rattle.etcd_model.specs.Alone.{asked, told, alone, alone_after, read_event, answer_to, after_read}
 use Rattle.steps_core.specs.Hosts.{HostState, HoldsAt, SameTenants, names_of, machine_at, has_tenant}
 use Rattle.steps_core.specs.Hosts.{reserved_segments}
+use Rattle.steps_core.proofs.Runs.{there_by_names}
+use Rattle.etcd_model.specs.Machine.{history}
+use Rattle.etcd_model.proofs.QuietSteps.{catch_up_is_done}
 use Rattle.host_front.specs.declared.event.HostEvent.{HostEvent}
 use Rattle.host_front.specs.Events.{turn_of, turns_of}
 use Rattle.host_front.specs.Answering.{Answers, is_there, is_target_there, nobody, takes_none}
@@ -28,7 +30,12 @@ use Rattle.host_front.specs.Isolation.{AreAnswered, IsAlone, AllAlone}
 caught : (S T : State History) (e : Event) → is_catch_up e ≡ true
     → (takes_none e ≡ true) × (answer_to S (read_event e) ≡ answer_to T (read_event e))
     × (after_read S (read_event e) ≡ S)
-caught S T (Stepped t (CatchUp n)) h = (refl, refl, refl)
+caught S T (Stepped t (CatchUp n)) h = (
+  refl,
+  ap (λ (o : Outcome History). text o.reply) (catch_up_is_done history S n)
+      ∙ sym (ap (λ (o : Outcome History). text o.reply) (catch_up_is_done history T n)),
+  ap (λ (o : Outcome History). o.state) (catch_up_is_done history S n),
+)
 caught S T (Stepped t step) h = absurd (true≢false (sym h))
 caught S T (Called method target body) h = absurd (true≢false (sym h))
 
@@ -93,33 +100,14 @@ module _ (old mid : HostState) (t : List ℕ) (x : Turn) (S : State History) (he
 
 -- ---- who is there
 
--- a name is among some
-abbrev is_among : List ℕ → List (List ℕ) → Bool
-is_among t [] = false
-is_among t (n ∷ ns) = cond (bytes_eq t n) true (is_among t ns)
-
-among_found : {X : Type 0} (t : List ℕ) (xs : List (List ℕ × X))
-    → is_some (lookup (bytes_eq t) xs) ≡ is_among t (map (λ e. e.0) xs)
-among_found t [] = refl
-among_found t (e ∷ xs) = by (bytes_eq t e.0) (among_found t xs)
-  where
-    by : (b : Bool) → is_some (lookup (bytes_eq t) xs) ≡ is_among t (map (λ e. e.0) xs)
-        → is_some (cond b (Some e.1) (lookup (bytes_eq t) xs)) ≡ cond b true (is_among t (map (λ e. e.0) xs))
-    by true rest = refl
-    by false rest = rest
-
-still_there : (old new : HostState) (t : List ℕ) → names_of new ≡ names_of old
-    → has_tenant new t ≡ has_tenant old t
-still_there old new t same = among_found t new.tenants ∙ ap (is_among t) same ∙ sym (among_found t old.tenants)
-
 still_apart : (old new : HostState) (e : Event) → names_of new ≡ names_of old → is_there old e ≡ false
     → is_there new e ≡ false
 still_apart old new (Called method target body) same apart = by (target_of target) apart
   where
     by : (o : Option Target) → is_target_there old o ≡ false → is_target_there new o ≡ false
     by None h = refl
-    by (Some found) h = still_there old new found.tenant same ∙ h
-still_apart old new (Stepped t step) same apart = still_there old new t same ∙ apart
+    by (Some found) h = there_by_names old new found.tenant same ∙ h
+still_apart old new (Stepped t step) same apart = there_by_names old new t same ∙ apart
 
 -- ---- many events
 

@@ -13,17 +13,20 @@ use Rattle.etcd_types.specs.declared.reply.Reply.TheVariants.{Refused}
 use Rattle.etcd_model.specs.declared.state.History.{History}
 use Rattle.etcd_model.specs.declared.state.State.{State}
 use Rattle.etcd_model.specs.Calls.{Target, read_posted, target_of}
-use Rattle.etcd_model.specs.ReplyText.{Answer, text}
+use Rattle.etcd_model.specs.ReplyText.{Answer, memory_answer, text}
 use Rattle.etcd_model.specs.Alone.{Called, Stepped, names, is_of, is_unanswered, read_event, read_target}
 use Rattle.etcd_model.specs.Alone.{answer_to, after_read}
 use Rattle.etcd_model.specs.Held.{Holds}
+use Rattle.etcd_model.specs.Machine.{history, machine}
+use Rattle.etcd_model.specs.Tenant.{Outcome}
+use Rattle.etcd_model.proofs.QuietSteps.{catch_up_is_done, drop_is_done, tick_is_done}
 use Rattle.tenant_machine.specs.Tenants.{tenant}
 use Rattle.tenant_machine.specs.Plans.{Plan, takes_memory}
 use Rattle.steps_core.specs.Hosts.{HostState, HoldsAt, IsSureAt, PlansAt, CommitsAt, machine_at, has_tenant}
 use Rattle.steps_core.specs.Hosts.{unplanned}
 use Rattle.steps_core.proofs.Runs.{sure_at}
 use Rattle.steps_core.proofs.Stepped.{unplanned_by}
-use Rattle.host_front.specs.Answering.{Answers, Refuses, is_there, is_target_there, takes_none}
+use Rattle.host_front.specs.Answering.{Answers, Refuses, has_fixed_text, is_there, is_target_there, takes_none}
 use Rattle.host_front.proofs.Told.{text_answered, refused_answered}
 
 same_name : (t u : List ℕ) → bytes_eq t u ≡ true → t ≡ u
@@ -113,6 +116,31 @@ takes_step t (DropWatch slot) h = refl
 takes_step t (Tick moment) h = refl
 takes_step t (CatchUp budget) h = refl
 takes_step t step h = absurd (true≢false (sym h))
+
+-- what these are replied has a fixed text
+fixed_reply : (S : State History) (t : List ℕ) (step : Step) → takes_none (Stepped t step) ≡ true
+    → has_fixed_text (machine S step).reply ≡ true
+fixed_reply S t (DropWatch slot) h = ap (λ (o : Outcome History). has_fixed_text o.reply) (drop_is_done history S slot)
+fixed_reply S t (Tick moment) h = ap (λ (o : Outcome History). has_fixed_text o.reply) (tick_is_done history S moment)
+fixed_reply S t (CatchUp budget) h = ap (λ (o : Outcome History). has_fixed_text o.reply) (catch_up_is_done history S budget)
+fixed_reply S t step h = absurd (true≢false (sym h))
+
+-- a step that is planned, and for whose text there is no memory
+pub step_untold : (h : HostState) (t : List ℕ) (step : Step) (p : Plan) (a : Answer) → PlansAt h t step p
+    → (has_fixed_text p.reply ≡ true → false ≡ true) → a ≡ memory_answer → Answers h (Stepped t step) a h
+step_untold h t step p a at unfixed is = record {
+  own = λ u S mine answered held. absurd (true≢false (sym unanswered ∙ answered));
+  none = λ apart. (refl, λ answered. absurd (true≢false (sym unanswered ∙ answered)));
+  memory = λ unanswered. (refl, is);
+  sure = λ u S mine takes held.
+      let holds = planned_holds h t u step p at S mine held in
+      absurd (true≢false (sym (unfixed (ap has_fixed_text (at.plans.reply S holds) ∙ fixed_reply S t step takes))));
+  others = λ u apart. refl;
+  same = record { names = refl; reserved = refl; segments = refl };
+}
+  where
+    unanswered : is_unanswered a ≡ true
+    unanswered = ap is_unanswered is
 
 -- a step that has no plan
 pub step_unplanned : (h : HostState) (t : List ℕ) (step : Step) (r : Refusal) (a : Answer) → r ≡ unplanned h t

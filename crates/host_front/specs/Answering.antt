@@ -2,7 +2,7 @@
 use Rattle.std.specs.Prelude.{◌≡◌, ℕ, Bool, true, false, List, Option, Some, None}
 use Rattle.etcd_types.specs.declared.call.Call.{Call}
 use Rattle.etcd_types.specs.declared.refusal.Refusal.{Refusal}
-use Rattle.etcd_types.specs.declared.refusal.Refusal.TheVariants.{NoPath, NoTenant, NotOffered}
+use Rattle.etcd_types.specs.declared.refusal.Refusal.TheVariants.{NoPath, NoTenant}
 use Rattle.etcd_types.specs.declared.reply.Reply.{Reply}
 use Rattle.etcd_types.specs.declared.reply.Reply.TheVariants.{Quiet, Refused}
 use Rattle.etcd_types.specs.declared.step.Step.TheVariants.{DropWatch, Tick, CatchUp}
@@ -53,7 +53,6 @@ takes_none (Stepped tenant step) = false
 -- what these are replied has a text that is always the same
 abbrev pub has_fixed_text : Reply → Bool
 has_fixed_text Quiet = true
-has_fixed_text (Refused NotOffered) = true
 has_fixed_text reply = false
 
 -- ---- answers

@@ -1,6 +1,6 @@
 //! What an event is answered.
 ghost use Rattle.std.specs.Prelude.{◌≡◌, IfOk, IsOk, true};
-ghost use Rattle.etcd_model.specs.ReplyText.{memory_answer, reply_body, text};
+ghost use Rattle.etcd_model.specs.ReplyText.{memory_answer, text};
 ghost use Rattle.host_front.specs.Answering.{has_fixed_text, Refuses};
 
 use etcd_types::{Mem, Refusal, Reply};
@@ -54,7 +54,6 @@ impl Answer {
     {
         match reply {
             Reply::Quiet => Ok(Answer::fixed(204, b"")),
-            Reply::Refused(Refusal::NotOffered) => Ok(Answer::fixed(501, not_offered_text())),
             _ => {
                 let (status, body) = write_reply(alloc, reply)?;
                 Ok(Answer {
@@ -89,14 +88,4 @@ impl Answer {
             body: Body::Fixed(body),
         }
     }
-}
-
-/// The body of what is not offered.
-const NOT_OFFERED_TEXT: &[u8] =
-    b"{\"code\":12,\"error\":\"etcd_host: not offered\",\"message\":\"etcd_host: not offered\"}";
-
-fn not_offered_text() -> &'static [u8]
-    ensures { result.now ≡ reply_body (Reply.Refused Refusal.NotOffered) }
-{
-    NOT_OFFERED_TEXT
 }

@@ -1,6 +1,6 @@
 //! The host, spoken to in bytes: it is composed with the gateway before and behind it.
 //!
-//! Each tenant is answered the bytes that the written machine, as it is built, gives for its own events
+//! Each tenant is answered the bytes that the written machine gives for its own events
 //! alone: nothing of another tenant can be seen in an answer. Want of memory apart, which changes nothing.
 #![tactic(auto)]
 

@@ -1,28 +1,24 @@
 -- Attachments in order, by the records that are lent.
-use Rattle.std.proofs.Common.{◌≡◌, ◌⊎◌, ℕ, ◌<◌, ◌≤◌, List, [], ◌∷◌, length, get_or, set, refl, sym, ap, ◌∙◌, arith, inl, inr}
-use Rattle.std.specs.Prelude.{ℤ, ◌<ℤ◌, Bool, true, false, cond, filter, int_le, nat_lt, Option, Some, None, IsSome, IfSome}
+use Rattle.std.proofs.Common.{◌≡◌, ◌⊎◌, ◌<◌, ◌≤◌, List, [], ◌∷◌, length, get_or, set, refl, sym, ap, ◌∙◌, arith, inl, inr}
+use Rattle.std.specs.Prelude.{ℤ, ◌<ℤ◌, Bool, true, false, filter, int_le, Option, Some, None, IsSome, IfSome}
 use Rattle.std.specs.Cmp.{IsTotalOrder}
 use Rattle.std.specs.List.{AllByRecursion, insert, remove}
 use Rattle.std.specs.List.Sorted.{IsStrictlySortedBy}
-use Rattle.std.specs.Ordering.{int_cmp, int_eq, is_eq, ordering_then}
+use Rattle.std.specs.Ordering.{int_cmp, is_eq, ordering_then}
 use Rattle.std.specs.declared.cmp.Ordering.{Ordering}
 use Rattle.std.specs.declared.cmp.Ordering.TheVariants.{Less, Equal, Greater}
 use Rattle.std.proofs.lemmas.Bool.{true≢false}
-use Rattle.std.proofs.lemmas.Bool.Decides.{nat_tests}
 use Rattle.std.proofs.lemmas.Cmp.{on_total, then_total, int_cmp_total, nat_list_cmp_total, int_ranked}
 use Rattle.std.proofs.lemmas.Int.{ints}
 use Rattle.std.proofs.lemmas.List.Kept.{IsStrictlySortedBy-filter}
 use Rattle.chunk_list.specs.Chunked.{Chunked, HasItem, IsPlaceAt, position_of}
 use Rattle.chunk_list.specs.declared.place.Place.{Place}
-use Rattle.etcd_model.specs.declared.state.Lease.{Lease}
-use Rattle.etcd_model.specs.Leases.{lease_at}
 use Rattle.etcd_model.specs.Order.{beside, put_in, key_cmp}
 use Rattle.etcd_model.proofs.OrderLaws.{sorted-put_in}
 use Rattle.key_index.specs.Links.{Cells, Linked}
 use Rattle.key_index.specs.Sought.{entry_key}
 use Rattle.lease_book.specs.declared.attachments.Attachment.{Attachment}
-use Rattle.lease_book.specs.Attached.{AreAttached, RiseById, IsKeyAt, IsKeyGap, attachment_cmp, keys_before, with_attachment, lasts, running_keys}
-use Rattle.lease_book.specs.Book.{IsWithin}
+use Rattle.lease_book.specs.Attached.{AreAttached, RiseById, IsKeyAt, IsKeyGap, attachment_cmp, keys_before, with_attachment}
 use Rattle.lease_book.proofs.Ordered.{IsTied, IsUntied, stands}
 use Rattle.lease_book.proofs.Stretch.{all_filter}
 
@@ -73,24 +69,6 @@ pub rises : (cells : Cells) (list : List Attachment) → IsStrictlySortedBy (att
 unfolding IsStrictlySortedBy
 rises cells [] sorted = tt
 rises cells (a ∷ list) sorted = (all_up cells a list sorted.0, rises cells list sorted.1)
-
--- ---- before the soonest moment none goes
-
-ends_later : (moment soonest end : ℕ) → moment < soonest → soonest ≤ end → nat_lt moment end ≡ true
-ends_later moment soonest end lt le = grind (arith, nat_tests)
-
-lasts_there : (moment soonest : ℕ) (leases : List Lease) (id : ℤ) → moment < soonest → AllByRecursion (IsWithin soonest) leases → lasts moment (lease_at leases id) ≡ true
-lasts_there moment soonest [] id lt all = refl
-lasts_there moment soonest (l ∷ leases) id lt all = elim (int_eq l.id id) as (λ b. lasts moment (cond b (Some l) (lease_at leases id)) ≡ true) [
-  | true ↦ ends_later moment soonest l.end lt all.0.end
-  | false ↦ lasts_there moment soonest leases id lt all.1
-]
-
-pub all_last : (moment soonest : ℕ) (leases : List Lease) (list : List Attachment) → moment < soonest → AllByRecursion (IsWithin soonest) leases → running_keys moment leases list ≡ list
-all_last moment soonest leases [] lt all = refl
-all_last moment soonest leases (a ∷ list) lt all =
-    ap (λ b. cond b (a ∷ running_keys moment leases list) (running_keys moment leases list)) (lasts_there moment soonest leases a.id lt all)
-    ∙ ap (λ bs. a ∷ bs) (all_last moment soonest leases list lt all)
 
 -- ---- what a search by lease and key finds
 

@@ -8,14 +8,11 @@ use Rattle.std.specs.declared.cmp.Ordering.TheVariants.{Less, Equal, Greater}
 use Rattle.std.proofs.lemmas.Bool.{true≢false}
 use Rattle.std.proofs.lemmas.Bool.Decides.{Decides-int_eq}
 use Rattle.std.proofs.lemmas.Cmp.{tied_itself, int_cmp_total}
-use Rattle.etcd_model.specs.declared.state.Lease.{Lease}
-use Rattle.etcd_model.specs.Leases.{lease_at}
 use Rattle.etcd_model.specs.Order.{beside, put_in, key_cmp}
 use Rattle.key_index.specs.Links.{Cells}
 use Rattle.key_index.specs.Sought.{entry_key}
 use Rattle.lease_book.specs.declared.attachments.Attachment.{Attachment}
 use Rattle.lease_book.specs.Attached.{attachment_cmp, with_attachment, without_attachment, heads_of, without_keys}
-use Rattle.lease_book.specs.Attached.{lasts, running_keys}
 use Rattle.lease_book.proofs.Standing.{stand}
 use Rattle.lease_book.proofs.Attached.{rises}
 use Rattle.lease_book.proofs.Stretch.{of_id, all_above, none_of}
@@ -138,14 +135,3 @@ ended_keys list id = heads_filter (λ b. not (int_eq b.id id)) (λ c. false) id 
 
 pub other_keys : (list : List Attachment) (ended id : ℤ) → int_eq id ended ≡ false → heads_of (without_keys list ended) id ≡ heads_of list id
 other_keys list ended id other = heads_filter (λ b. not (int_eq b.id ended)) (λ c. true) id (λ b e. ap not (ap (λ z. int_eq z ended) ((Decides-int_eq b.id id).0 e) ∙ other)) list ∙ all_pass (heads_of list id)
-
--- ---- the keys of all leases that have run out go
-
-kept_if : (b : Bool) (cs : List ℕ) → filter (λ c. b) cs ≡ cond b cs []
-kept_if true cs = all_pass cs
-kept_if false cs = none_pass cs
-
-pub running_heads : (moment : ℕ) (leases : List Lease) (list : List Attachment) (id : ℤ) → heads_of (running_keys moment leases list) id ≡ cond (lasts moment (lease_at leases id)) (heads_of list id) []
-running_heads moment leases list id =
-    heads_filter (λ b. lasts moment (lease_at leases b.id)) (λ c. lasts moment (lease_at leases id)) id (λ b e. ap (λ z. lasts moment (lease_at leases z)) ((Decides-int_eq b.id id).0 e)) list
-    ∙ kept_if (lasts moment (lease_at leases id)) (heads_of list id)

@@ -1,7 +1,6 @@
 -- The rows under the keys of each lease stay those that have the lease, over a write of one key.
 use Rattle.std.proofs.Common.{◌≡◌, ℕ, List, [], ◌∷◌, refl, sym, ap, ◌∙◌}
 use Rattle.std.specs.Prelude.{ℤ, pos, Bool, true, false, not, cond, filter, map, Option, Some}
-use Rattle.std.specs.List.{AllByRecursion}
 use Rattle.std.specs.List.Sorted.{IsStrictlySortedBy}
 use Rattle.std.specs.Cmp.{IsTotalOrder}
 use Rattle.std.specs.Ordering.{int_eq, is_eq}
@@ -16,28 +15,12 @@ use Rattle.etcd_model.specs.Order.{beside, put_in, by_key, key_cmp}
 use Rattle.key_index.specs.Links.{Cells}
 use Rattle.key_index.specs.Sought.{entry_key}
 use Rattle.lease_book.specs.declared.attachments.Attachment.{Attachment}
-use Rattle.lease_book.specs.Attached.{AreAttached, with_attachment, without_attachment, heads_of}
+use Rattle.lease_book.specs.Attached.{AreAttached, HasLease, HoldRows, heads_of, rows_of, rows_without, with_attachment, without_attachment}
 use Rattle.lease_book.proofs.HeadLaws.{head_cmp, heads_with, others_with, heads_without, others_without}
 use Rattle.lease_book.proofs.Ordered.{filter_put, put_over}
 
 by_key_total : IsTotalOrder by_key
 by_key_total = on_total (λ (r : KeyValue). r.key) nat_list_cmp_total
-
--- the rows that have a lease
-abbrev pub rows_of : ℤ → List KeyValue → List KeyValue
-rows_of id rows = filter (λ x. int_eq x.lease id) rows
-
--- the rows but for that of a key
-abbrev pub rows_without : List KeyValue → List ℕ → List KeyValue
-rows_without rows key = filter (λ x. not (is_eq (key_cmp x.key key))) rows
-
--- under the keys of each lease are the rows that have it
-abbrev pub HoldRows : (ℕ → Option KeyValue) → List Attachment → List KeyValue → Type 0
-HoldRows row_at list rows = (id : ℤ) → int_eq id (pos 0) ≡ false → map row_at (heads_of list id) ≡ map Some (rows_of id rows)
-
--- a row of the key has the lease
-abbrev pub HasLease : List ℕ → ℤ → List KeyValue → Type 0
-HasLease key id rows = AllByRecursion (λ x. is_eq (key_cmp x.key key) ≡ true → x.lease ≡ id) rows
 
 -- ---- rows of other keys
 
@@ -52,7 +35,7 @@ filter_swap p q (x ∷ rows) = step (p x) (q x) refl refl (filter_swap p q rows)
     step false false e f rest = rest
 
 -- where the row of a key has another lease, those of a lease are the same without it
-same_rows : (key : List ℕ) (lease id : ℤ) (rows : List KeyValue) → int_eq id lease ≡ false → HasLease key lease rows → rows_of id (rows_without rows key) ≡ rows_of id rows
+pub same_rows : (key : List ℕ) (lease id : ℤ) (rows : List KeyValue) → int_eq id lease ≡ false → HasLease key lease rows → rows_of id (rows_without rows key) ≡ rows_of id rows
 same_rows key lease id [] other has = refl
 same_rows key lease id (x ∷ rows) other has = step (is_eq (key_cmp x.key key)) refl (same_rows key lease id rows other has.1)
   where

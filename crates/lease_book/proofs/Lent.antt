@@ -11,8 +11,7 @@ use Rattle.etcd_model.specs.Order.{key_cmp}
 use Rattle.key_index.specs.Links.{Cells, Linked, change_at}
 use Rattle.key_index.specs.Sought.{entry_key}
 use Rattle.lease_book.specs.declared.attachments.Attachment.{Attachment}
-use Rattle.lease_book.specs.Attached.{AreAttached, attachment_cmp, heads_of}
-use Rattle.lease_book.proofs.HeldRows.{HoldRows}
+use Rattle.lease_book.specs.Attached.{AreAttached, HoldRows, attachment_cmp, heads_of}
 use Rattle.lease_book.proofs.Stretch.{of_id}
 
 record KeepsKey (o p : Option Linked) : Type 0 where

@@ -2,10 +2,10 @@ pub mod Standing
 mod Chosen
 mod Granted
 mod Due
-mod Changed
+pub mod Changed
 mod Ended
 mod Turning
-mod Ordered
+pub mod Ordered
 mod Stretch
 pub mod Attached
 pub mod HeadLaws

@@ -1,14 +1,13 @@
 -- Which keys have which lease: attachments, each of a lease and the newest record of a key that has it.
-use Rattle.std.specs.Prelude.{◌≡◌, ℕ, ℤ, Bool, true, not, int_lt, int_le, nat_lt, List, [], ◌∷◌, map, filter}
-use Rattle.std.specs.Prelude.{slice_set, Option, Some, None, IsSome}
+use Rattle.std.specs.Prelude.{◌≡◌, ℕ, ℤ, pos, true, false, not, int_lt, int_le, List, [], ◌∷◌, map, filter}
+use Rattle.std.specs.Prelude.{slice_set, Option, Some, IsSome}
 use Rattle.std.specs.List.{AllByRecursion, prefix_len, insert, remove}
 use Rattle.std.specs.List.Sorted.{IsStrictlySortedBy}
 use Rattle.std.specs.Ordering.{int_cmp, int_eq, is_eq, is_lt, ordering_then}
 use Rattle.std.specs.declared.cmp.Ordering.{Ordering}
 use Rattle.chunk_list.specs.Chunked.{Chunked, HasItem, IsPlace, position_of}
 use Rattle.chunk_list.specs.declared.place.Place.{Place}
-use Rattle.etcd_model.specs.declared.state.Lease.{Lease}
-use Rattle.etcd_model.specs.Leases.{lease_at}
+use Rattle.etcd_types.specs.declared.key_value.KeyValue.{KeyValue}
 use Rattle.etcd_model.specs.Order.{put_in, key_cmp}
 use Rattle.key_index.specs.Links.{Cells}
 use Rattle.key_index.specs.Sought.{entry_key}
@@ -40,14 +39,24 @@ heads_of list id = map (λ a. a.head) (filter (λ a. int_eq a.id id) list)
 abbrev pub without_keys : List Attachment → ℤ → List Attachment
 without_keys list id = filter (λ a. not (int_eq a.id id)) list
 
--- a lease has not run out at a moment, or is not there
-abbrev pub lasts : ℕ → Option Lease → Bool
-lasts moment None = true
-lasts moment (Some l) = nat_lt moment l.end
+-- ---- the rows under them
 
--- the attachments but for those of leases that have run out at a moment
-abbrev pub running_keys : ℕ → List Lease → List Attachment → List Attachment
-running_keys moment leases list = filter (λ a. lasts moment (lease_at leases a.id)) list
+-- the rows that have a lease
+abbrev pub rows_of : ℤ → List KeyValue → List KeyValue
+rows_of id rows = filter (λ x. int_eq x.lease id) rows
+
+-- the rows but for that of a key
+abbrev pub rows_without : List KeyValue → List ℕ → List KeyValue
+rows_without rows key = filter (λ x. not (is_eq (key_cmp x.key key))) rows
+
+-- under the keys of each lease are the rows that have it
+abbrev pub HoldRows : (ℕ → Option KeyValue) → List Attachment → List KeyValue → Type 0
+HoldRows row_at list rows = (id : ℤ) → int_eq id (pos 0) ≡ false
+    → map row_at (heads_of list id) ≡ map Some (rows_of id rows)
+
+-- a row of the key has the lease
+abbrev pub HasLease : List ℕ → ℤ → List KeyValue → Type 0
+HasLease key id rows = AllByRecursion (λ x. is_eq (key_cmp x.key key) ≡ true → x.lease ≡ id) rows
 
 -- ---- where attachments stand
 

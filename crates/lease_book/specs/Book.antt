@@ -1,5 +1,5 @@
 -- What a contract sees of a book of leases.
-use Rattle.std.specs.Prelude.{◌≡◌, ℕ, ◌≤◌, ℤ, pos, true, int_lt, int_le, List, length, map}
+use Rattle.std.specs.Prelude.{◌≡◌, ℕ, ◌≤◌, ℤ, pos, true, int_lt, int_le, List, [], length, map}
 use Rattle.std.specs.Prelude.{slice_index_or, Some, refl}
 use Rattle.std.specs.Coded.{Coded, code_by, coded×, coded_ℕ, coded_ℤ, coded_list}
 use Rattle.std.specs.List.{AllByRecursion, prefix_len}
@@ -15,13 +15,19 @@ use Rattle.lease_book.specs.declared.attachments.Attachment.{Attachment}
 use Rattle.lease_book.specs.declared.book.Booked.{Booked}
 
 -- the leases by ascending ID, the cells of their records in the same order, the number from which IDs are
--- chosen, for how many leases and for how many attachments there is room, and the attachments
+-- chosen, for how many leases and for how many attachments there is room, the attachments, and the leases
+-- that were collected as run out and are still to be taken
 pub record Book : Type 0 where
   pub leases : List Lease
   pub cells : List ℕ
   pub counter : ℕ
   pub room : ℕ
   pub attachments : List Attachment
+  pub due : List Lease
+
+-- no lease, and room for so many
+abbrev pub empty_book : ℕ → Book
+empty_book room = record { leases = []; cells = []; counter = 1; room = room; attachments = []; due = [] }
 
 abbrev lease_code : Coded Lease
 lease_code =
@@ -38,16 +44,17 @@ attachment_code =
 
 abbrev pub book_code : Coded Book
 book_code =
-    code_by ((List Lease × List ℕ) × ((ℕ × ℕ) × List Attachment))
+    code_by ((List Lease × List ℕ) × ((ℕ × ℕ) × (List Attachment × List Lease)))
     (coded× (coded× (coded_list lease_code) (coded_list coded_ℕ))
-    (coded× (coded× coded_ℕ coded_ℕ) (coded_list attachment_code)))
-    (λ b. ((b.leases, b.cells), ((b.counter, b.room), b.attachments)))
+    (coded× (coded× coded_ℕ coded_ℕ) (coded× (coded_list attachment_code) (coded_list lease_code))))
+    (λ b. ((b.leases, b.cells), ((b.counter, b.room), (b.attachments, b.due))))
     (λ p. record {
       leases = p.0.0;
       cells = p.0.1;
       counter = p.1.0.0;
       room = p.1.0.1;
-      attachments = p.1.1;
+      attachments = p.1.1.0;
+      due = p.1.1.1;
     })
     (λ _. refl)
 
@@ -74,12 +81,15 @@ pub record IsBook (leases : List Lease) (soonest most : ℕ) : Type 0 where
   pub count : length leases ≤ most
   pub room : most ≤ 4294967295
 
--- the same with attachments, whose IDs don't fall, and with as much room for them
-pub record IsKeyedBook (leases : List Lease) (soonest most : ℕ) (attachments : List Attachment) (room : ℕ) :
+-- the same with attachments, whose IDs don't fall, with as much room for them, and with room to collect all
+-- leases
+pub record IsKeyedBook
+    (leases : List Lease) (soonest most : ℕ) (attachments : List Attachment) (room due_room : ℕ) :
     Type 0 where
   pub book : IsBook leases soonest most
   pub rise : RiseById attachments
   pub same_room : room ≡ most
+  pub due_fits : most ≤ due_room
 
 -- the lease with an ID stands at a place, which is its own
 pub record IsFoundAt (list : Chunked Booked) (id : ℤ) (place : Place) : Type 0 where

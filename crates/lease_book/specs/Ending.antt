@@ -1,6 +1,5 @@
 -- The lease that ends first.
-use Rattle.std.specs.Prelude.{ℕ, nat_le, nat_lt, min, List, [], ◌∷◌, filter, fold, Option, Some, None}
-use Rattle.std.specs.Prelude.{if◌then◌else◌}
+use Rattle.std.specs.Prelude.{ℕ, nat_le, min, List, fold, Option, Some, None, if◌then◌else◌}
 use Rattle.std.specs.Ordering.{is_gt}
 use Rattle.etcd_model.specs.declared.state.Lease.{Lease}
 use Rattle.etcd_model.specs.Leases.{end_cmp}
@@ -13,17 +12,6 @@ sooner (Some first) lease = if is_gt (end_cmp lease first) then Some first else 
 -- the first so far, or a lease that has run out and ends before it
 abbrev pub sooner_due : ℕ → Option Lease → Lease → Option Lease
 sooner_due moment first lease = if nat_le lease.end moment then sooner first lease else first
-
--- the leases that have not run out at a moment
-abbrev pub running : ℕ → List Lease → List Lease
-running moment leases = filter (λ l. nat_lt moment l.end) leases
-
--- the cells of those leases
-abbrev pub running_cells : ℕ → List Lease → List ℕ → List ℕ
-running_cells moment (l ∷ leases) (cell ∷ cells) =
-    if nat_lt moment l.end then cell ∷ running_cells moment leases cells
-    else running_cells moment leases cells
-running_cells moment leases cells = []
 
 -- the end that comes first, or a moment before all of them
 abbrev pub first_end : ℕ → List Lease → ℕ

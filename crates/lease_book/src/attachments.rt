@@ -1,16 +1,11 @@
 //! Which keys have which lease.
 ghost use Rattle.std.specs.Prelude.{◌≡◌, ◌<◌, length, IsSome, MatchResult};
-ghost use Rattle.std.specs.List.Sorted.{IsStrictlySortedBy};
 ghost use Rattle.chunk_list.specs.Chunked.{IsPlaceAt};
-ghost use Rattle.etcd_model.specs.Held.{by_id};
 ghost use Rattle.lease_book.specs.Attached.{AreAttached, RiseById, IsKeyAt, IsKeyGap, attachment_cmp};
-ghost use Rattle.lease_book.specs.Attached.{heads_of, keys_before, keys_below, keys_up_to, running_keys};
+ghost use Rattle.lease_book.specs.Attached.{heads_of, keys_before, keys_below, keys_up_to};
 ghost use Rattle.lease_book.specs.Attached.{with_attachment, without_attachment, without_keys};
-ghost use Rattle.lease_book.specs.Book.{leases_of};
 
-use crate::book::Booked;
 use crate::keys::Keys;
-use crate::places::find;
 use chunk_list::{ChunkList, Place, Test};
 use etcd_types::CellNo;
 use key_index::Records;
@@ -98,45 +93,6 @@ pub(crate) fn drop_keys(list: &mut ChunkList<Attachment>, id: i64)
         let _ended = list.remove(place);
         place = first_of(list, id);
     }
-}
-
-/// Whether the lease of an attachment has not run out at a moment.
-#[derive(Clone, Copy)]
-struct LeaseLasts<'a> {
-    leases: &'a ChunkList<Booked>,
-    moment: u64,
-}
-
-impl<'a> Test<Attachment> for LeaseLasts<'a> {
-    ghost use Rattle.std.specs.List.Sorted.{IsStrictlySortedBy};
-    ghost use Rattle.etcd_model.specs.Held.{by_id};
-    ghost use Rattle.etcd_model.specs.Leases.{lease_at};
-    ghost use Rattle.lease_book.specs.Attached.{lasts};
-    ghost use Rattle.lease_book.specs.Book.{leases_of};
-
-    ghost can = { λ s a. IsStrictlySortedBy by_id (leases_of s.leases.now.items) };
-
-    ghost test = { λ s a. lasts s.moment (lease_at (leases_of s.leases.now.items) a.id) };
-
-    fn holds(&self, attachment: Attachment) -> bool {
-        match find(self.leases, attachment.id) {
-            Some(place) => self.moment < self.leases.get(place).lease.end,
-            None => true,
-        }
-    }
-}
-
-/// Takes away the attachments of all leases that have run out at a moment, in one pass.
-pub(crate) fn drop_run_out(
-    list: &mut ChunkList<Attachment>,
-    leases: &ChunkList<Booked>,
-    moment: u64,
-)
-    requires { IsStrictlySortedBy by_id (leases_of leases.now.items) }
-    ensures items { list.new.items ≡ running_keys moment (leases_of leases.now.items) list.old.items }
-    ensures room { list.new.room ≡ list.old.room }
-{
-    list.retain(&LeaseLasts { leases, moment });
 }
 
 /// How two attachments stand to one another: by their IDs, and then by the keys of their records.

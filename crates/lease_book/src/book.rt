@@ -1,6 +1,6 @@
 //! The book.
 ghost use Rattle.std.specs.Prelude.{◌≡◌, ◌<◌, ◌≤◌, [], int_le, length, pos, true, slice_get, slice_index_or};
-ghost use Rattle.std.specs.Prelude.{IfOk, IfSome, IsSome, MatchResult, Some, option_map, vec_capacity};
+ghost use Rattle.std.specs.Prelude.{IfOk, IfSome, IsSome, MatchResult, Some, drop, option_map};
 ghost use Rattle.std.specs.List.{insert, remove};
 ghost use Rattle.std.specs.List.Sorted.{IsStrictlySortedBy};
 ghost use Rattle.etcd_types.specs.Limits.{last_moment, max_ttl};
@@ -9,15 +9,14 @@ ghost use Rattle.etcd_model.specs.Leases.{lease_at, put_lease, run_out};
 ghost use Rattle.etcd_model.specs.Operations.{has_lease};
 ghost use Rattle.etcd_model.specs.Order.{put_in};
 ghost use Rattle.model_laws.specs.Leases.{without_lease};
-ghost use Rattle.lease_book.specs.Attached.{AreAttached, heads_of, running_keys, with_attachment};
+ghost use Rattle.lease_book.specs.Attached.{AreAttached, heads_of, with_attachment};
 ghost use Rattle.lease_book.specs.Attached.{without_attachment, without_keys};
-ghost use Rattle.lease_book.specs.Book.{Book, cells_of, ids_below, leases_of};
-ghost use Rattle.lease_book.specs.Ending.{running, running_cells};
+ghost use Rattle.lease_book.specs.Book.{Book, cells_of, empty_book, ids_below, leases_of};
 ghost use Rattle.lease_book.specs.Granting.{Fits, IsIdOf, id_refusal};
 
-use crate::attachments::{Attachment, drop_key, drop_keys, drop_run_out, keys_in, put_key};
+use crate::attachments::{Attachment, drop_key, drop_keys, keys_in, put_key};
 use crate::choosing::choose_id;
-use crate::ending::{RunsAt, collect, first_due, soonest_end, sort_by_end};
+use crate::ending::{collect, first_due, soonest_end, sort_by_end};
 use crate::granting::NewLease;
 use crate::keys::Keys;
 use crate::places::{find, place_of, place_with};
@@ -47,9 +46,14 @@ pub struct LeaseBook {
     counter: u64,
     /// No lease ends before this moment.
     soonest: u64,
+    /// The leases that had run out when they were last collected, in the order in which they end.
+    due: Vec<Lease>,
+    /// How many of those have been taken.
+    taken: usize,
 }
 
 impl Model for LeaseBook {
+    ghost use Rattle.std.specs.Prelude.{drop, vec_capacity};
     ghost use Rattle.lease_book.specs.Book.{Book, IsKeyedBook, book_code, leases_of, cells_of};
 
     ghost Value = { Book };
@@ -62,25 +66,29 @@ impl Model for LeaseBook {
       counter = b.counter;
       room = b.list.room;
       attachments = b.attachments.items;
+      due = drop b.taken b.due.items;
     } };
 
-    ghost invariant = { λ b.
-        IsKeyedBook (leases_of b.list.items) b.soonest b.list.room b.attachments.items b.attachments.room };
+    ghost invariant = { λ b. IsKeyedBook
+        (leases_of b.list.items) b.soonest b.list.room b.attachments.items b.attachments.room
+        (vec_capacity b.due) };
 }
 
 impl LeaseBook {
     /// A book with no lease, and room for so many leases and as many attached keys.
     pub fn new(alloc: Global, room: u32) -> Mem<LeaseBook>
-        ensures { IfOk result (λ book.
-            book ≡ record { leases = []; cells = []; counter = 1; room = room; attachments = [] }) }
+        ensures { IfOk result (λ book. book ≡ empty_book room) }
     {
         let list = ChunkList::new(alloc, room as usize)?;
         let attachments = ChunkList::new(alloc, room as usize)?;
+        let due = Vec::with_capacity(alloc, room as usize)?;
         Ok(LeaseBook {
             list,
             attachments,
             counter: 1,
             soonest: u64::MAX,
+            due,
+            taken: 0,
         })
     }
 
@@ -160,6 +168,7 @@ impl LeaseBook {
         ensures counter { self.new.counter ≡ new.counter }
         ensures room { self.new.room ≡ self.old.room }
         ensures attachments { self.new.attachments ≡ self.old.attachments }
+        ensures due { self.new.due ≡ self.old.due }
     {
         let place = place_of(&self.list, new.lease.id);
         self.soonest = self.soonest.min(new.lease.end);
@@ -183,6 +192,7 @@ impl LeaseBook {
         ensures counter { self.new.counter ≡ self.old.counter }
         ensures room { self.new.room ≡ self.old.room }
         ensures attachments { self.new.attachments ≡ self.old.attachments }
+        ensures due { self.new.due ≡ self.old.due }
     {
         let place = place_with(&self.list, id);
         let mut booked = self.list.get(place);
@@ -208,6 +218,7 @@ impl LeaseBook {
         ensures counter { self.new.counter ≡ self.old.counter }
         ensures room { self.new.room ≡ self.old.room }
         ensures attachments { self.new.attachments ≡ without_keys self.old.attachments id }
+        ensures due { self.new.due ≡ self.old.due }
     {
         drop_keys(&mut self.attachments, id);
         let place = place_with(&self.list, id);
@@ -225,34 +236,45 @@ impl LeaseBook {
         Some(lease.id)
     }
 
-    /// Puts the leases that have run out at a moment into a vector, in the order in which they end. What
-    /// stood in it goes, and its room, which is for all leases, stays.
-    pub fn collect_due(&self, moment: u64, ended: &mut Vec<Lease>)
-        requires { length self.now.leases ≤ vec_capacity ended.old }
-        ensures leases { ended.new.items ≡ run_out moment self.now.leases }
-        ensures capacity { vec_capacity ended.new ≡ vec_capacity ended.old }
+    /// Collects the leases that have run out at a moment, in the order in which they end, so that they can be
+    /// taken one after another. What was left of those before goes.
+    pub fn collect_due(&mut self, moment: u64)
+        ensures { self.new ≡ record self.old { due = run_out moment self.old.leases } }
     {
-        ended.clear();
+        self.due.clear();
+        self.taken = 0;
         if self.soonest <= moment {
-            collect(&self.list, moment, ended);
-            sort_by_end(ended);
+            collect(&self.list, moment, &mut self.due);
+            sort_by_end(&mut self.due);
+            self.look_on();
         }
     }
 
-    /// Takes away all leases that have run out at a moment with their attachments, in one pass each.
-    pub fn end_due(&mut self, moment: u64)
-        ensures leases { self.new.leases ≡ running moment self.old.leases }
-        ensures cells { self.new.cells ≡ running_cells moment self.old.leases self.old.cells }
-        ensures counter { self.new.counter ≡ self.old.counter }
-        ensures room { self.new.room ≡ self.old.room }
-        ensures attachments { self.new.attachments
-            ≡ running_keys moment self.old.leases self.old.attachments }
+    /// If nothing was collected, finds anew the moment before which no lease ends.
+    fn look_on(&mut self)
+        ensures { self.new ≡ self.old }
     {
-        if moment < self.soonest {
-            return;
+        if self.due.is_empty() {
+            self.look_ahead();
         }
-        drop_run_out(&mut self.attachments, &self.list, moment);
-        self.list.retain(&RunsAt(moment));
+    }
+
+    /// Takes the first of the leases that were collected and are not taken yet: its ID. The lease stays in
+    /// the book.
+    pub fn next_due(&mut self) -> Option<i64>
+        ensures value { result ≡ option_map (λ lease. lease.id) (slice_get self.old.due 0) }
+        ensures due { self.new ≡ record self.old { due = drop 1 self.old.due } }
+    {
+        let id = self.due.get(self.taken)?.id;
+        self.taken += 1;
+        Some(id)
+    }
+
+    /// Finds anew the moment before which no lease ends, in one pass over them. Until then one comparison
+    /// tells that nothing has run out.
+    pub fn look_ahead(&mut self)
+        ensures { self.new ≡ self.old }
+    {
         self.soonest = soonest_end(&self.list);
     }
 

@@ -8,7 +8,7 @@ ghost use Rattle.lease_book.specs.Book.{leases_of};
 ghost use Rattle.lease_book.specs.Ending.{first_end, sooner_due};
 
 use crate::book::Booked;
-use chunk_list::{ChunkList, Test};
+use chunk_list::ChunkList;
 use etcd_model::state::Lease;
 use std::cmp::Ordering;
 
@@ -48,22 +48,6 @@ pub(crate) fn sort_by_end(leases: &mut [Lease])
     ensures { leases.new ≡ in_order end_cmp leases.old }
 {
     leases.sort_unstable_by(|lease, other| compare_ends(*lease, *other));
-}
-
-/// Whether a lease runs on at a moment.
-#[derive(Clone, Copy)]
-pub(crate) struct RunsAt(pub(crate) u64);
-
-impl Test<Booked> for RunsAt {
-    ghost use Rattle.std.specs.Prelude.{nat_lt};
-
-    ghost can = { λ s b. Unit {0} };
-
-    ghost test = { λ s b. nat_lt s.0 b.lease.end };
-
-    fn holds(&self, booked: Booked) -> bool {
-        self.0 < booked.lease.end
-    }
 }
 
 /// The end that comes first, or the last moment of a `u64`.

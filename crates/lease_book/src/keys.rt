@@ -1,4 +1,5 @@
 //! The keys of a lease, one after another.
+ghost use Rattle.std.specs.Prelude.{◌≡◌, length, nat_eq};
 
 use crate::attachments::Attachment;
 use chunk_list::Walk;
@@ -10,6 +11,15 @@ use std::marker::Model;
 #[derive(Drop)]
 pub struct Keys<'a> {
     pub(crate) attachments: Walk<'a, Attachment>,
+}
+
+impl<'a> Keys<'a> {
+    /// Whether no key is left.
+    pub fn is_empty(&self) -> bool
+        ensures { result ≡ nat_eq (length self.now) 0 }
+    {
+        self.attachments.is_empty()
+    }
 }
 
 impl<'a> Model for Keys<'a> {

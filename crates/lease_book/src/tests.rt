@@ -117,36 +117,52 @@ fn leases_are_granted_and_end_in_order(rt: HostRuntime) -> Result<(), Fail> {
     Ok(())
 }
 
-/// How many leases have run out at a moment; none if they are not the first of `ENDED`, in that order.
-fn count_due(book: &LeaseBook, moment: u64, ended: &mut Vec<Lease>) -> usize {
-    if book.len() > ended.capacity() {
-        return 0;
-    }
-    book.collect_due(moment, ended);
-    let mut next = 0usize;
-    for lease in ended.iter() {
-        if next >= ENDED.len() || lease.id != ENDED[next] {
-            return 0;
+/// Ends what has run out at a moment. Whether it was so many leases, the first of `ENDED` in that order.
+fn end_due(book: &mut LeaseBook, moment: u64, count: usize) -> bool {
+    book.collect_due(moment);
+    for wanted in ENDED.iter().take(count) {
+        if book.next_due() != Some(*wanted) || end(book, *wanted).is_none() {
+            return false;
         }
-        next += 1;
     }
-    next
+    book.look_ahead();
+    book.next_due().is_none()
 }
 
-/// Of the leases of `GRANTS` how many have run out at a moment, and how many are left once they have gone.
+/// Of the leases of `GRANTS` how many have run out at a moment, and how many are left once they have ended.
 const PASSES: [(u64, usize, usize); 5] = [(5, 0, 8), (6, 4, 4), (14, 4, 4), (15, 6, 2), (65, 7, 1)];
 
 #[test]
-fn what_has_run_out_goes_in_one_pass(rt: HostRuntime) -> Result<(), Fail> {
-    let mut ended = Vec::with_capacity(rt.alloc(), 8)?;
+fn what_has_run_out_ends_in_order(rt: HostRuntime) -> Result<(), Fail> {
     for (moment, due, left) in PASSES.iter() {
         let mut book = LeaseBook::new(rt.alloc(), 8)?;
         assert!(rt; grant_all(&mut book));
-        assert_eq!(rt; count_due(&book, *moment, &mut ended), *due);
-        book.end_due(*moment);
+        assert!(rt; end_due(&mut book, *moment, *due));
         assert_eq!(rt; book.len(), *left);
         assert_eq!(rt; book.due(*moment), None);
     }
+    Ok(())
+}
+
+/// At moment 15 six leases end. Two of them are taken and ended; at 65 the other four and lease 2 are left.
+#[test]
+fn what_was_not_taken_is_collected_again(rt: HostRuntime) -> Result<(), Fail> {
+    let mut book = LeaseBook::new(rt.alloc(), 8)?;
+    assert!(rt; grant_all(&mut book));
+    book.collect_due(15);
+    assert_eq!(rt; book.next_due(), Some(-7));
+    assert_eq!(rt; end(&mut book, -7), Some(CellNo::at(0, 40)));
+    assert_eq!(rt; book.next_due(), Some(3));
+    assert_eq!(rt; end(&mut book, 3), Some(CellNo::at(0, 40)));
+    book.look_ahead();
+    assert_eq!(rt; book.next_due(), Some(6));
+    book.collect_due(65);
+    for wanted in [6, i64::MAX, 1, 5, 2].iter() {
+        assert_eq!(rt; book.next_due(), Some(*wanted));
+    }
+    assert_eq!(rt; book.next_due(), None);
+    book.collect_due(5);
+    assert_eq!(rt; book.next_due(), None);
     Ok(())
 }
 

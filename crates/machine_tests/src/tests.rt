@@ -15,8 +15,9 @@ mod told;
 use alarm_rule::{Case, OF_ANOTHER_MEMBER, OF_THIS_MEMBER};
 use etcd_types::{AlarmReq, CopyOf, Header, Mem, Reply, Step};
 use scripts::{
-    Ask, BRANCHES_AT_A_FULL_QUOTA, BRANCHES_UNDER_THE_ALARM, Line, NOT_OFFERED, PAST_FOUR_CELLS,
-    PUT, QUOTA_AND_ALARM, RAISE, REFUSALS, UNDER_THE_ALARM, WITHIN_FOUR_CELLS,
+    Ask, BRANCHES_AT_A_FULL_QUOTA, BRANCHES_UNDER_THE_ALARM, LEASES, Line, NO_WATCH, NOT_OFFERED,
+    PAST_FOUR_CELLS, PUT, PUT_AGAIN, QUOTA_AND_ALARM, RAISE, REFUSALS, UNDER_THE_ALARM, WATCHES,
+    WITHIN_FOUR_CELLS,
 };
 use std::alloc::Global;
 use std::process::Abort;
@@ -196,6 +197,17 @@ fn refuses_what_is_not_offered(rt: HostRuntime) -> Mem<()> {
 }
 
 #[test]
+fn leases_run_out(rt: HostRuntime) -> Mem<()> {
+    assert_told(&rt, rt.alloc(), 64, &LEASES)?;
+    assert_told(&rt, rt.alloc(), 64, &PUT_AGAIN)
+}
+
+#[test]
+fn no_watch_is_told(rt: HostRuntime) -> Mem<()> {
+    assert_told(&rt, rt.alloc(), 64, &NO_WATCH)
+}
+
+#[test]
 fn alarm_follows_its_rule(rt: HostRuntime) -> Mem<()> {
     let alloc = rt.alloc();
     assert_cases(&rt, alloc, 0, &OF_THIS_MEMBER)?;
@@ -232,4 +244,9 @@ fn quota_is_asked_of_the_branch_taken(rt: HostRuntime) -> Mem<()> {
 #[test]
 fn refuses_what_is_looked_up(rt: HostRuntime) -> Mem<()> {
     assert_told(&rt, rt.alloc(), 64, &REFUSALS)
+}
+
+#[test]
+fn watches_are_told_and_canceled(rt: HostRuntime) -> Mem<()> {
+    assert_told(&rt, rt.alloc(), 64, &WATCHES)
 }

@@ -19,7 +19,6 @@ use Rattle.etcd_model.specs.declared.state.Lease.{Lease}
 use Rattle.etcd_model.specs.declared.state.State.{State}
 use Rattle.etcd_model.specs.Order.{beside, put_in, by_key}
 use Rattle.etcd_model.specs.Interval.{every_key, is_in}
-use Rattle.etcd_model.specs.Fields.{is_empty}
 use Rattle.etcd_model.specs.Operations.{has_lease}
 use Rattle.etcd_model.specs.Leases.{attached, finish, run_out}
 use Rattle.etcd_model.specs.Store.{Store, IsStore, after, compact, reads_of, kept_store}
@@ -35,7 +34,7 @@ use Rattle.model_laws.proofs.EndsLaws.{among, filter_all, filter_twice, in_order
 use Rattle.model_laws.proofs.HistoryKeptLaws.{rows_kept}
 use Rattle.model_laws.proofs.LastIsLaws.{all_in}
 use Rattle.model_laws.proofs.LeaseLaws.{filter-swap, put_first, same_id}
-use Rattle.model_laws.proofs.LeasedLaws.{first_key}
+use Rattle.model_laws.proofs.LeasedLaws.{among_all}
 use Rattle.model_laws.proofs.PendingLaws.{rows_after_delete, rows_after_put, rows_at_next}
 use Rattle.model_laws.proofs.RowLaws.{by_key_total, live-key, rows_inside, rows_rise}
 use Rattle.model_laws.proofs.SpaceLaws.{after_is_store}
@@ -113,26 +112,26 @@ module _ (p : KeyValue → Bool) (row : KeyValue) where
 abbrev has : ℤ → KeyValue → Bool
 has id row = int_eq row.lease id
 
--- any key but the empty one
+-- any key
 abbrev inside : KeyValue → Bool
-inside row = is_in (0 ∷ []) (0 ∷ []) row.key
+inside row = is_in [] (0 ∷ []) row.key
 
 leased_of : (s : Store) (cs : List Change) (id : ℤ) → IsStore s → leased_rows (after s cs) id ≡ filter (has id) (filter inside (rows_next s cs))
 leased_of s cs id is =
-    ap (filter (has id)) (sym (rows_at_next s cs (is_in (0 ∷ []) (0 ∷ [])) is) ∙ rows_inside (after s cs).changes (after_is_store s cs is).own (s.current + 1) (is_in (0 ∷ []) (0 ∷ [])))
+    ap (filter (has id)) (sym (rows_at_next s cs (is_in [] (0 ∷ [])) is) ∙ rows_inside (after s cs).changes (after_is_store s cs is).own (s.current + 1) (is_in [] (0 ∷ [])))
 
 pub leased_ascend : (s : Store) (id : ℤ) → IsStore s → IsStrictlySortedBy by_key (leased_rows s id)
 leased_ascend s id is =
-    IsStrictlySortedBy-filter by_key (has id) ((reads_of s).rows (0 ∷ []) (0 ∷ [])) (rows_rise s.changes is.own s.current (is_in (0 ∷ []) (0 ∷ [])))
+    IsStrictlySortedBy-filter by_key (has id) ((reads_of s).rows [] (0 ∷ [])) (rows_rise s.changes is.own s.current (is_in [] (0 ∷ [])))
 
-pub leased_after_put : (s : Store) (cs : List Change) (key value : List ℕ) (lease id : ℤ) (row : KeyValue) → IsStore s → is_empty key ≡ false
+pub leased_after_put : (s : Store) (cs : List Change) (key value : List ℕ) (lease id : ℤ) (row : KeyValue) → IsStore s
     → (reads_of (after s (cs ++ Set key value lease ∷ []))).row key ≡ Some row
     → leased_rows (after s (cs ++ Set key value lease ∷ [])) id
     ≡ (if int_eq row.lease id then put_in by_key (leased_rows (after s cs) id) row else without_key key (leased_rows (after s cs) id))
-leased_after_put s cs key value lease id row is some shown =
+leased_after_put s cs key value lease id row is shown =
     leased_of s (cs ++ Set key value lease ∷ []) id is
     ∙ ap (λ rs. filter (has id) (filter inside rs)) (rows_after_put s cs key value lease row is shown)
-    ∙ ap (filter (has id)) (passing_put inside row (ap (is_in (0 ∷ []) (0 ∷ [])) own ∙ first_key key some) (rows_next s cs) up)
+    ∙ ap (filter (has id)) (passing_put inside row (among_all row.key) (rows_next s cs) up)
     ∙ by (int_eq row.lease id) refl
   where
     own : row.key ≡ key
@@ -228,17 +227,17 @@ filter_within p q (x ∷ xs) within = step (p x) (q x) refl refl (filter_within 
     step true false e f rest = absurd (true≢false (sym (within x e) ∙ f))
 
 -- the end of a lease takes its rows
-finish_leaves : (s : Store) (id other : ℤ) → IsStore s → leased_rows (finished s id) other ≡ filter (has other) (filter (λ row. not (has id row)) ((reads_of s).rows (0 ∷ []) (0 ∷ [])))
+finish_leaves : (s : Store) (id other : ℤ) → IsStore s → leased_rows (finished s id) other ≡ filter (has other) (filter (λ row. not (has id row)) ((reads_of s).rows [] (0 ∷ [])))
 finish_leaves s id other is =
-    let rows = (reads_of s).rows (0 ∷ []) (0 ∷ []) in
+    let rows = (reads_of s).rows [] (0 ∷ []) in
     let stays : KeyValue → Bool = λ row. not (list_any (bytes_eq row.key) (keys_of (has id) rows)) in
     deletes_leave s [] (attached (reads_of s) id) other is
     ∙ filter-swap stays (has other) rows
-    ∙ ap (filter (has other)) (filter_alike stays (λ row. not (has id row)) rows (λ row there. ap not (key_among (has id) rows row (rows_rise s.changes is.own s.current (is_in (0 ∷ []) (0 ∷ []))) there)))
+    ∙ ap (filter (has other)) (filter_alike stays (λ row. not (has id row)) rows (λ row there. ap not (key_among (has id) rows row (rows_rise s.changes is.own s.current (is_in [] (0 ∷ []))) there)))
 
 pub leased_by_ended : (s : Store) (id : ℤ) → IsStore s → leased_rows (finished s id) id ≡ []
 leased_by_ended s id is =
-    finish_leaves s id id is ∙ filter_neither (has id) (λ row. not (has id row)) ((reads_of s).rows (0 ∷ []) (0 ∷ [])) (λ row. turned (has id row))
+    finish_leaves s id id is ∙ filter_neither (has id) (λ row. not (has id row)) ((reads_of s).rows [] (0 ∷ [])) (λ row. turned (has id row))
   where
     turned : (b : Bool) → not b ≡ true → b ≡ false
     turned true e = absurd (true≢false (sym e))
@@ -246,7 +245,7 @@ leased_by_ended s id is =
 
 pub leased_by_others : (s : Store) (id other : ℤ) → IsStore s → int_eq other id ≡ false → leased_rows (finished s id) other ≡ leased_rows s other
 leased_by_others s id other is apart =
-    finish_leaves s id other is ∙ filter_within (has other) (λ row. not (has id row)) ((reads_of s).rows (0 ∷ []) (0 ∷ []))
+    finish_leaves s id other is ∙ filter_within (has other) (λ row. not (has id row)) ((reads_of s).rows [] (0 ∷ []))
     (λ row mine. ap not (ap (λ z. int_eq z id) (same_id row.lease other mine) ∙ apart))
 
 -- ---- the ends of all that have run out
@@ -286,4 +285,4 @@ run_out_has moment leases l up there = turned (run_out moment leases) ∙ in_ord
 -- ---- a compaction
 
 pub leased_after_compaction : (s : Store) (r : ℕ) (id : ℤ) → IsStore s → r ≤ s.current → leased_rows (compact s r) id ≡ leased_rows s id
-leased_after_compaction s r id is le = ap (filter (has id)) (rows_kept (is_in (0 ∷ []) (0 ∷ [])) r s.current s.changes le is.rises is.own)
+leased_after_compaction s r id is le = ap (filter (has id)) (rows_kept (is_in [] (0 ∷ [])) r s.current s.changes le is.rises is.own)

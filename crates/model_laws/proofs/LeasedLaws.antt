@@ -112,7 +112,7 @@ keyed_ops H has (DeleteOp d ∷ ops) pending h keyed =
 keyed_ops H has (Nested ∷ ops) pending h keyed = keyed_ops H has ops (pending ++ []) h (subst Keyed (sym (append-nil pending)) keyed)
 
 keyed_attached : (H : History) → HasKeys H → (id : ℤ) → Keyed (map Del (attached (history_reads H) id))
-keyed_attached H has id = from (history_rows H (is_in (0 ∷ []) (0 ∷ [])) (current H)) (rows_have_keys H has (is_in (0 ∷ []) (0 ∷ [])) (current H))
+keyed_attached H has id = from (history_rows H (is_in [] (0 ∷ [])) (current H)) (rows_have_keys H has (is_in [] (0 ∷ [])) (current H))
   where
     from : (rs : List KeyValue) → AllByRecursion (λ row. is_empty row.key ≡ false) rs → Keyed (map Del (map (λ row. row.key) (filter (λ row. int_eq row.lease id) rs)))
     from [] all = tt
@@ -257,28 +257,27 @@ found_key key (r ∷ rs) row is = step (found_key key rs row) (bytes_eq r.key ke
     step rest true g = refl
     step rest false g = rest g
 
-pub first_key : (key : List ℕ) → is_empty key ≡ false → is_in (0 ∷ []) (0 ∷ []) key ≡ true
-first_key [] h = absurd (true≢false h)
-first_key (zero ∷ []) h = refl
-first_key (zero ∷ b ∷ bs) h = refl
-first_key (suc b ∷ bs) h = grind (arith, nat_tests)
+-- every key is from the empty one on
+pub among_all : (key : List ℕ) → is_in [] (0 ∷ []) key ≡ true
+among_all [] = refl
+among_all (b ∷ bs) = refl
 
 -- a live key with a lease is among those that the lease holds
-held_key : (H : History) → HasKeys H → (id : ℤ) (key : List ℕ) (row : KeyValue) → kv H key (current H) ≡ Some row → int_eq row.lease id ≡ true → list_any (λ k. bytes_eq k key) (attached (history_reads H) id) ≡ true
-held_key H has id key row is held =
+held_key : (H : History) (id : ℤ) (key : List ℕ) (row : KeyValue) → kv H key (current H) ≡ Some row → int_eq row.lease id ≡ true → list_any (λ k. bytes_eq k key) (attached (history_reads H) id) ≡ true
+held_key H id key row is held =
     let n = current H in
-    let every : List ℕ → Bool = is_in (0 ∷ []) (0 ∷ []) in
+    let every : List ℕ → Bool = is_in [] (0 ∷ []) in
     let mine : KeyValue → Bool = λ r. bytes_eq r.key key in
     let inside : KeyValue → Bool = λ r. every r.key in
-    let there : find mine (filter inside (history_rows H every_key n)) ≡ Some row = find_filtered mine inside (history_rows H every_key n) row (first_key row.key (row_has_key H has key n row is)) (row_among H key n ∙ is) in
+    let there : find mine (filter inside (history_rows H every_key n)) ≡ Some row = find_filtered mine inside (history_rows H every_key n) row (among_all row.key) (row_among H key n ∙ is) in
     found_key key (filter (λ r. int_eq r.lease id) (history_rows H every n)) row
     (find_filtered mine (λ r. int_eq r.lease id) (history_rows H every n) row held (ap (find mine) (rows-interval H every n) ∙ there))
 
 other_lease : (leases : List Lease) (id lease : ℤ) → int_eq lease id ≡ false → is_leased leases lease ≡ true → is_leased (filter (λ l. not (int_eq l.id id)) leases) lease ≡ true
 other_lease leases id lease apart h = ap (λ b. int_eq lease (pos 0) || b) (any-filter_same (λ (l : Lease). int_eq l.id lease) (λ (l : Lease). not (int_eq l.id id)) true (λ l t. ap not (ap (λ z. int_eq z id) (same_id l.id lease t) ∙ apart)) leases) ∙ h
 
-finish_leased : (S : State History) (id : ℤ) → HasKeys S.store → HoldsLeased S → HoldsLeased (finish machine.history S id)
-finish_leased S id given has key =
+finish_leased : (S : State History) (id : ℤ) → HoldsLeased S → HoldsLeased (finish machine.history S id)
+finish_leased S id has key =
     let H = S.store in
     let ids = attached (history_reads H) id in
     let left = filter (λ (l : Lease). not (int_eq l.id id)) S.leases in
@@ -289,12 +288,11 @@ finish_leased S id given has key =
   where
     still : (o : Option KeyValue) → kv S.store key (current S.store) ≡ o → RowLeased S.leases o → list_any (λ k. bytes_eq k key) (attached (history_reads S.store) id) ≡ false → RowLeased (filter (λ (l : Lease). not (int_eq l.id id)) S.leases) o
     still None is h none = tt
-    still (Some row) is h none = other_lease S.leases id row.lease (false_from_ne_true (int_eq row.lease id) (λ t. true≢false (sym (held_key S.store given id key row is t) ∙ none))) h
+    still (Some row) is h none = other_lease S.leases id row.lease (false_from_ne_true (int_eq row.lease id) (λ t. true≢false (sym (held_key S.store id key row is t) ∙ none))) h
 
-ends_leased : (ls : List Lease) (S : State History) → HasKeys S.store → HoldsLeased S → HoldsLeased (fold (λ T l. finish machine.history T l.id) S ls)
-ends_leased [] S given has = has
-ends_leased (l ∷ ls) S given has =
-    ends_leased ls (finish machine.history S l.id) (keys_after S.store (map Del (attached (reads machine.history S) l.id)) given (keyed_attached S.store given l.id)) (finish_leased S l.id given has)
+ends_leased : (ls : List Lease) (S : State History) → HoldsLeased S → HoldsLeased (fold (λ T l. finish machine.history T l.id) S ls)
+ends_leased [] S has = has
+ends_leased (l ∷ ls) S has = ends_leased ls (finish machine.history S l.id) (finish_leased S l.id has)
 
 -- ---- each step
 
@@ -310,9 +308,9 @@ leased_outcome S (Compact r) given has e = has
 leased_outcome S (Grant g) given has e =
     let id = grant_id S.counter S.leases g.id in
     λ key. leased_more S.leases (record { id = id; ttl = granted_ttl g.ttl; end = S.moment + granted_ttl g.ttl }) (kv S.store key (current S.store)) (has key)
-leased_outcome S (Revoke id) given has e = finish_leased S id given has
+leased_outcome S (Revoke id) given has e = finish_leased S id has
 leased_outcome S (KeepAlive id) given has e = alive_leased S id (lease_at S.leases id) has
-leased_outcome S (Tick m) given has e = let later = record S { moment = max S.moment (min m last_moment) } in ends_leased (run_out later.moment later.leases) later given has
+leased_outcome S (Tick m) given has e = let later = record S { moment = max S.moment (min m last_moment) } in ends_leased (run_out later.moment later.leases) later has
 leased_outcome S step given has e = quiet_outcome HoldsLeased S has (λ i w. has) (λ on. has) step refl
 
 before_holds_leased : (S : State History) (step : Step) → HasKeys S.store → HoldsLeased S → HoldsLeased (machine.before_space S step).state

@@ -89,10 +89,10 @@ branch_changes_once s ops is distinct key = branch_once (kept_store.look s) key 
 pub finish_changes_once : (s : Store) (id : ℤ) → IsStore s → IsOnce (map Del (attached (reads_of s) id))
 finish_changes_once s id is key =
     let held : KeyValue → Bool = λ row. int_eq row.lease id in
-    let rs = rows (is_in (0 ∷ []) (0 ∷ [])) s.current s.changes in
+    let rs = rows (is_in [] (0 ∷ [])) s.current s.changes in
     at_most_one (changes_of key (map Del (attached (reads_of s) id)))
     (subst (λ cs. IsDeleteAtMost (changes_of key cs)) (sym (map-map Del (λ (row : KeyValue). row.key) (filter held rs)))
-    (one_delete key (filter held rs) (IsStrictlySortedBy-filter by_key held rs (rows_rise s.changes is.own s.current (is_in (0 ∷ []) (0 ∷ []))))))
+    (one_delete key (filter held rs) (IsStrictlySortedBy-filter by_key held rs (rows_rise s.changes is.own s.current (is_in [] (0 ∷ []))))))
 
 -- ---- where each key is there once
 

@@ -227,7 +227,7 @@ all_passed s cs p (r ∷ rs) all = elim (p r) as (λ b. AllLive s cs (cond b (r 
 
 pub finish_takes_none : (s : Store) (id : ℤ) → IsStore s → counted_cells (after s (map Del (attached (reads_of s) id))) ≡ counted_cells s
 finish_takes_none s id is =
-    let every : List ℕ → Bool = is_in (0 ∷ []) (0 ∷ []) in
+    let every : List ℕ → Bool = is_in [] (0 ∷ []) in
     let held : KeyValue → Bool = λ row. int_eq row.lease id in
     let n = s.current + 1 in
     let rs = rows every n s.changes in
@@ -285,7 +285,7 @@ pub finish_takes_keys : (s : Store) (id : ℤ) → IsStore s
     → length (rows every_key (after s (map Del (attached (reads_of s) id))).current (after s (map Del (attached (reads_of s) id))).changes) + length (attached (reads_of s) id)
     ≡ length (rows every_key s.current s.changes)
 finish_takes_keys s id is =
-    let every : List ℕ → Bool = is_in (0 ∷ []) (0 ∷ []) in
+    let every : List ℕ → Bool = is_in [] (0 ∷ []) in
     let held : KeyValue → Bool = λ row. int_eq row.lease id in
     let n = s.current + 1 in
     let rs = filter held (rows every n s.changes) in

@@ -12,7 +12,6 @@ use Rattle.etcd_model.specs.declared.state.Change.TheVariants.{Put as Set, Delet
 use Rattle.etcd_model.specs.declared.state.Lease.{Lease}
 use Rattle.etcd_model.specs.declared.state.State.{State}
 use Rattle.etcd_model.specs.Order.{put_in, by_key}
-use Rattle.etcd_model.specs.Fields.{is_empty}
 use Rattle.etcd_model.specs.Operations.{has_lease}
 use Rattle.etcd_model.specs.Leases.{run_out}
 use Rattle.etcd_model.specs.Store.{Store, IsStore, after, compact, reads_of}
@@ -23,7 +22,7 @@ use Rattle.model_laws.specs.Space.{finished}
 
 -- the rows of the keys that a lease holds: `attached` are their keys
 abbrev pub leased_rows : Store → ℤ → List KeyValue
-leased_rows s id = filter (λ row. int_eq row.lease id) ((reads_of s).rows (0 ∷ []) (0 ∷ []))
+leased_rows s id = filter (λ row. int_eq row.lease id) ((reads_of s).rows [] (0 ∷ []))
 
 -- the rows but for that of a key
 abbrev pub without_key : List ℕ → List KeyValue → List KeyValue
@@ -35,8 +34,7 @@ pub record AttachedLaws : Type 0 where
   -- With some changes before it in its revision, a put gives its row to the lease that it names, in the place
   -- of its key, and takes the key off any other lease.
   pub leased_after_put : (s : Store) (cs : List Change) (key value : List ℕ) (lease id : ℤ) (row : KeyValue)
-      → IsStore s → is_empty key ≡ false
-      → (reads_of (after s (cs ++ Set key value lease ∷ []))).row key ≡ Some row
+      → IsStore s → (reads_of (after s (cs ++ Set key value lease ∷ []))).row key ≡ Some row
       → leased_rows (after s (cs ++ Set key value lease ∷ [])) id
       ≡ (if int_eq row.lease id then put_in by_key (leased_rows (after s cs) id) row
       else without_key key (leased_rows (after s cs) id))

@@ -2,14 +2,12 @@
 #![tactic(auto)]
 
 mod branch;
-mod offered;
 mod put;
 mod step;
 #[cfg(test)]
 mod tests;
 mod txn;
 
-pub use offered::is_offered;
 pub use put::put_fields;
 pub use step::fields;
 pub use txn::check_txn;

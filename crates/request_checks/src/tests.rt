@@ -1,11 +1,11 @@
-//! What requests are refused for, and what is offered.
+//! What requests are refused for.
 //!
 //! A request is moved into the function that judges it: a way out of a test that drops requests is long
 //! to prove.
-use crate::{check_txn, fields, is_offered, put_fields};
+use crate::{check_txn, fields, put_fields};
 use etcd_types::{
     AlarmAction, AlarmKind, AlarmReq, Compare, CompareResult, DeleteReq, GrantReq, List, Mem, Op,
-    Operand, PutReq, RangeReq, Refusal, SortOrder, SortTarget, Step, TxnReq, WatchReq,
+    Operand, PutReq, RangeReq, Refusal, SortOrder, SortTarget, Step, TxnReq,
 };
 use std::alloc::Global;
 use std::process::Abort;
@@ -283,70 +283,4 @@ fn grants_and_alarms(rt: HostRuntime) {
     for (action, alarm, wanted) in ALARMS.iter() {
         assert_met(&rt, alarm_refusal(*action, *alarm), *wanted, "alarm");
     }
-}
-
-/// A put that attaches its key to a lease and asks for what was there.
-fn leased(alloc: Global) -> Mem<PutReq> {
-    let mut request = put(alloc, b"a")?;
-    request.lease = 1;
-    request.prev_kv = true;
-    Ok(request)
-}
-
-/// A range with a limit at an old revision.
-fn limited(alloc: Global) -> Mem<RangeReq> {
-    let mut request = range(alloc, b"a")?;
-    request.limit = 1;
-    request.revision = 2;
-    Ok(request)
-}
-
-/// A watch of one key.
-fn watch(alloc: Global) -> Mem<WatchReq> {
-    Ok(WatchReq {
-        key: List::from_slice(alloc, b"a")?,
-        range_end: List::new(alloc),
-        start_revision: 0,
-        no_put: false,
-        no_delete: false,
-        prev_kv: false,
-        watch_id: 0,
-        progress_notify: false,
-    })
-}
-
-/// Whether a step is offered.
-fn offers(step: Step) -> bool {
-    is_offered(&step)
-}
-
-/// Reads, puts and deletes with every member, transactions, and maintenance.
-#[test]
-fn offered(rt: HostRuntime) -> Mem<()> {
-    let alloc = rt.alloc();
-    let alarm = AlarmReq {
-        action: AlarmAction::Deactivate,
-        member: 2,
-        alarm: AlarmKind::NoSpace,
-    };
-    assert!(rt; offers(Step::Range(limited(alloc)?)));
-    assert!(rt; offers(Step::Put(leased(alloc)?)));
-    assert!(rt; offers(Step::Delete(delete(alloc, b"a", b"b")?)));
-    assert!(rt; offers(Step::Txn(txn_of(alloc, 0, 0, 0)?)));
-    assert!(rt; offers(Step::Compact(-1)));
-    assert!(rt; offers(Step::Alarm(alarm)));
-    assert!(rt; offers(Step::Status));
-    assert!(rt; offers(Step::Defragment));
-    Ok(())
-}
-
-#[test]
-fn not_offered(rt: HostRuntime) -> Mem<()> {
-    let alloc = rt.alloc();
-    assert!(rt; !offers(Step::Grant(GrantReq { ttl: 5, id: 0 })));
-    assert!(rt; !offers(Step::Leases));
-    assert!(rt; !offers(Step::Watch(watch(alloc)?)));
-    assert!(rt; !offers(Step::Take(0)));
-    assert!(rt; !offers(Step::Tick(1)));
-    Ok(())
 }

@@ -56,10 +56,10 @@ shown_rows_stay old new r xs (c ∷ cs) (row ∷ rs) stay shown are =
 pub leased_are_shown : (s : Store) (id : ℤ) → IsStore s → AreShown s.current s.changes (leased_rows s id)
 leased_are_shown s id is =
     let own : (k : List ℕ) (row : KeyValue) → live k s.current s.changes ≡ Some row → row.key ≡ k = λ k row e. live-key s.changes is.own k s.current row e in
-    all_passing (λ row. live row.key s.current s.changes ≡ Some row) (λ row. int_eq row.lease id) (rows (is_in (0 ∷ []) (0 ∷ [])) s.current s.changes)
-    (recursion_from_All (λ (row : KeyValue). live row.key s.current s.changes ≡ Some row) (rows (is_in (0 ∷ []) (0 ∷ [])) s.current s.changes)
+    all_passing (λ row. live row.key s.current s.changes ≡ Some row) (λ row. int_eq row.lease id) (rows (is_in [] (0 ∷ [])) s.current s.changes)
+    (recursion_from_All (λ (row : KeyValue). live row.key s.current s.changes ≡ Some row) (rows (is_in [] (0 ∷ [])) s.current s.changes)
     (all_rows (λ k. live k s.current s.changes) own (λ row. live row.key s.current s.changes ≡ Some row)
-    (λ k row e. ap (λ a. live a s.current s.changes) (own k row e) ∙ e) (filter (is_in (0 ∷ []) (0 ∷ [])) (keys s.changes))))
+    (λ k row e. ap (λ a. live a s.current s.changes) (own k row e) ∙ e) (filter (is_in [] (0 ∷ [])) (keys s.changes))))
 
 -- ---- their deletes
 
@@ -112,14 +112,14 @@ module _ (store : StoreState) where
     end_costs : costs_in (cells store) (head_deletes heads) ≤ reserved_cells store.kept.current store.kept.changes
     end_costs =
         let f : KeyValue → ℕ = λ row. cost_delete row.key in
-        let inside = rows (is_in (0 ∷ []) (0 ∷ [])) store.kept.current store.kept.changes in
+        let inside = rows (is_in [] (0 ∷ [])) store.kept.current store.kept.changes in
         let all = rows every_key store.kept.current store.kept.changes in
         omega (
           arith,
           deletes_cost heads (leased_rows store.kept id) are,
           fewer f (λ row. int_eq row.lease id) inside,
-          fewer f (λ row. is_in (0 ∷ []) (0 ∷ []) row.key) all,
-          ap (sum_by f) (rows_inside store.kept.changes sound.kept.own store.kept.current (is_in (0 ∷ []) (0 ∷ []))),
+          fewer f (λ row. is_in [] (0 ∷ []) row.key) all,
+          ap (sum_by f) (rows_inside store.kept.changes sound.kept.own store.kept.current (is_in [] (0 ∷ []))),
         )
 
     -- so they can be committed where all that counts is within the reservation, and a revision is left

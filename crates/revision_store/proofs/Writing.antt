@@ -1,6 +1,7 @@
 -- What is written one after another is written all together.
 use Rattle.std.proofs.Common.{◌≡◌, ℕ, ◌+◌, ◌<◌, ◌≤◌, List, [], ◌∷◌, ◌++◌, map, IsSome, Option, Some, None, option_map, unwrap_or, refl, ap, sym, subst, ◌∙◌, arith, append_assoc, length, get_or, drop, drop-cons, add-one}
 use Rattle.std.specs.List.{AllByRecursion}
+use Rattle.std.proofs.lemmas.List.{append-nil}
 use Rattle.std.proofs.lemmas.List.Sums.{sum_by-cons}
 use Rattle.etcd_model.specs.Changes.{Recorded}
 use Rattle.etcd_model.specs.Kept.{cost_delete}
@@ -107,3 +108,13 @@ ahead_here ws i w h is = rw (drop-cons ws i w h, ← is, add-one) refl
 
 pub deletes_here : (cs : List ℕ) (i : ℕ) (c : ℕ) → i < length cs → c ≡ get_or cs i c → head_deletes (drop i cs) ≡ Delete c ∷ head_deletes (drop (i + 1) cs)
 deletes_here cs i c h is = rw (drop-cons cs i c h, ← is, add-one) refl
+
+-- nothing is ahead
+pub all_appended : (old now : LogState) (revision : ℕ) (writes : List Write) → IsAppending old now revision writes [] → Appends old now revision writes
+all_appended old now revision writes end = record {
+  changes = sym (append-nil now.changes) ∙ end.changes;
+  stay = end.stay;
+  free = omega (arith, end.free);
+  leases = end.leases;
+  lease_cells = end.lease_cells;
+}

@@ -1,5 +1,6 @@
 //! The kept changes under cells: in order, and by their keys. And the records of leases.
-ghost use Rattle.std.specs.Prelude.{◌≡◌, ℕ, ◌+◌, ◌*◌, ◌%◌, ◌<◌, ◌≤◌, ◌^◌, ◌∷◌, [], IfOk, IsSome, None};
+ghost use Rattle.std.specs.Prelude.{◌≡◌, ℕ, ◌+◌, ◌*◌, ◌%◌, ◌<◌, ◌≤◌, ◌^◌, ◌∷◌, [], List, IfOk, IsSome, None};
+ghost use Rattle.std.specs.Iterator.{AlwaysYields, IsFinite};
 ghost use Rattle.std.specs.List.{AllByRecursion};
 ghost use Rattle.std.specs.FinMap as finite;
 ghost use Rattle.cell_arena.specs.Loan.{IsLent, Settles, DrawsFor, DrawsNone, IsBusy};
@@ -99,20 +100,24 @@ impl Log {
         }
     }
 
-    /// Deletes the keys of the changes under some cells at a revision, one after another.
-    pub(crate) fn append_deletes<S: Segments>(
+    /// Deletes the keys of the changes under the cells that come at a revision, one after another.
+    pub(crate) fn append_deletes<S: Segments, I: Iterator<Item = CellNo> + Drop>(
         &mut self,
         segments: &mut S,
-        heads: &[CellNo],
+        heads: I,
         revision: u64,
     )
-        requires takes { CanAppend self.old revision (head_deletes heads.now) }
+        ghost list: { List ℕ }
+        requires next { I.can_next heads }
+        requires ends { IsFinite (I.remaining heads) }
+        requires gives { AlwaysYields I.next_gives (λ cell. cell) heads list }
+        requires takes { CanAppend self.old revision (head_deletes list) }
         requires lent { IsLent self.old.share (S.loan segments.old) }
-        ensures appends { Appends self.old self.new revision (head_deletes heads.now) }
+        ensures appends { Appends self.old self.new revision (head_deletes list) }
         ensures settles { Settles self.old.share (S.loan segments.old) self.new.share (S.loan segments.new) }
     {
         for head in heads {
-            self.append(segments, &Write::Delete(*head), revision);
+            self.append(segments, &Write::Delete(head), revision);
         }
     }
 

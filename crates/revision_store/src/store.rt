@@ -1,6 +1,7 @@
 //! The store of one tenant.
 ghost use Rattle.std.specs.Prelude.{length, ◌≡◌, ◌+◌, ◌%◌, ◌/◌, ◌<◌, ◌≤◌, ◌^◌, ℕ, ℤ, pos, IfOk, IsSome};
-ghost use Rattle.std.specs.Prelude.{None, is_none};
+ghost use Rattle.std.specs.Prelude.{List, None, is_none};
+ghost use Rattle.std.specs.Iterator.{AlwaysYields, IsFinite};
 ghost use Rattle.std.specs.FinMap as map;
 ghost use Rattle.cell_arena.specs.Loan.{IsLent, Settles, DrawsNone};
 ghost use Rattle.etcd_model.specs.Store.{compact, record_cells};
@@ -92,11 +93,19 @@ impl Store {
 
     /// Deletes some live keys in one revision, in this order, by the cells of their rows, and
     /// answers the revision. It takes no memory and cannot fail.
-    pub fn delete_heads<S: Segments>(&mut self, segments: &mut S, heads: &[CellNo]) -> i64
-        requires some { 0 < length heads.now }
-        requires fits { CanCommit self.old (head_deletes heads.now) }
+    pub fn delete_heads<S: Segments, I: Iterator<Item = CellNo> + Drop>(
+        &mut self,
+        segments: &mut S,
+        heads: I,
+    ) -> i64
+        ghost list: { List ℕ }
+        requires next { I.can_next heads }
+        requires ends { IsFinite (I.remaining heads) }
+        requires gives { AlwaysYields I.next_gives (λ cell. cell) heads list }
+        requires some { 0 < length list }
+        requires fits { CanCommit self.old (head_deletes list) }
         requires lent { IsLent self.old.share (S.loan segments.old) }
-        ensures commits { Commits self.old self.new (head_deletes heads.now) }
+        ensures commits { Commits self.old self.new (head_deletes list) }
         ensures revision { result ≡ pos self.new.kept.current }
         ensures settles { Settles self.old.share (S.loan segments.old) self.new.share (S.loan segments.new) }
     {

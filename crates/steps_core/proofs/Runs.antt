@@ -13,7 +13,9 @@ use Rattle.etcd_types.specs.declared.reply.Reply.TheVariants.{Refused}
 use Rattle.etcd_model.specs.declared.state.History.{History}
 use Rattle.etcd_model.specs.declared.state.State.{State}
 use Rattle.etcd_model.specs.Alone.{is_catch_up}
-use Rattle.etcd_model.specs.Offered.{built_machine}
+use Rattle.etcd_model.specs.Machine.{history, machine}
+use Rattle.etcd_model.specs.Tenant.{Outcome}
+use Rattle.etcd_model.proofs.QuietSteps.{catch_up_is_done}
 use Rattle.tenant_machine.specs.Deciding.{is_stopped}
 use Rattle.tenant_machine.specs.Plans.{takes_memory}
 use Rattle.tenant_machine.specs.Tenants.{MachineState, tenant}
@@ -23,11 +25,11 @@ use Rattle.steps_core.proofs.Lists.{all-push, all-front}
 
 built_replies-append : (S : State History) (xs ys : List Step) → built_replies S (xs ++ ys) ≡ built_replies S xs ++ built_replies (built_state S xs) ys
 built_replies-append S [] ys = refl
-built_replies-append S (x ∷ xs) ys = ap (λ rs. (built_machine S x).reply ∷ rs) (built_replies-append (built_machine S x).state xs ys)
+built_replies-append S (x ∷ xs) ys = ap (λ rs. (machine S x).reply ∷ rs) (built_replies-append (machine S x).state xs ys)
 
 built_state-append : (S : State History) (xs ys : List Step) → built_state S (xs ++ ys) ≡ built_state (built_state S xs) ys
 built_state-append S [] ys = refl
-built_state-append S (x ∷ xs) ys = built_state-append (built_machine S x).state xs ys
+built_state-append S (x ∷ xs) ys = built_state-append (machine S x).state xs ys
 
 step_turns-push : {A : Type 0} (cs : List (Vec ℕ A × Step)) (c : Vec ℕ A × Step) (rs : List Reply) (r : Reply) → length rs ≡ length cs → step_turns (cs ++ c ∷ []) (rs ++ r ∷ []) ≡ step_turns cs rs ++ step_turn c.0.items c.1 r ∷ []
 step_turns-push [] c [] r h = refl
@@ -51,7 +53,7 @@ named_there t (e ∷ es) = by (bytes_eq t e.0) (named_there t es)
     by false rest = rest
 
 -- a tenant is there if its name is
-there_by_names : (old new : HostState) (t : List ℕ) → names_of new ≡ names_of old → has_tenant new t ≡ has_tenant old t
+pub there_by_names : (old new : HostState) (t : List ℕ) → names_of new ≡ names_of old → has_tenant new t ≡ has_tenant old t
 there_by_names old new t same = named_there t new.tenants ∙ ap (named t) same ∙ sym (named_there t old.tenants)
 
 none_there : {X : Type 0} (o : Option X) → is_some o ≡ false → o ≡ None
@@ -74,17 +76,21 @@ unanswered (Refused Memory) h = refl
 unanswered r h = absurd (true≢false (sym h))
 
 -- a catch-up changes nothing, takes no memory, and is answered alike in all states
-catch_up : (S T : State History) (t : List ℕ) (step : Step) (r : Reply) → is_catch_up (step_event (step_turn t step r)) ≡ true → ((built_machine S step).reply ≡ (built_machine T step).reply) × ((built_machine S step).state ≡ S) × (takes_memory step ≡ false)
-catch_up S T t (CatchUp n) r h = (refl, refl, refl)
+catch_up : (S T : State History) (t : List ℕ) (step : Step) (r : Reply) → is_catch_up (step_event (step_turn t step r)) ≡ true → ((machine S step).reply ≡ (machine T step).reply) × ((machine S step).state ≡ S) × (takes_memory step ≡ false)
+catch_up S T t (CatchUp n) r h = (
+  ap (λ (o : Outcome History). o.reply) (catch_up_is_done history S n) ∙ sym (ap (λ (o : Outcome History). o.reply) (catch_up_is_done history T n)),
+  ap (λ (o : Outcome History). o.state) (catch_up_is_done history S n),
+  refl,
+)
 catch_up S T t step r h = absurd (true≢false (sym h))
 
 -- what a step of the tenant that holds S leaves
-own_step : (mid new : HostState) (t : List ℕ) (step : Step) (reply : Reply) (S : State History) → reply ≢ Refused Memory → HoldsAt mid t S → StepsAt mid t step reply new → (reply ≡ (built_machine S step).reply) × HoldsAt new t (built_machine S step).state
+own_step : (mid new : HostState) (t : List ℕ) (step : Step) (reply : Reply) (S : State History) → reply ≢ Refused Memory → HoldsAt mid t S → StepsAt mid t step reply new → (reply ≡ (machine S step).reply) × HoldsAt new t (machine S step).state
 own_step mid new t step reply S said held steps =
     let after = steps.own held.machine held.is in
     (after.2.told S held.holds said, record { machine = after.0; is = after.1; holds = after.2.state S held.holds said })
 
-caught : (mid new : HostState) (t : List ℕ) (x : StepTurn) (S T : State History) → t ≡ x.tenant → is_catch_up (step_event x) ≡ true → HoldsAt mid t S → StepsAt mid x.tenant x.step x.reply new → (x.reply ≡ (built_machine T x.step).reply) × HoldsAt new t S
+caught : (mid new : HostState) (t : List ℕ) (x : StepTurn) (S T : State History) → t ≡ x.tenant → is_catch_up (step_event x) ≡ true → HoldsAt mid t S → StepsAt mid x.tenant x.step x.reply new → (x.reply ≡ (machine T x.step).reply) × HoldsAt new t S
 caught mid new t x S T same catch held steps =
     let c = catch_up S T x.tenant x.step x.reply catch in
     let here : HoldsAt mid x.tenant S = subst (λ u. HoldsAt mid u S) same held in
@@ -105,17 +111,17 @@ left_out mid new t x S held steps h = by (bytes_eq t x.tenant) (is_catch_up (ste
     by true false false i j k h = absurd (true≢false h)
 
 -- a step that is
-taken_in : (mid new : HostState) (t : List ℕ) (x : StepTurn) (S : State History) → HoldsAt mid t S → StepsAt mid x.tenant x.step x.reply new → is_own_step t x ≡ true → (x.reply ≡ (built_machine S x.step).reply) × HoldsAt new t (built_machine S x.step).state
+taken_in : (mid new : HostState) (t : List ℕ) (x : StepTurn) (S : State History) → HoldsAt mid t S → StepsAt mid x.tenant x.step x.reply new → is_own_step t x ≡ true → (x.reply ≡ (machine S x.step).reply) × HoldsAt new t (machine S x.step).state
 taken_in mid new t x S held steps h = by (bytes_eq t x.tenant) (is_catch_up (step_event x)) (found_none x.reply) refl refl h
   where
-    by : (a b c : Bool) → bytes_eq t x.tenant ≡ a → found_none x.reply ≡ c → (a && (not b && not c)) ≡ true → (x.reply ≡ (built_machine S x.step).reply) × HoldsAt new t (built_machine S x.step).state
+    by : (a b c : Bool) → bytes_eq t x.tenant ≡ a → found_none x.reply ≡ c → (a && (not b && not c)) ≡ true → (x.reply ≡ (machine S x.step).reply) × HoldsAt new t (machine S x.step).state
     by false b c i k h = absurd (true≢false (sym h))
     by true true c i k h = absurd (true≢false (sym h))
     by true false true i k h = absurd (true≢false (sym h))
     by true false false i k h =
         let same : t ≡ x.tenant = (bytes_decides t x.tenant).0 i in
         let after = own_step mid new x.tenant x.step x.reply S (answered x.reply k) (subst (λ u. HoldsAt mid u S) same held) steps in
-        (after.0, subst (λ u. HoldsAt new u (built_machine S x.step).state) (sym same) after.1)
+        (after.0, subst (λ u. HoldsAt new u (machine S x.step).state) (sym same) after.1)
 
 one_more : (mid new : HostState) (t : List ℕ) (x : StepTurn) (S : State History) → HoldsAt mid t S → StepsAt mid x.tenant x.step x.reply new → (replies_of (own_steps t (x ∷ [])) ≡ built_replies S (steps_of (own_steps t (x ∷ [])))) × HoldsAt new t (built_state S (steps_of (own_steps t (x ∷ []))))
 one_more mid new t x S held steps = by (is_own_step t x) refl

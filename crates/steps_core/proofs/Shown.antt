@@ -44,7 +44,7 @@ apart t u k differ h = by (bytes_eq u k) refl
     by false e = e
     by true e = absurd (differ ((bytes_decides u k).0 e ∙ sym ((bytes_decides t k).0 h)))
 
-pub others_set : {A : Type 0} (t u : List ℕ) (es : List (Vec ℕ A × Tenant)) (w : Tenant) → u ≢ t → lookup (test u) (set_value (test t) es w) ≡ lookup (test u) es
+pub others_set : {A X : Type 0} (t u : List ℕ) (es : List (Vec ℕ A × X)) (w : X) → u ≢ t → lookup (test u) (set_value (test t) es w) ≡ lookup (test u) es
 others_set t u [] w differ = refl
 others_set t u (e ∷ es) w differ = by (bytes_eq t e.0.items) refl (others_set t u es w differ)
   where
@@ -55,7 +55,7 @@ others_set t u (e ∷ es) w differ = by (bytes_eq t e.0.items) refl (others_set 
     by true h rest = here h
     by false h rest = ap (λ o. cond (bytes_eq u e.0.items) (Some e.1) o) rest
 
-pub own_set : {A : Type 0} (t : List ℕ) (es : List (Vec ℕ A × Tenant)) (v w : Tenant) → lookup (test t) es ≡ Some v → lookup (test t) (set_value (test t) es w) ≡ Some w
+pub own_set : {A X : Type 0} (t : List ℕ) (es : List (Vec ℕ A × X)) (v w : X) → lookup (test t) es ≡ Some v → lookup (test t) (set_value (test t) es w) ≡ Some w
 own_set t [] v w h = cc
 own_set t (e ∷ es) v w h = by (bytes_eq t e.0.items) refl h (own_set t es v w)
   where

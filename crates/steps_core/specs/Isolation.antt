@@ -9,20 +9,20 @@ use Rattle.etcd_types.specs.declared.reply.Reply.TheVariants.{Refused}
 use Rattle.etcd_model.specs.declared.state.History.{History}
 use Rattle.etcd_model.specs.declared.state.State.{State}
 use Rattle.etcd_model.specs.Alone.{Event, Stepped, is_of, is_catch_up}
-use Rattle.etcd_model.specs.Offered.{built_machine}
+use Rattle.etcd_model.specs.Machine.{machine}
 use Rattle.tenant_machine.specs.Plans.{takes_memory}
 use Rattle.steps_core.specs.Hosts.{HostState, HoldsAt, machine_at, has_tenant, SameTenants}
 
--- ---- a run of the machine as it is built
+-- ---- a run of the machine
 
 abbrev pub built_replies : State History → List Step → List Reply
 built_replies S [] = []
 built_replies S (step ∷ steps) =
-    (built_machine S step).reply ∷ built_replies (built_machine S step).state steps
+    (machine S step).reply ∷ built_replies (machine S step).state steps
 
 abbrev pub built_state : State History → List Step → State History
 built_state S [] = S
-built_state S (step ∷ steps) = built_state (built_machine S step).state steps
+built_state S (step ∷ steps) = built_state (machine S step).state steps
 
 -- ---- own steps
 
@@ -70,7 +70,7 @@ pub record IsToldAlone (t : List ℕ) (S : State History) (xs : List StepTurn) (
   pub holds : HoldsAt new t (built_state S (steps_of (own_steps t xs)))
   -- a catch-up is answered as the machine answers it
   pub catch_ups : AllByRecursion
-      (λ x. x.tenant ≡ t → is_catch_up (step_event x) ≡ true → x.reply ≡ (built_machine S x.step).reply) xs
+      (λ x. x.tenant ≡ t → is_catch_up (step_event x) ≡ true → x.reply ≡ (machine S x.step).reply) xs
 
 -- That is so of each tenant that is there, and of no other anything is told or changed.
 pub record IsIsolated (old : HostState) (xs : List StepTurn) (new : HostState) : Type 0 where

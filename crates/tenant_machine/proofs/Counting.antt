@@ -1,7 +1,9 @@
 -- How many cells are in use after a commit.
-use Rattle.std.proofs.Common.{◌≡◌, ℕ, ◌+◌, ◌*◌, ◌≤◌, List, ap, sym, ◌∙◌, arith}
-use Rattle.std.specs.Prelude.{length, sum_by, ℤ, true, IfSome, Option, Some, None, is_some}
+use Rattle.std.proofs.Common.{◌≡◌, ℕ, ◌+◌, ◌*◌, ◌≤◌, ◌^◌, List, [], ap, refl, subst, sym, ◌∙◌, arith}
+use Rattle.std.specs.Prelude.{length, sum_by, ℤ, pos, negsuc, ◌≤ℤ◌, true, false, IfSome, Option, Some, None, is_some}
 use Rattle.std.specs.List.Sorted.{IsStrictlySortedBy}
+use Rattle.std.proofs.Math.IntN.{nat_abs}
+use Rattle.std.proofs.lemmas.Int.{ints}
 use Rattle.etcd_types.specs.declared.key_value.KeyValue.{KeyValue}
 use Rattle.etcd_model.specs.Interval.{every_key}
 use Rattle.etcd_model.specs.Kept.{cost_delete}
@@ -12,7 +14,7 @@ use Rattle.model_laws.proofs.CounterLaws.{renew_adds_none}
 use Rattle.model_laws.proofs.HistoryKeptLaws.{rows_kept}
 use Rattle.model_laws.proofs.SpaceLaws.{fewer_records}
 use Rattle.revision_store.specs.declared.plan.Write.{Write}
-use Rattle.revision_store.specs.Stored.{StoreState}
+use Rattle.revision_store.specs.Stored.{StoreState, empty_state}
 use Rattle.quota_alarm.specs.declared.quota.Quota.{Quota}
 use Rattle.etcd_model.specs.declared.state.Lease.{Lease}
 use Rattle.etcd_model.specs.Held.{by_id}
@@ -20,9 +22,12 @@ use Rattle.etcd_model.specs.Leases.{lease_at, put_lease}
 use Rattle.etcd_model.specs.Operations.{has_lease}
 use Rattle.etcd_model.specs.Stepping.{kept_alive}
 use Rattle.etcd_model.specs.Order.{put_in}
-use Rattle.lease_book.specs.Book.{Book}
+use Rattle.lease_book.specs.Book.{Book, empty_book}
 use Rattle.lease_book.specs.declared.granting.NewLease.{NewLease}
 use Rattle.tenant_machine.specs.Tenants.{IsMachine, MachineState, cells_used, tenant}
+use Rattle.etcd_types.specs.Limits.{last_revision}
+use Rattle.tenant_machine.proofs.KeepingLeases.{opening_keeps}
+use Rattle.tenant_machine.specs.Keyed.{KeepsLeases}
 use Rattle.tenant_machine.specs.Plans.{FitsCompaction, with_new_end, written}
 
 -- ---- a compaction
@@ -38,24 +43,26 @@ used_after s r within is = omega (arith, reserved_stays s r within is)
 -- ---- a machine after a commit
 
 -- after a write as many cells are in use as were planned
-pub machine_after_write : (store new : StoreState) (leases : Book) (moment : ℕ) (quota : Quota) (writes : List Write) (used : ℕ) → IsMachine store leases moment quota
+pub machine_after_write : (store new : StoreState) (leases after : Book) (moment : ℕ) (quota : Quota) (writes : List Write) (used : ℕ) → IsMachine store leases moment quota
     → used ≡ cells_used (written store writes) leases.leases → used ≤ 64 * store.share.reserved
-    → new.kept ≡ written store writes → new.lease_cells ≡ store.lease_cells → new.share.reserved ≡ store.share.reserved → IsMachine new leases moment (record quota { used = used })
-machine_after_write store new leases moment quota writes used is counted within kept cells reserved = record {
-  used = counted ∙ ap (λ (s : Store). cells_used s leases.leases) (sym kept);
-  leases = cells ∙ is.leases;
-  room = omega (arith, is.room, reserved);
+    → new.kept ≡ written store writes → new.lease_cells ≡ store.lease_cells → new.share.reserved ≡ store.share.reserved
+    → after ≡ record leases { attachments = after.attachments } → KeepsLeases new after moment → IsMachine new after moment (record quota { used = used })
+machine_after_write store new leases after moment quota writes used is counted within kept cells reserved others keeps = record {
+  used = counted ∙ ap (λ (s : Store). cells_used s leases.leases) (sym kept) ∙ ap (λ (b : Book). cells_used new.kept b.leases) (sym others);
+  leases = cells ∙ is.leases ∙ ap (λ (b : Book). length b.leases) (sym others);
+  room = omega (arith, is.room, reserved, ap (λ (b : Book). b.room) others);
   clock = is.clock;
   within = omega (arith, within, reserved);
   allowed = omega (arith, is.allowed, reserved);
   few = omega (arith, is.few, reserved);
+  keeps = keeps;
 }
 
 -- after a compaction the cells in use are fewer by those that records no longer take
 pub machine_after_compaction : (store new : StoreState) (leases : Book) (moment : ℕ) (quota : Quota) (revision used : ℕ) → IsMachine store leases moment quota → IsStore store.kept → FitsCompaction store revision
     → new.kept ≡ compact store.kept revision → new.lease_cells ≡ store.lease_cells → new.share.reserved ≡ store.share.reserved
-    → used + record_cells store.kept.changes ≡ quota.used + record_cells new.kept.changes → IsMachine new leases moment (record quota { used = used })
-machine_after_compaction store new leases moment quota revision used is sound fits kept cells reserved falls =
+    → used + record_cells store.kept.changes ≡ quota.used + record_cells new.kept.changes → KeepsLeases new leases moment → IsMachine new leases moment (record quota { used = used })
+machine_after_compaction store new leases moment quota revision used is sound fits kept cells reserved falls keeps =
     let records = ap (λ (s : Store). record_cells s.changes) kept in
     let counted = ap counted_cells kept in
     let taken = used_after store.kept revision fits.within sound in
@@ -68,13 +75,14 @@ machine_after_compaction store new leases moment quota revision used is sound fi
       within = omega (arith, is.within, reserved, falls, fewer);
       allowed = omega (arith, is.allowed, reserved);
       few = omega (arith, is.few, reserved);
+      keeps = keeps;
     }
 
 -- after a grant one more is
 pub machine_after_grant : (store new : StoreState) (leases after : Book) (moment : ℕ) (quota : Quota) → IsMachine store leases moment quota
     → cells_used store.kept leases.leases + 1 ≤ 64 * store.share.reserved → new.kept ≡ store.kept → new.lease_cells ≡ store.lease_cells + 1 → new.share.reserved ≡ store.share.reserved
-    → length after.leases ≡ length leases.leases + 1 → after.room ≡ leases.room → IsMachine new after moment (record quota { used = quota.used + 1 })
-machine_after_grant store new leases after moment quota is within kept cells reserved count room = record {
+    → length after.leases ≡ length leases.leases + 1 → after.room ≡ leases.room → KeepsLeases new after moment → IsMachine new after moment (record quota { used = quota.used + 1 })
+machine_after_grant store new leases after moment quota is within kept cells reserved count room keeps = record {
   used = omega (arith, is.used, ap counted_cells kept, count);
   leases = omega (arith, cells, is.leases, count);
   room = omega (arith, is.room, room, reserved);
@@ -82,11 +90,12 @@ machine_after_grant store new leases after moment quota is within kept cells res
   within = omega (arith, is.used, within, reserved);
   allowed = omega (arith, is.allowed, reserved);
   few = omega (arith, is.few, reserved);
+  keeps = keeps;
 }
 
 -- new ends of leases change none of it
-pub machine_after_renewal : (store : StoreState) (leases after : Book) (moment : ℕ) (quota : Quota) → IsMachine store leases moment quota → length after.leases ≡ length leases.leases → after.room ≡ leases.room → IsMachine store after moment quota
-machine_after_renewal store leases after moment quota is count room = record {
+pub machine_after_renewal : (store : StoreState) (leases after : Book) (moment : ℕ) (quota : Quota) → IsMachine store leases moment quota → length after.leases ≡ length leases.leases → after.room ≡ leases.room → KeepsLeases store after moment → IsMachine store after moment quota
+machine_after_renewal store leases after moment quota is count room keeps = record {
   used = omega (arith, is.used, count);
   leases = omega (arith, is.leases, count);
   room = room ∙ is.room;
@@ -94,6 +103,7 @@ machine_after_renewal store leases after moment quota is count room = record {
   within = is.within;
   allowed = is.allowed;
   few = is.few;
+  keeps = keeps;
 }
 
 -- the list with a lease that ends its time to live after the moment
@@ -117,3 +127,24 @@ renewed m after id has is counter = by (lease_at m.leases.leases id) (has_is m.l
     by : (o : Option Lease) → is_some o ≡ true → IfSome o (λ l. after.leases ≡ put_lease m.moment m.leases.leases id l.ttl) → tenant (record m { leases = after }) ≡ (kept_alive kept_store (tenant m) id o).state
     by None there is = absurd (cc)
     by (Some l) there is = λ i. record (tenant m) { leases = is i; counter = counter i }
+
+-- ---- an opening
+
+pub opened_machine : (first cells segments most : ℕ) → first ≤ last_revision → cells ≡ segments * 64 → segments ≤ 2 ^ 14 → most ≤ cells → (store : StoreState) (book : Book) (quota : Quota)
+    → store ≡ empty_state first cells → book ≡ empty_book cells → quota ≡ record { cells = most; used = 0; alarm = false } → IsMachine store book 0 quota
+opened_machine first cells segments most low whole few allowed store book quota s b q =
+    subst (λ t. IsMachine t book 0 quota) (sym s) (subst (λ c. IsMachine (empty_state first cells) c 0 quota) (sym b) (subst (IsMachine (empty_state first cells) _ 0) (sym q) (record {
+      used = refl;
+      leases = refl;
+      room = omega (arith, whole);
+      clock = omega arith;
+      within = omega arith;
+      allowed = omega (arith, whole, allowed);
+      few = omega (arith, whole, few);
+      keeps = opening_keeps first cells cells low;
+    })))
+
+-- a number within bounds
+pub abs_within : (z : ℤ) (most : ℕ) → pos 1 ≤ℤ z → z ≤ℤ pos most → nat_abs z ≤ most
+abs_within (pos n) most least le = omega (arith, ints, le)
+abs_within (negsuc n) most least le = absurd (omega (arith, ints, least))

@@ -1,6 +1,6 @@
 -- What is planned for a lease call is what the machine does with it.
 use Rattle.std.proofs.Common.{◌≡◌, ◌∙◌, ◌<◌, ◌≤◌, ◌+◌, Bool, true, false, refl, ap, sym, subst, arith, List, map, inl, inr, length, if◌then◌else◌}
-use Rattle.std.specs.Prelude.{◌&&◌, ◌||◌, [], ◌∷◌, Some, None, nat_le, int_lt, pos}
+use Rattle.std.specs.Prelude.{◌&&◌, ◌||◌, [], ◌∷◌, ◌-◌, ℕ, ℤ, Option, Some, None, nat_le, int_lt, pos}
 use Rattle.std.specs.Ordering.{int_eq}
 use Rattle.std.proofs.lemmas.Bool.{cases_lt}
 use Rattle.etcd_types.specs.Limits.{last_lease_id, last_revision, max_ttl}
@@ -8,19 +8,21 @@ use Rattle.etcd_types.specs.declared.lease.GrantReq.{GrantReq}
 use Rattle.etcd_types.specs.declared.step.Step.TheVariants.{Grant}
 use Rattle.etcd_types.specs.declared.refusal.Refusal.{Refusal}
 use Rattle.etcd_types.specs.declared.refusal.Refusal.TheVariants.{LeaseExists, NoSpace, TtlTooLarge, UsedUp}
-use Rattle.etcd_types.specs.declared.reply.Reply.TheVariants.{Refused}
+use Rattle.etcd_types.specs.declared.reply.Reply.TheVariants.{Refused, TimeToLive as TimeReply}
 use Rattle.etcd_model.specs.declared.state.Lease.{Lease}
 use Rattle.etcd_model.specs.Fields.{refused_if}
-use Rattle.etcd_model.specs.Leases.{granted_ttl, put_lease}
+use Rattle.etcd_model.specs.Leases.{attached, granted_ttl, lease_at, put_lease}
 use Rattle.etcd_model.specs.Operations.{first_refusal, has_lease}
-use Rattle.etcd_model.specs.Stepping.{grant_id, is_taken_id, look_up, outcome}
+use Rattle.etcd_model.specs.Stepping.{grant_id, is_taken_id, look_up, outcome, time_left}
 use Rattle.etcd_model.specs.Store.{kept_store}
-use Rattle.etcd_model.specs.Tenant.{used}
+use Rattle.etcd_model.specs.Tenant.{header, stays, used}
+use Rattle.model_laws.proofs.BoundLaws.{grant_has_id}
 use Rattle.model_laws.proofs.CounterLaws.{grant_adds}
 use Rattle.lease_book.specs.Book.{leases_of}
 use Rattle.lease_book.specs.declared.book.Booked.{Booked}
 use Rattle.lease_book.specs.Granting.{IsGrant, grant_refusal}
 use Rattle.lease_book.specs.declared.granting.NewLease.{NewLease}
+use Rattle.revision_store.specs.Stored.{reads}
 use Rattle.tenant_machine.specs.Deciding.{Does, gate, granted, past_gate}
 use Rattle.tenant_machine.specs.Tenants.{MachineState, cells_used, tenant}
 use Rattle.tenant_machine.specs.Plans.{Plan}
@@ -70,8 +72,33 @@ grant_does m g new p let_through is admitted refused =
           (does_as m p _ _ (refused past) (record { reply = refl; state = refl }))
     ]
 
+-- the ID of a grant is not 0, and the counter stays above it
+pub grant_numbers : (m : MachineState) (g : GrantReq) (new : NewLease) → 1 ≤ m.leases.counter → IsGrant m.leases m.moment g new → (int_eq new.lease.id (pos 0) ≡ false) × (1 ≤ new.counter)
+grant_numbers m g new least is =
+    let book = m.leases in
+    let bound = book.counter + length book.leases in
+    let has = grant_has_id bound book.counter book.leases g.id (record { least = least; most = omega arith }) (omega arith) (not_full (nat_le last_lease_id book.counter && int_eq g.id (pos 0)) is.granted) in
+    (ap (λ (l : Lease). int_eq l.id (pos 0)) is.lease ∙ has.0, omega (arith, is.counter, has.1.least))
+  where
+    not_full : (b : Bool) → grant_refusal m.leases g ≡ None → (nat_le last_lease_id m.leases.counter && int_eq g.id (pos 0)) ≡ false
+    not_full b granted = by (int_lt max_ttl g.ttl) (nat_le last_lease_id m.leases.counter && int_eq g.id (pos 0)) (is_taken_id m.leases.leases g.id) granted
+      where
+        by : (long full taken : Bool) → (if long then Some TtlTooLarge else if full then Some UsedUp else if taken then Some LeaseExists else None) ≡ None → full ≡ false
+        by true full taken h = absurd (cc)
+        by false true taken h = absurd (cc)
+        by false false taken h = refl
+
 -- ---- the list of leases
 
 pub ids_booked : (bs : List Booked) → map (λ b. b.lease.id) bs ≡ map (λ l. l.id) (leases_of bs)
 ids_booked [] = refl
 ids_booked (b ∷ bs) = ap (λ ids. b.lease.id ∷ ids) (ids_booked bs)
+
+-- ---- the time that a lease has left
+
+pub time_does : (m : MachineState) (id : ℤ) (asked : Bool) (l : Lease) (keys : List (List ℕ)) (p : Plan) → lease_at m.leases.leases id ≡ Some l → keys ≡ (if asked then attached (reads m.store) id else [])
+    → p ≡ record { effect = Nothing; reply = TimeReply (header kept_store (tenant m)) id (pos (l.end - m.moment)) (pos l.ttl) keys }
+    → Does m p (stays kept_store (tenant m) (time_left kept_store (tenant m) id asked (lease_at m.leases.leases id)))
+time_does m id asked l keys p is are planned =
+    subst (λ (o : Option Lease). Does m p (stays kept_store (tenant m) (time_left kept_store (tenant m) id asked o))) (sym is)
+    (does_as m p _ _ planned (record { reply = ap (TimeReply (header kept_store (tenant m)) id (pos (l.end - m.moment)) (pos l.ttl)) are; state = refl }))

@@ -5,11 +5,10 @@ use Rattle.std.proofs.lemmas.Bool.Decides.{nat_tests}
 use Rattle.std.proofs.lemmas.Option.{same_Some}
 use Rattle.etcd_types.specs.declared.step.Step.{Step}
 use Rattle.etcd_types.specs.declared.refusal.Refusal.{Refusal}
-use Rattle.etcd_types.specs.declared.refusal.Refusal.TheVariants.{NoSpace, NotOffered}
+use Rattle.etcd_types.specs.declared.refusal.Refusal.TheVariants.{NoSpace}
 use Rattle.etcd_types.specs.declared.reply.Reply.TheVariants.{Refused}
 use Rattle.etcd_model.specs.declared.state.State.{State}
 use Rattle.etcd_model.specs.Fields.{refused_if}
-use Rattle.etcd_model.specs.Offered.{built, is_offered}
 use Rattle.etcd_model.specs.Operations.{first_refusal}
 use Rattle.etcd_model.specs.Stepping.{adds, decided, early, look_up, machine, may_add, outcome, unless_alarmed, within_quota}
 use Rattle.etcd_model.specs.Store.{Store, kept_store}
@@ -54,14 +53,6 @@ module _ (t : State Store) (step : Step) where
   pub let_through : gate t step ≡ None → machine kept_store t step ≡ past_gate t step
   let_through is = let_through_early (early kept_store t step) is
 
-  -- what is offered is what the machine does
-  offered_is_built : is_offered step ≡ true → built kept_store t step ≡ machine kept_store t step
-  offered_is_built offered = ap (λ (b : Bool). if b then machine kept_store t step else stays kept_store t (Refused NotOffered)) offered
-
-  -- what is not offered is refused
-  unoffered_is_refused : is_offered step ≡ false → built kept_store t step ≡ stays kept_store t (Refused NotOffered)
-  unoffered_is_refused unbuilt = ap (λ (b : Bool). if b then machine kept_store t step else stays kept_store t (Refused NotOffered)) unbuilt
-
   -- ---- past the gate
 
   pub refused_past_gate : (r : Refusal) → look_up kept_store t step ≡ Some r → past_gate t step ≡ stays kept_store t (Refused r)
@@ -97,27 +88,18 @@ passes t step o adding past =
 
 -- ---- plans
 
-pub refused_is_built : (m : MachineState) (step : Step) (r : Refusal) (p : Plan) → is_offered step ≡ true → gate (tenant m) step ≡ Some r → p ≡ record { effect = Nothing; reply = Refused r } → Does m p (built kept_store (tenant m) step)
-refused_is_built m step r p offered is planned =
-    subst (λ (q : Plan). Does m q (built kept_store (tenant m) step)) (sym planned)
-    (subst (Does m (record { effect = Nothing; reply = Refused r })) (sym (offered_is_built (tenant m) step offered ∙ refused_by_gate (tenant m) step r is)) (record { reply = refl; state = refl }))
+pub refused_does : (m : MachineState) (step : Step) (r : Refusal) (p : Plan) → gate (tenant m) step ≡ Some r → p ≡ record { effect = Nothing; reply = Refused r } → Does m p (machine kept_store (tenant m) step)
+refused_does m step r p is planned =
+    subst (λ (q : Plan). Does m q (machine kept_store (tenant m) step)) (sym planned)
+    (subst (Does m (record { effect = Nothing; reply = Refused r })) (sym (refused_by_gate (tenant m) step r is)) (record { reply = refl; state = refl }))
 
-pub unoffered_is_built : (m : MachineState) (step : Step) (p : Plan) → is_offered step ≡ false
-    → p ≡ record { effect = Nothing; reply = Refused NotOffered } → Does m p (built kept_store (tenant m) step)
-unoffered_is_built m step p unbuilt planned =
-    subst (λ (q : Plan). Does m q (built kept_store (tenant m) step)) (sym planned)
-    (subst (Does m (record { effect = Nothing; reply = Refused NotOffered }))
-    (sym (unoffered_is_refused (tenant m) step unbuilt)) (record { reply = refl; state = refl }))
-
-pub let_through_is_built : {E : Type 0} (m : MachineState) (step : Step) (result : Result Plan E) → is_offered step ≡ true → gate (tenant m) step ≡ None
-    → IfOk result (λ p. Does m p (past_gate (tenant m) step)) → IfOk result (λ p. Does m p (built kept_store (tenant m) step))
-let_through_is_built m step result offered is does =
-    subst (λ (o : Outcome Store). IfOk result (λ p. Does m p o)) (sym (offered_is_built (tenant m) step offered ∙ let_through (tenant m) step is)) does
+pub let_through_does : {E : Type 0} (m : MachineState) (step : Step) (result : Result Plan E) → gate (tenant m) step ≡ None
+    → IfOk result (λ p. Does m p (past_gate (tenant m) step)) → IfOk result (λ p. Does m p (machine kept_store (tenant m) step))
+let_through_does m step result is does = subst (λ (o : Outcome Store). IfOk result (λ p. Does m p o)) (sym (let_through (tenant m) step is)) does
 
 -- a step that is sure, and that the gate lets through, takes no memory or is refused by what is looked up
-pub sure_past_gate : {P : Type 0} (takes offered gated found : Bool) → offered ≡ true → gated ≡ false → (takes ≡ false → P) → (found ≡ true → P) → (not takes || ((not offered || gated) || found)) ≡ true → P
-sure_past_gate false offered gated found a b free told h = free refl
-sure_past_gate true offered gated true a b free told h = told refl
-sure_past_gate true true false false a b free told h = absurd (cc)
-sure_past_gate true false gated false a b free told h = absurd (cc)
-sure_past_gate true true true false a b free told h = absurd (cc)
+pub sure_past_gate : {P : Type 0} (takes gated found : Bool) → gated ≡ false → (takes ≡ false → P) → (found ≡ true → P) → (not takes || (gated || found)) ≡ true → P
+sure_past_gate false gated found b free told h = free refl
+sure_past_gate true gated true b free told h = told refl
+sure_past_gate true false false b free told h = absurd (cc)
+sure_past_gate true true false b free told h = absurd (cc)

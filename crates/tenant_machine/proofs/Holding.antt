@@ -2,46 +2,33 @@
 use Rattle.std.proofs.Common.{◌≡◌, Bool, true, false, refl, ◌∙◌, subst, sym}
 use Rattle.std.specs.Prelude.{ℕ, [], None, replicate, Result, Ok, Err, IfOk, if◌then◌else◌}
 use Rattle.etcd_types.specs.declared.step.Step.{Step}
-use Rattle.etcd_types.specs.declared.refusal.Refusal.TheVariants.{NotOffered}
 use Rattle.etcd_types.specs.declared.reply.Reply.{Reply}
 use Rattle.etcd_types.specs.declared.reply.Reply.TheVariants.{Refused}
 use Rattle.etcd_types.specs.Limits.{watch_slots}
 use Rattle.etcd_model.specs.declared.state.History.{History}
 use Rattle.etcd_model.specs.declared.state.State.{State}
-use Rattle.etcd_model.specs.Tenant.{Asks, Outcome, stays}
 use Rattle.etcd_model.specs.Stepping.{machine}
-use Rattle.etcd_model.specs.Machine.{history, opening}
+use Rattle.etcd_model.specs.Machine as full
+use Rattle.etcd_model.specs.Machine.{opening}
 use Rattle.etcd_model.specs.Store.{Store, kept_store}
 use Rattle.etcd_model.specs.Held.{Holds, empty_store, over}
-use Rattle.etcd_model.specs.Offered.{built, built_machine, is_offered}
 use Rattle.model_laws.proofs.HoldsLaws.{held_after_step, opening_is_held}
+use Rattle.lease_book.specs.Book.{empty_book}
 use Rattle.tenant_machine.specs.Tenants.{MachineState, tenant}
 use Rattle.tenant_machine.specs.Plans.{IsAfter, Plan, Plans, Steps}
 use Rattle.tenant_machine.specs.Deciding.{Does}
-use Rattle.tenant_machine.proofs.Spoken.{built_speaks}
-
-abbrev where_offered : {X : Type 0} → Asks X → State X → Step → Bool → Outcome X
-where_offered asks t step offered = if offered then machine asks t step else stays asks t (Refused NotOffered)
-
-either_held : (S : State History) (m : State Store) (step : Step) (offered : Bool) → Holds S m
-    → Holds (where_offered history S step offered).state (where_offered kept_store m step offered).state × ((where_offered kept_store m step offered).reply ≡ (where_offered history S step offered).reply)
-either_held S m step true held = held_after_step S m step held
-either_held S m step false held = (held, refl)
-
--- the machine as it stands holds the state afterwards, and answers alike
-held_after_built : (S : State History) (m : State Store) (step : Step) → Holds S m
-    → Holds (built_machine S step).state (built kept_store m step).state × ((built kept_store m step).reply ≡ (built_machine S step).reply)
-held_after_built S m step held = either_held S m step (is_offered step) held
+use Rattle.watch_sync.specs.Slots.{watches}
+use Rattle.tenant_machine.proofs.Spoken.{machine_speaks}
 
 -- a plan that does what is to come of a step is one of the step
-pub plans : (m : MachineState) (step : Step) (p : Plan) → Does m p (built kept_store (tenant m) step) → Plans m step p
+pub plans : (m : MachineState) (step : Step) (p : Plan) → Does m p (machine kept_store (tenant m) step) → Plans m step p
 plans m step p does = record {
-  spoken = λ refused. built_speaks kept_store (tenant m) step (sym does.reply ∙ refused);
-  reply = λ S held. does.reply ∙ (held_after_built S (tenant m) step held).1;
-  state = λ S n held after. subst (Holds (built_machine S step).state) (sym (after ∙ does.state)) (held_after_built S (tenant m) step held).0;
+  spoken = λ refused. machine_speaks kept_store (tenant m) step (sym does.reply ∙ refused);
+  reply = λ S held. does.reply ∙ (held_after_step S (tenant m) step held).1;
+  state = λ S n held after. subst (Holds (full.machine S step).state) (sym (after ∙ does.state)) (held_after_step S (tenant m) step held).0;
 }
 
-pub plans_where : {E : Type 0} (m : MachineState) (step : Step) (result : Result Plan E) → IfOk result (λ p. Does m p (built kept_store (tenant m) step)) → IfOk result (λ p. Plans m step p)
+pub plans_where : {E : Type 0} (m : MachineState) (step : Step) (result : Result Plan E) → IfOk result (λ p. Does m p (machine kept_store (tenant m) step)) → IfOk result (λ p. Plans m step p)
 plans_where m step (Ok p) does = plans m step p does
 plans_where m step (Err e) does = tt
 
@@ -54,8 +41,8 @@ stepped m n step p reply plans after same = record {
 }
 
 -- a machine over an empty store holds the opening
-pub opened : (m : MachineState) (cluster quota first : ℕ) → m.cluster ≡ cluster → m.quota ≡ quota → m.store.kept ≡ empty_store first → (room : ℕ) → m.leases ≡ record { leases = []; cells = []; counter = 1; room = room; attachments = [] } → m.moment ≡ 0 → m.alarm ≡ false → Holds (opening cluster quota first) (tenant m)
-opened m cluster quota first one cells kept room book at off =
+pub opened : (m : MachineState) (cluster quota first : ℕ) → m.cluster ≡ cluster → m.quota ≡ quota → m.store.kept ≡ empty_store first → (room : ℕ) → m.leases ≡ empty_book room → m.moment ≡ 0 → m.alarm ≡ false → watches m.watchers ≡ replicate watch_slots None → Holds (opening cluster quota first) (tenant m)
+opened m cluster quota first one cells kept room book at off free =
     let held = opening_is_held cluster quota first in
-    let same : tenant m ≡ over (λ (H : History). empty_store first) (opening cluster quota first) = λ i. record { cluster = one i; quota = cells i; store = kept i; leases = (book i).leases; counter = (book i).counter; moment = at i; alarm = off i; slots = replicate watch_slots None } in
+    let same : tenant m ≡ over (λ (H : History). empty_store first) (opening cluster quota first) = λ i. record { cluster = one i; quota = cells i; store = kept i; leases = (book i).leases; counter = (book i).counter; moment = at i; alarm = off i; slots = free i } in
     record { sound = held.sound; same = same ∙ held.same }

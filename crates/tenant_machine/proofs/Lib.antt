@@ -6,4 +6,12 @@ pub mod DecidingTxns
 pub mod Gates
 pub mod Holding
 pub mod Spoken
+mod KeysFew
+mod KeysFollow
+mod KeepingLeases
+mod LeaseEnds
+mod LeasesDue
+mod RecordsKept
+mod RevisionFollow
 mod DecidingLeases
+mod DecidingWatches

@@ -26,7 +26,6 @@ use Rattle.etcd_model.specs.Operations.{branch, first_refusal, op_refusal, ops_r
 use Rattle.etcd_model.specs.Tenant.{Asks, Outcome, header, reads}
 use Rattle.etcd_model.specs.Stepping.{alarm_of, before_space, decided, early, kept_alive, look_up, machine, outcome, time_left, unless_alarmed, within_quota}
 use Rattle.etcd_model.specs.Watches.{created, events_given, taken}
-use Rattle.etcd_model.specs.Offered.{built, is_offered}
 
 -- a refusal, if there is one, is not for want of memory
 abbrev OfRequest : Option Refusal → Type 0
@@ -168,6 +167,3 @@ module _ {X : Type 0} (asks : Asks X) where
 
   pub machine_speaks : (t : State X) (step : Step) → (machine asks t step).reply ≢ Refused Memory
   machine_speaks t step = unless_alarmed_speaks t step _ _ (before_space_speaks t step)
-
-  pub built_speaks : (t : State X) (step : Step) → (built asks t step).reply ≢ Refused Memory
-  built_speaks t step = either_speaks (is_offered step) _ _ (machine_speaks t step) (λ e. cc)

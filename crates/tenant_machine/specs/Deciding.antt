@@ -1,5 +1,5 @@
 -- How a step is decided: the words of single parts.
-use Rattle.std.specs.Prelude.{◌≡◌, ◌&&◌, ◌||◌, not, Bool, ℤ, pos, [], ◌∷◌, nat_lt, Option, is_some, true}
+use Rattle.std.specs.Prelude.{◌≡◌, ◌&&◌, ◌||◌, not, Bool, ℕ, ℤ, pos, [], ◌∷◌, nat_lt, Option, is_some, true}
 use Rattle.std.specs.Prelude.{if◌then◌else◌}
 use Rattle.etcd_types.specs.declared.step.Step.{Step}
 use Rattle.etcd_types.specs.declared.refusal.Refusal.{Refusal}
@@ -8,11 +8,10 @@ use Rattle.etcd_types.specs.declared.reply.Header.{Header}
 use Rattle.etcd_types.specs.declared.reply.OpReply.{OpReply}
 use Rattle.etcd_types.specs.declared.reply.OpReply.TheVariants.{Range, Put, Delete}
 use Rattle.etcd_types.specs.declared.reply.Reply.{Reply}
-use Rattle.etcd_types.specs.declared.reply.Reply.TheVariants.{Granted, Refused, Txn}
+use Rattle.etcd_types.specs.declared.reply.Reply.TheVariants.{Created, Granted, Refused, Txn}
 use Rattle.etcd_model.specs.declared.state.Lease.{Lease}
 use Rattle.etcd_model.specs.declared.state.State.{State}
 use Rattle.etcd_model.specs.Fields.{refused_if}
-use Rattle.etcd_model.specs.Offered.{is_offered}
 use Rattle.etcd_model.specs.Operations.{first_refusal}
 use Rattle.etcd_model.specs.Stepping.{early, look_up, may_add, decided, within_quota, with_header}
 use Rattle.etcd_model.specs.Store.{Store, kept_store}
@@ -25,10 +24,9 @@ use Rattle.tenant_machine.specs.Plans.{Plan, after_effect, takes_memory, written
 abbrev pub gate : State Store → Step → Option Refusal
 gate t step = first_refusal (early kept_store t step ∷ refused_if (t.alarm && may_add step) NoSpace ∷ [])
 
--- a step that is refused before the quota is asked: it is not offered, or the gate stops it, or
--- what is looked up does
+-- a step that is refused before the quota is asked: the gate stops it, or what is looked up does
 abbrev pub is_stopped : State Store → Step → Bool
-is_stopped t step = not (is_offered step) || is_some (gate t step) || is_some (look_up kept_store t step)
+is_stopped t step = is_some (gate t step) || is_some (look_up kept_store t step)
 
 -- a step that is never answered by want of memory: it takes none, or it is stopped
 abbrev pub is_sure : State Store → Step → Bool
@@ -73,3 +71,7 @@ answer m reply = with_header (header_at m (revision_of reply)) reply
 -- what a grant is answered
 abbrev pub granted : MachineState → Lease → Reply
 granted m lease = Granted (header_at m (pos m.store.kept.current)) lease.id (pos lease.ttl)
+
+-- what is answered where a watch is opened, with its number and its slot
+abbrev pub opened : MachineState → ℤ → ℕ → Reply
+opened m id slot = Created (header_at m (pos m.store.kept.current)) id slot

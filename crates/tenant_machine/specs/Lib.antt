@@ -1,3 +1,4 @@
+pub mod Keyed
 pub mod Tenants
 pub mod Plans
 pub mod Deciding

@@ -1,51 +1,61 @@
 -- What a machine keeps of its tenant.
-use Rattle.std.specs.Prelude.{◌≡◌, ℕ, ◌+◌, ◌*◌, ◌≤◌, ◌^◌, Bool, List, None, length, replicate, refl}
+use Rattle.std.specs.Prelude.{◌≡◌, ℕ, ◌+◌, ◌*◌, ◌≤◌, ◌^◌, Bool, List, Option, length, refl}
 use Rattle.std.specs.Coded.{Coded, code_by, coded×, coded_ℕ, coded_bool}
-use Rattle.etcd_types.specs.Limits.{last_moment, watch_slots}
+use Rattle.etcd_types.specs.Limits.{last_moment}
 use Rattle.etcd_model.specs.declared.state.Lease.{Lease}
 use Rattle.etcd_model.specs.declared.state.State.{State}
+use Rattle.etcd_model.specs.Leases.{run_out}
 use Rattle.etcd_model.specs.Store.{Store, counted_cells}
 use Rattle.lease_book.specs.Book.{Book, book_code}
 use Rattle.quota_alarm.specs.declared.quota.Quota.{Quota}
 use Rattle.revision_store.specs.Stored.{StoreState, store_code}
+use Rattle.tenant_machine.specs.Keyed.{KeepsLeases}
+use Rattle.watch_sync.specs.Agreeing.{WatchState}
+use Rattle.watch_sync.specs.Codes.{watchers_code}
+use Rattle.watch_sync.specs.Slots.{watches}
 
--- the cluster, the cells that it may use, its store, its leases, the moment of its clock, and whether the
--- alarm is on
+-- the cluster, the cells that it may use, its store, its leases, its watches with their rings, the moment of
+-- its clock, and whether the alarm is on
 pub record MachineState : Type 0 where
   pub cluster : ℕ
   pub quota : ℕ
   pub store : StoreState
   pub leases : Book
+  pub watchers : List (Option WatchState)
   pub moment : ℕ
   pub alarm : Bool
 
 abbrev pub machine_code : Coded MachineState
 machine_code =
-    code_by ((ℕ × ℕ) × ((StoreState × Book) × (ℕ × Bool)))
-    (coded× (coded× coded_ℕ coded_ℕ) (coded× (coded× store_code book_code) (coded× coded_ℕ coded_bool)))
-    (λ m. ((m.cluster, m.quota), ((m.store, m.leases), (m.moment, m.alarm))))
+    code_by ((ℕ × ℕ) × ((StoreState × Book) × (List (Option WatchState) × (ℕ × Bool))))
+    (coded× (coded× coded_ℕ coded_ℕ)
+    (coded× (coded× store_code book_code) (coded× watchers_code (coded× coded_ℕ coded_bool))))
+    (λ m. ((m.cluster, m.quota), ((m.store, m.leases), (m.watchers, (m.moment, m.alarm)))))
     (λ p. record {
       cluster = p.0.0;
       quota = p.0.1;
       store = p.1.0.0;
       leases = p.1.0.1;
-      moment = p.1.1.0;
-      alarm = p.1.1.1;
+      watchers = p.1.1.0;
+      moment = p.1.1.1.0;
+      alarm = p.1.1.1.1;
     })
     (λ _. refl)
 
--- the machine of a store and its leases at a moment, with its quota and the alarm
-abbrev pub machine_of : ℕ → StoreState → Book → ℕ → Quota → MachineState
-machine_of cluster store leases moment quota = record {
+-- the machine of a store, its leases and its watches at a moment, with its quota and the alarm
+abbrev pub machine_of :
+    ℕ → StoreState → Book → List (Option WatchState) → ℕ → Quota → MachineState
+machine_of cluster store leases watchers moment quota = record {
   cluster = cluster;
   quota = quota.cells;
   store = store;
   leases = leases;
+  watchers = watchers;
   moment = moment;
   alarm = quota.alarm;
 }
 
--- The tenant. Watches are still to come: all of them are as they were opened.
+-- the tenant
 abbrev pub tenant : MachineState → State Store
 tenant m = record {
   cluster = m.cluster;
@@ -55,15 +65,24 @@ tenant m = record {
   counter = m.leases.counter;
   moment = m.moment;
   alarm = m.alarm;
-  slots = replicate watch_slots None;
+  slots = watches m.watchers;
 }
+
+-- the machine with some leases collected
+abbrev pub with_due : MachineState → List Lease → MachineState
+with_due m due = record m { leases = record m.leases { due = due } }
+
+-- the machine at a moment, with the leases collected that have run out
+abbrev pub at_moment : MachineState → ℕ → MachineState
+at_moment m moment = with_due (record m { moment = moment }) (run_out moment m.leases.leases)
 
 -- the cells in use: those of what the store keeps, with room for a delete of each live key, and one a lease
 abbrev pub cells_used : Store → List Lease → ℕ
 cells_used kept leases = counted_cells kept + length leases
 
 -- The cells in use are counted, and they and the quota are within the segments that are reserved. Each
--- lease has a cell, and there is room for one in each cell. That the store is sound it promises itself.
+-- lease has a cell, and there is room for one in each cell. The book is that of the store. That the store is
+-- sound it promises itself.
 pub record IsMachine (store : StoreState) (book : Book) (moment : ℕ) (quota : Quota) : Type 0 where
   pub used : quota.used ≡ cells_used store.kept book.leases
   pub leases : store.lease_cells ≡ length book.leases
@@ -72,3 +91,4 @@ pub record IsMachine (store : StoreState) (book : Book) (moment : ℕ) (quota : 
   pub within : quota.used ≤ 64 * store.share.reserved
   pub allowed : quota.cells ≤ 64 * store.share.reserved
   pub few : store.share.reserved ≤ 2 ^ 14
+  pub keeps : KeepsLeases store book moment

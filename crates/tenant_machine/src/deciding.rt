@@ -1,6 +1,5 @@
 //! How a step is decided.
 ghost use Rattle.std.specs.Prelude.{◌≡◌, ◌<◌, None, true, false, is_some, IfOk, IsOk};
-ghost use Rattle.etcd_model.specs.Offered.{is_offered};
 ghost use Rattle.etcd_model.specs.Store.{kept_store};
 ghost use Rattle.etcd_model.specs.Fields.{refused_if};
 ghost use Rattle.etcd_model.specs.Stepping.{chooses_id, look_up, may_add, used_up, writes};
@@ -9,11 +8,12 @@ ghost use Rattle.tenant_machine.specs.Deciding.{Does, gate, is_sure, past_gate};
 ghost use Rattle.tenant_machine.specs.Tenants.{tenant};
 ghost use Rattle.tenant_machine.specs.Plans.{Fits, Plans, takes_memory};
 
+use crate::leasing::plan_tick;
 use crate::machine::Machine;
 use crate::planned::Planned;
 use etcd_types::limits::{LAST_LEASE_ID, LAST_REVISION};
 use etcd_types::{Mem, Refusal, Step};
-use request_checks::{fields, is_offered};
+use request_checks::fields;
 use std::alloc::Global;
 use txn_plan::{adds_any, writes_any};
 
@@ -25,9 +25,6 @@ impl Machine {
         ensures fits { IfOk result (λ p. Fits self.now p) }
         ensures sure { is_sure (tenant self.now) step.now ≡ true → IsOk result }
     {
-        if !is_offered(step) {
-            return Ok(Planned::refused(Refusal::NotOffered));
-        }
         match self.gate(step) {
             Some(refusal) => Ok(Planned::refused(refusal)),
             None => self.decide(alloc, step),
@@ -60,7 +57,6 @@ impl Machine {
 
     /// Decides a step that the gate lets through.
     fn decide(&self, alloc: Global, step: &Step) -> Mem<Planned>
-        requires offered { is_offered step.now ≡ true }
         requires gate { gate (tenant self.now) step.now ≡ None }
         ensures does { IfOk result (λ p. Does self.now p (past_gate (tenant self.now) step.now)) }
         ensures fits { IfOk result (λ p. Fits self.now p) }
@@ -75,11 +71,17 @@ impl Machine {
             Step::Compact(revision) => Ok(self.plan_compaction(*revision)),
             Step::Grant(request) => Ok(self.plan_grant(request)),
             Step::KeepAlive(id) => Ok(self.plan_keep_alive(*id)),
+            Step::Revoke(id) => Ok(self.plan_revoke(*id)),
+            Step::TimeToLive { id, keys } => self.plan_time_to_live(alloc, *id, *keys),
             Step::Leases => self.plan_leases(alloc),
+            Step::Watch(request) => self.plan_watch(alloc, request),
+            Step::Take(slot) => self.plan_take(alloc, *slot),
+            Step::DropWatch(slot) => Ok(self.plan_drop(*slot)),
+            Step::CatchUp(budget) => Ok(self.plan_catch_up(*budget)),
             Step::Alarm(request) => Ok(self.plan_alarm(request)),
             Step::Status => Ok(self.plan_status()),
             Step::Defragment => Ok(self.plan_defragment()),
-            _ => Ok(Planned::refused(Refusal::NotOffered)),
+            Step::Tick(moment) => Ok(plan_tick(*moment)),
         }
     }
 }

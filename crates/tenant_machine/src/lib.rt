@@ -4,12 +4,15 @@
 //! was planned to the store, whose segments are lent to it, takes none and cannot fail.
 #![tactic(auto)]
 
+mod attaching;
 mod deciding;
+mod ending;
 mod leasing;
 mod machine;
 mod maintenance;
 mod operations;
 mod planned;
+mod watching;
 
 pub use machine::{Machine, segments_for};
 pub use planned::Planned;

@@ -14,6 +14,7 @@ ghost use Rattle.tenant_machine.specs.Plans.{Fits, FitsCompaction, FitsGrant, Fi
 ghost use Rattle.tenant_machine.specs.Plans.{with_lease, with_new_end, written};
 ghost use Rattle.etcd_model.specs.Operations.{has_lease};
 
+use crate::attaching::follow;
 use crate::planned::{Effect, Planned};
 use cell_arena::Segments;
 use etcd_types::limits::SEGMENT_CELLS;
@@ -23,6 +24,7 @@ use quota_alarm::Quota;
 use revision_store::{Plan, Store};
 use std::alloc::Global;
 use std::marker::Model;
+use watch_sync::Watchers;
 
 /// One tenant's cluster.
 #[derive(Drop)]
@@ -30,6 +32,7 @@ pub struct Machine {
     cluster: u64,
     pub(crate) store: Store,
     pub(crate) leases: LeaseBook,
+    pub(crate) watchers: Watchers,
     /// The seconds of its clock.
     pub(crate) moment: u64,
     /// The cells of what the store keeps, room for a delete of each live key, and one a lease are in use.
@@ -37,15 +40,16 @@ pub struct Machine {
 }
 
 impl Model for Machine {
+    ghost use Rattle.watch_sync.specs.Slots.{AllAgree};
     ghost use Rattle.tenant_machine.specs.Tenants.{MachineState, IsMachine, machine_code, machine_of};
 
     ghost Value = { MachineState };
 
     ghost coded = { machine_code };
 
-    ghost view = { λ m. machine_of m.cluster m.store m.leases m.moment m.quota };
+    ghost view = { λ m. machine_of m.cluster m.store m.leases m.watchers m.moment m.quota };
 
-    ghost invariant = { λ m. IsMachine m.store m.leases m.moment m.quota };
+    ghost invariant = { λ m. IsMachine m.store m.leases m.moment m.quota × AllAgree m.watchers m.store };
 }
 
 /// The segments that a quota of so many cells takes.
@@ -71,6 +75,7 @@ impl Machine {
             cluster,
             store: Store::new(alloc, cells, first as u64)?,
             leases: LeaseBook::new(alloc, cells)?,
+            watchers: Watchers::new(alloc)?,
             moment: 0,
             quota: Quota::new(quota),
         })
@@ -95,6 +100,12 @@ impl Machine {
             Effect::Compact(revision) => self.compact(segments, revision),
             Effect::Grant(new) => self.grant(segments, new),
             Effect::Renew(id) => self.renew(id),
+            Effect::End(id) => self.end_lease(segments, id),
+            Effect::Tick(moment) => self.tick(segments, moment),
+            Effect::Watch(new) => self.open_watch(new),
+            Effect::Take(taken) => self.take(taken),
+            Effect::DropWatch(slot) => self.drop_watch(slot),
+            Effect::CatchUp(budget) => self.catch_up(budget),
         }
         reply
     }
@@ -138,7 +149,10 @@ impl Machine {
         ensures settles { Settles self.old.store.share (S.loan segments.old)
             self.new.store.share (S.loan segments.new) }
     {
+        let revision = self.store.current() + 1;
         self.store.commit(segments, plan);
+        self.watchers.note(&self.store);
+        follow(&mut self.leases, &self.store, revision);
         self.quota.used = used;
     }
 
@@ -155,6 +169,7 @@ impl Machine {
         self.store.current();
         let before = self.store.used_cells();
         self.store.compact(segments, revision);
+        self.watchers.cut(&self.store);
         let freed = before - self.store.used_cells();
         self.quota.used -= u64::from(freed);
     }
@@ -167,8 +182,9 @@ impl Machine {
         ensures settles { Settles self.old.store.share (S.loan segments.old)
             self.new.store.share (S.loan segments.new) }
     {
-        // The store tells with its revision that it is sound.
+        // The store tells with its revision that it is sound, and the book with its count that it ascends.
         self.store.current();
+        self.leases.len();
         let cell = self
             .store
             .place_lease(segments, new.lease.id, new.lease.ttl);

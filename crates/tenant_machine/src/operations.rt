@@ -198,7 +198,7 @@ impl Machine {
         }
     }
 
-    fn header_at(&self, revision: i64) -> Header
+    pub(crate) fn header_at(&self, revision: i64) -> Header
         ensures { result ≡ header_at self.now revision }
     {
         Header {

@@ -6,6 +6,7 @@ use etcd_types::{Refusal, Reply};
 use lease_book::NewLease;
 use revision_store::Plan;
 use std::marker::Model;
+use watch_sync::{NewWatch, Taken};
 
 /// What a commit does to a machine. It has all the memory that this needs.
 #[derive(Drop)]
@@ -21,6 +22,18 @@ pub(crate) enum Effect {
     Grant(NewLease),
     /// The lease with this ID, which is there, gets the end that it would have if it was granted now.
     Renew(i64),
+    /// The lease with this ID, which is there, ends with its keys.
+    End(i64),
+    /// The clock comes to a moment, and what has run out ends.
+    Tick(u64),
+    /// A watch is opened.
+    Watch(NewWatch),
+    /// The watch of a slot was told of something, or goes.
+    Take(Taken),
+    /// The slot is free.
+    DropWatch(u8),
+    /// Watches that are behind go over so many changes at most.
+    CatchUp(u32),
 }
 
 /// A step that is decided: its reply, and what its commit does.

@@ -9,11 +9,10 @@ use Rattle.tenant_registry.specs.declared.audit.Entry.{Entry}
 use Rattle.tenant_registry.specs.declared.audit.Opening.{Opening}
 use Rattle.tenant_registry.specs.declared.close.Sheet.{Sheet}
 use Rattle.tenant_registry.specs.declared.closed.CloseFault.{CloseFault}
-use Rattle.tenant_registry.specs.declared.closed.CloseFault.TheVariants as fault
 use Rattle.tenant_registry.specs.declared.tally.Call.{Call}
 use Rattle.tenant_registry.specs.declared.tenant.Tenant.{Tenant}
 use Rattle.tenant_registry.specs.Audits.{Log, IsLawful, replies_of}
-use Rattle.tenant_registry.specs.Closed.{AreTold, AreClosed, AreLawful, IsClosed, IsFault, TellsFault, audits_of, given_of, sheet_audits}
+use Rattle.tenant_registry.specs.Closed.{AreTold, AreClosed, AreLawful, HasFault, IsClosed, IsFault, audits_of, given_of, sheet_audits}
 use Rattle.tenant_registry.specs.Closing.{AreApart, Agrees, IsAsGiven, IsComplete, calls_by}
 use Rattle.tenant_registry.specs.Registries.{tenants_of}
 use Rattle.tenant_registry.specs.Seats.{SeatState, call, calls_on}
@@ -115,11 +114,6 @@ all_closed ss seats audits is lawful apart given agrees complete = record {
 
 -- a fault of these sheets is one of the tenants that they are of
 pub tells_fault : {B : Type 0} (r : Result B CloseFault) (given : List (List ℕ × Opening)) (seats : List SeatState) (ss : List Sheet) → given_of ss ≡ given → AreLawful ss
-    → IfErr r (λ f. IsFault ss seats f) → IfErr r (λ f. TellsFault given seats f)
+    → IfErr r (λ f. IsFault ss seats f) → IfErr r (λ f. HasFault given seats f)
 tells_fault (Ok x) given seats ss names lawful h = h
-tells_fault (Err fault.Memory) given seats ss names lawful h = tt
-tells_fault (Err (fault.Double number)) given seats ss names lawful h = record { sheets = ss; names = names; lawful = lawful; is = h }
-tells_fault (Err (fault.Opening tenant)) given seats ss names lawful h = record { sheets = ss; names = names; lawful = lawful; is = h }
-tells_fault (Err (fault.Mismatch tenant audit calls)) given seats ss names lawful h = record { sheets = ss; names = names; lawful = lawful; is = h }
-tells_fault (Err (fault.Missed tenant)) given seats ss names lawful h = record { sheets = ss; names = names; lawful = lawful; is = h }
-tells_fault (Err (fault.Differs tenant turn)) given seats ss names lawful h = record { sheets = ss; names = names; lawful = lawful; is = h }
+tells_fault (Err f) given seats ss names lawful h = record { sheets = ss; names = names; lawful = lawful; is = h }

@@ -11,7 +11,7 @@ use Rattle.etcd_model.specs.declared.state.History.{History}
 use Rattle.etcd_model.specs.declared.state.State.{State}
 use Rattle.etcd_model.specs.Held.{Holds}
 use Rattle.etcd_model.specs.Pool.{StockState}
-use Rattle.etcd_model.specs.Offered.{built_machine}
+use Rattle.etcd_model.specs.Machine.{machine}
 use Rattle.tenant_machine.specs.Tenants.{MachineState, tenant}
 use Rattle.tenant_machine.specs.Plans.{Plan, Plans, IsAfter, Steps}
 use Rattle.steps_core.specs.Isolation.{built_replies, built_state}
@@ -26,14 +26,14 @@ use Rattle.tenant_registry.specs.Serving.{Serves, IsServed}
 -- ---- runs
 
 -- the replies after one step more
-run_more : (S : State History) (xs : List Step) (y : Step) → built_replies S (xs ++ y ∷ []) ≡ built_replies S xs ++ (built_machine (built_state S xs) y).reply ∷ []
+run_more : (S : State History) (xs : List Step) (y : Step) → built_replies S (xs ++ y ∷ []) ≡ built_replies S xs ++ (machine (built_state S xs) y).reply ∷ []
 run_more S [] y = refl
-run_more S (x ∷ xs) y = ap (λ rs. (built_machine S x).reply ∷ rs) (run_more (built_machine S x).state xs y)
+run_more S (x ∷ xs) y = ap (λ rs. (machine S x).reply ∷ rs) (run_more (machine S x).state xs y)
 
 -- the state after one step more
-ends_more : (S : State History) (xs : List Step) (y : Step) → built_state S (xs ++ y ∷ []) ≡ (built_machine (built_state S xs) y).state
+ends_more : (S : State History) (xs : List Step) (y : Step) → built_state S (xs ++ y ∷ []) ≡ (machine (built_state S xs) y).state
 ends_more S [] y = refl
-ends_more S (x ∷ xs) y = ends_more (built_machine S x).state xs y
+ends_more S (x ∷ xs) y = ends_more (machine S x).state xs y
 
 -- ---- a step
 
@@ -60,7 +60,7 @@ kept_more m n a left rest seat step p reply kept room plans after is settles =
     let here : Holds (end_of a) (tenant m) = subst (λ xs. Holds (built_state (end_of a) xs) (tenant m)) (kept.none room) kept.holds in
     let o = opening_of a.opening in
     let e = entry seat step reply in
-    let told = (built_machine (end_of a) step).reply in
+    let told = (machine (end_of a) step).reply in
     let now : reply ≡ told = is ∙ plans.reply (end_of a) here in
     let steps : steps_of (a.entries ++ e ∷ []) ≡ steps_of a.entries ++ step ∷ [] = map-append (λ (x : Entry). x.step) a.entries (e ∷ []) in
     let replies : replies_of (a.entries ++ e ∷ []) ≡ replies_of a.entries ++ reply ∷ [] = map-append (λ (x : Entry). x.reply) a.entries (e ∷ []) in

@@ -3,9 +3,9 @@ use Rattle.std.proofs.Common.{◌≡◌, ◌∙◌, sym, ap, refl, ℕ, Bool, tr
 use Rattle.std.specs.Option.{option_map}
 use Rattle.std.specs.Str.{bytes_eq}
 use Rattle.std.specs.Map.{lookup}
+use Rattle.steps_core.proofs.Shown.{test}
 use Rattle.tenant_registry.specs.declared.tenant.Tenant.{Tenant}
 use Rattle.tenant_registry.specs.Registries.{RegistryState, has_tenant, is_among, tenants_of}
-use Rattle.tenant_registry.proofs.SeatLemmas.{test}
 
 shown : {A : Type 0} (t : List ℕ) (es : List (Vec ℕ A × Tenant)) → lookup (bytes_eq t) (tenants_of es) ≡ option_map (λ x. x.opening) (lookup (test t) es)
 shown t [] = refl

@@ -6,7 +6,7 @@ use Rattle.std.specs.Cmp.Lexicographic.{bytes_decides}
 use Rattle.std.specs.Map.{lookup, set_value}
 use Rattle.std.proofs.lemmas.List.{map-append}
 use Rattle.steps_core.proofs.Lists.{lookup_last, lookup_others}
-use Rattle.indexmap.specs.IndexMap.{insert_entry}
+use Rattle.steps_core.proofs.Shown.{others_set, own_set, test}
 use Rattle.etcd_types.specs.declared.step.Step.{Step}
 use Rattle.tenant_registry.specs.declared.audit.Entry.{Entry}
 use Rattle.tenant_registry.specs.declared.kept.Served.{Served}
@@ -16,50 +16,11 @@ use Rattle.tenant_registry.specs.Receipts.{Slip, slip_of}
 use Rattle.tenant_registry.specs.Serving.{IsServed}
 use Rattle.tenant_registry.specs.Seats.{SeatState, TallyState, seat_of, tally_on, has_tally, calls_in, calls_on, missed_in, missed_on, HasRoom, HasRoomOn, Keeps, call, KeepsLists, KeepsOthers, AddsCall, AddsMissed}
 
--- the test by which a name is looked up
-abbrev pub test : {A : Type 0} → List ℕ → Vec ℕ A → Bool
-test t k = bytes_eq t k.items
-
 -- ---- look-ups
 
 pub shown : {A X : Type 0} (t : List ℕ) (es : List (Vec ℕ A × X)) → lookup (bytes_eq t) (map (λ e. (e.0.items, e.1)) es) ≡ lookup (test t) es
 shown t [] = refl
 shown t (e ∷ es) = ap (λ o. cond (bytes_eq t e.0.items) (Some e.1) o) (shown t es)
-
--- a name that is t is no other
-apart : (t u k : List ℕ) → u ≢ t → bytes_eq t k ≡ true → bytes_eq u k ≡ false
-apart t u k differ h = by (bytes_eq u k) refl
-  where
-    by : (b : Bool) → bytes_eq u k ≡ b → bytes_eq u k ≡ false
-    by false e = e
-    by true e = absurd (differ ((bytes_decides u k).0 e ∙ sym ((bytes_decides t k).0 h)))
-
-others_set : {A X : Type 0} (t u : List ℕ) (es : List (Vec ℕ A × X)) (w : X) → u ≢ t → lookup (test u) (set_value (test t) es w) ≡ lookup (test u) es
-others_set t u [] w differ = refl
-others_set t u (e ∷ es) w differ = by (bytes_eq t e.0.items) refl (others_set t u es w differ)
-  where
-    here : bytes_eq t e.0.items ≡ true → cond (bytes_eq u e.0.items) (Some w) (lookup (test u) es) ≡ cond (bytes_eq u e.0.items) (Some e.1) (lookup (test u) es)
-    here h = rw (apart t u e.0.items differ h)
-
-    by : (b : Bool) → bytes_eq t e.0.items ≡ b → lookup (test u) (set_value (test t) es w) ≡ lookup (test u) es
-        → lookup (test u) (cond b ((e.0, w) ∷ es) (e ∷ set_value (test t) es w)) ≡ cond (bytes_eq u e.0.items) (Some e.1) (lookup (test u) es)
-    by true h rest = here h
-    by false h rest = ap (λ o. cond (bytes_eq u e.0.items) (Some e.1) o) rest
-
-own_set : {A X : Type 0} (t : List ℕ) (es : List (Vec ℕ A × X)) (v w : X) → lookup (test t) es ≡ Some v → lookup (test t) (set_value (test t) es w) ≡ Some w
-own_set t [] v w h = cc
-own_set t (e ∷ es) v w h = by (bytes_eq t e.0.items) refl h (own_set t es v w)
-  where
-    here : bytes_eq t e.0.items ≡ true → cond (bytes_eq t e.0.items) (Some w) (lookup (test t) es) ≡ Some w
-    here k = rw k
-
-    next : bytes_eq t e.0.items ≡ false → lookup (test t) (set_value (test t) es w) ≡ Some w → cond (bytes_eq t e.0.items) (Some e.1) (lookup (test t) (set_value (test t) es w)) ≡ Some w
-    next k r = rw k r
-
-    by : (b : Bool) → bytes_eq t e.0.items ≡ b → cond b (Some e.1) (lookup (test t) es) ≡ Some v → (lookup (test t) es ≡ Some v → lookup (test t) (set_value (test t) es w) ≡ Some w)
-        → lookup (test t) (cond b ((e.0, w) ∷ es) (e ∷ set_value (test t) es w)) ≡ Some w
-    by true k r rest = here k
-    by false k r rest = next k (rest r)
 
 -- a list that stays, and the others too
 pub all_keep : (t : List ℕ) (old new : SeatState) → calls_on t new ≡ calls_on t old → missed_on t new ≡ missed_on t old → KeepsOthers t old new → KeepsLists old new
@@ -76,19 +37,6 @@ all_keep t old new calls missed others = record {
     by_missed : (u : List ℕ) (b : Bool) → bytes_eq u t ≡ b → missed_on u new ≡ missed_on u old
     by_missed u true e = subst (λ v. missed_on v new ≡ missed_on v old) (sym ((bytes_decides u t).0 e)) missed
     by_missed u false e = others.missed u (λ same. true≢false (sym ((bytes_decides u t).1 same) ∙ e))
-
--- a key that no test finds goes last
-pub insert_last : {A X : Type 0} (es : List (Vec ℕ A × X)) (k : Vec ℕ A) (v : X) (t : List ℕ) → k.items ≡ t → lookup (test t) es ≡ None → insert_entry (λ x y. bytes_eq x.items y.items) es k v ≡ es ++ (k, v) ∷ []
-insert_last {A = A} {X = X} es k v t key none = pushed es (subst (λ (u : List ℕ). lookup (test u) es ≡ None) (sym key) none)
-  where
-    pushed : (xs : List (Vec ℕ A × X)) → lookup (test k.items) xs ≡ None → insert_entry (λ x y. bytes_eq x.items y.items) xs k v ≡ xs ++ (k, v) ∷ []
-    pushed [] none = refl
-    pushed (e ∷ xs) none = by (bytes_eq k.items e.0.items) none (pushed xs)
-      where
-        by : (b : Bool) → cond b (Some e.1) (lookup (test k.items) xs) ≡ None → (lookup (test k.items) xs ≡ None → insert_entry (λ x y. bytes_eq x.items y.items) xs k v ≡ xs ++ (k, v) ∷ [])
-            → cond b ((e.0, v) ∷ xs) (e ∷ insert_entry (λ x y. bytes_eq x.items y.items) xs k v) ≡ e ∷ xs ++ (k, v) ∷ []
-        by true found rest = cc
-        by false none rest = ap (λ ys. e ∷ ys) (rest none)
 
 -- ---- one list is written
 

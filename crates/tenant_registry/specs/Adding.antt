@@ -4,7 +4,7 @@ use Rattle.std.specs.Prelude.{Option, Some, None, if◌then◌else◌}
 use Rattle.etcd_types.specs.declared.limits.TheConstants.{MAX_AUDIT, MAX_SEGMENTS, MAX_TENANTS}
 use Rattle.cell_arena.specs.Loan.{segments_for}
 use Rattle.steps_core.specs.declared.adding.OperatorFault.{OperatorFault}
-use Rattle.steps_core.specs.declared.adding.OperatorFault.TheVariants.{Limits}
+use Rattle.steps_core.specs.declared.adding.OperatorFault.TheVariants.{Limits, Memory}
 use Rattle.steps_core.specs.Adding.{first_fault, is_name, within_limits}
 use Rattle.tenant_registry.specs.declared.adding.TenantConfig.{TenantConfig}
 use Rattle.tenant_registry.specs.declared.audit.Opening.{Opening}
@@ -42,3 +42,8 @@ configs_fault free there (c ∷ cs) =
 abbrev pub new_fault : ℕ → List TenantConfig → Option OperatorFault
 new_fault segments cs =
     if nat_lt 0 segments && nat_le segments MAX_SEGMENTS then configs_fault segments [] cs else Some Limits
+
+-- why no registry is made: that reason, or else memory
+abbrev pub unmade : Option OperatorFault → OperatorFault
+unmade None = Memory
+unmade (Some f) = f

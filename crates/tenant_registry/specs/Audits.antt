@@ -48,7 +48,7 @@ pub record Log : Type 0 where
   pub opening : Opening
   pub entries : List Entry
 
--- the machine as it is built, run over the steps from the opening, gives the replies
+-- the machine, run over the steps from the opening, gives the replies
 abbrev pub IsLawful : Log → Type 0
 IsLawful a = built_replies (opening_of a.opening) (steps_of a.entries) ≡ replies_of a.entries
 

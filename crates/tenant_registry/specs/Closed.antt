@@ -57,7 +57,7 @@ AreLawful ss = All (λ s. IsLawful s.audit) ss
 abbrev pub IsNamed : List Sheet → ℕ → List ℕ → Type 0
 IsNamed ss place name = (d : Sheet) → name ≡ (slice_index_or ss place d).name.items
 
--- the fault that these audits and seats have: the first, by the name of its tenant
+-- the fault that these audits and seats have: the first, by the name of its tenant; want of memory if none
 abbrev pub IsFault : List Sheet → List SeatState → CloseFault → Type 0
 IsFault ss cs (fault.Double number) = IsVerdict ss cs (verdict.Double number)
 IsFault ss cs (fault.Opening tenant) =
@@ -68,7 +68,7 @@ IsFault ss cs (fault.Missed tenant) =
     (place : ℕ) × IsNamed ss place tenant.items × IsVerdict ss cs (verdict.Missed place)
 IsFault ss cs (fault.Differs tenant turn) =
     (place : ℕ) × IsNamed ss place tenant.items × IsVerdict ss cs (verdict.Differs place turn)
-IsFault ss cs fault.Memory = Unit {0}
+IsFault ss cs fault.Memory = IsVerdict ss cs verdict.Agree
 
 -- the fault that some lawful audits of these tenants have, those that the locks kept
 pub record HasFault (given : List (List ℕ × Opening)) (seats : List SeatState) (f : CloseFault) : Type 0 where
@@ -76,8 +76,3 @@ pub record HasFault (given : List (List ℕ × Opening)) (seats : List SeatState
   pub names : given_of sheets ≡ given
   pub lawful : AreLawful sheets
   pub is : IsFault sheets seats f
-
--- such a fault, or want of memory
-abbrev pub TellsFault : List (List ℕ × Opening) → List SeatState → CloseFault → Type 0
-TellsFault given seats fault.Memory = Unit {0}
-TellsFault given seats f = HasFault given seats f

@@ -9,3 +9,4 @@ pub mod Registries
 pub mod Adding
 pub mod Closing
 pub mod Closed
+pub mod RegistryInside

@@ -1,8 +1,13 @@
 -- What a contract sees of a registry.
-use Rattle.std.specs.Prelude.{ℕ, Bool, List, Vec, map, is_some}
+use Rattle.std.specs.Prelude.{ℕ, Bool, List, Vec, map, is_some, nat_lt, if◌then◌else◌}
 use Rattle.std.specs.Str.{bytes_eq}
 use Rattle.std.specs.Map.{lookup}
+use Rattle.etcd_types.specs.declared.limits.TheConstants.{MAX_SEATS}
+use Rattle.etcd_types.specs.declared.refusal.Refusal.{Refusal}
+use Rattle.etcd_types.specs.declared.refusal.Refusal.TheVariants as refusal
 use Rattle.tenant_registry.specs.declared.audit.Opening.{Opening}
+use Rattle.tenant_registry.specs.declared.registry.SeatFault.{SeatFault}
+use Rattle.tenant_registry.specs.declared.registry.SeatFault.TheVariants as seat
 use Rattle.tenant_registry.specs.declared.tenant.Tenant.{Tenant}
 
 -- the tenants' names, in the order in which they were added, with what each was opened with; and how many
@@ -22,3 +27,13 @@ is_among ts name = is_some (lookup (bytes_eq name) ts)
 -- a tenant of that name is there
 abbrev pub has_tenant : RegistryState → List ℕ → Bool
 has_tenant r name = is_among r.tenants name
+
+-- ---- refusals
+
+-- why a call of a tenant has no receipt: it is not there, or else memory
+abbrev pub unserved : RegistryState → List ℕ → Refusal
+unserved r name = if has_tenant r name then refusal.Memory else refusal.NoTenant
+
+-- why no seat is given: 64 were, or else memory
+abbrev pub no_seat : RegistryState → SeatFault
+no_seat r = if nat_lt r.given MAX_SEATS then seat.Memory else seat.Full

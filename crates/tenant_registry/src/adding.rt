@@ -1,15 +1,16 @@
-//! The tenants of a registry, and how one is added.
-ghost use Rattle.std.specs.Prelude.{◌≡◌, ◌+◌, ◌++◌, ◌∷◌, [], None, true, IfErr, OnErr, OnOk};
+//! The tenants that a registry is made of: what speaks against them, and how each is taken in.
+ghost use Rattle.std.specs.Prelude.{◌≡◌, ◌+◌, ◌++◌, ◌∷◌, [], map, None, Some, true};
+ghost use Rattle.std.specs.Prelude.{IfErr, IfOk, OnErr, OnOk};
 ghost use Rattle.cell_arena.specs.Loan.{segments_for};
-ghost use Rattle.steps_core.specs.Adding.{reason, within_limits};
-ghost use Rattle.tenant_registry.specs.Adding.{config_fault, opened, opening_for};
-ghost use Rattle.tenant_registry.specs.Registries.{tenants_of};
+ghost use Rattle.steps_core.specs.Adding.{within_limits};
+ghost use Rattle.tenant_registry.specs.Adding.{config_fault, new_fault, opened, opening_for};
+ghost use Rattle.tenant_registry.specs.Registries.{is_among, tenants_of};
 
 use crate::audit::Opening;
 use crate::kept::Kept;
 use crate::tenant::Tenant;
 use etcd_types::Mem;
-use etcd_types::limits::{MAX_AUDIT, MAX_TENANTS};
+use etcd_types::limits::{MAX_AUDIT, MAX_SEGMENTS, MAX_TENANTS};
 use indexmap::IndexMap;
 use segment_pool::Stock;
 use std::alloc::Global;
@@ -47,62 +48,67 @@ impl TenantConfig {
     }
 }
 
-/// Adds a tenant, with the segments that its quota takes. After a fault nothing changed.
-#[tactic(auto, using(crate::proofs::AddingLemmas::reason_first))]
-pub(crate) fn add(
-    alloc: Global,
-    tenants: &mut IndexMap<Vec<u8>, Tenant>,
-    free: &mut Stock,
-    config: &TenantConfig,
-) -> Result<(), OperatorFault>
-    ensures adds { OnOk result
-        (tenants_of tenants.new.entries ≡ tenants_of tenants.old.entries ++ opened config.now ∷ []) }
-    ensures moved { OnOk result (free.new.held + segments_for config.now.quota ≡ free.old.held) }
-    ensures none { OnOk result
-        (config_fault free.old.held (tenants_of tenants.old.entries) config.now ≡ None) }
-    ensures fault { IfErr result
-        (λ f. config_fault free.old.held (tenants_of tenants.old.entries) config.now ≡ reason f) }
-    ensures tenants { OnErr result (tenants_of tenants.new.entries ≡ tenants_of tenants.old.entries) }
-    ensures free { OnErr result (free.new ≡ free.old) }
+/// Whether a registry of so many segments can be made of these tenants, or the first reason that it can't.
+pub(crate) fn check(segments: u32, configs: &[TenantConfig]) -> Result<(), OperatorFault>
+    ensures ok { OnOk result (new_fault segments configs.now ≡ None) }
+    ensures fault { IfErr result (λ f. new_fault segments configs.now ≡ Some f) }
 {
-    if let Some(fault) = config_fault(tenants, free.held(), config) {
-        return Err(fault);
+    if segments == 0 || segments > MAX_SEGMENTS {
+        return Err(OperatorFault::Limits);
     }
-    match admit(alloc, tenants, free, config) {
-        Ok(()) => Ok(()),
-        Err(_) => Err(OperatorFault::Memory),
+    let mut free = segments;
+    for (place, config) in configs.iter().enumerate() {
+        free = left_beside(free, &configs[..place], config)?;
     }
+    Ok(())
 }
 
-/// The first reason not to add a tenant, while so many segments are free.
-fn config_fault(
-    tenants: &IndexMap<Vec<u8>, Tenant>,
+/// How many of the free segments a tenant leaves, beside those that are there, or the first reason not to
+/// add it.
+fn left_beside(
     free: u32,
+    there: &[TenantConfig],
     config: &TenantConfig,
-) -> Option<OperatorFault>
-    ensures { result ≡ config_fault free (tenants_of tenants.now.entries) config.now }
+) -> Result<u32, OperatorFault>
+    ensures ok { OnOk result (config_fault free (map opened there.now) config.now ≡ None) }
+    ensures left { IfOk result (λ left. left + segments_for config.now.quota ≡ free) }
+    ensures fault { IfErr result (λ f. config_fault free (map opened there.now) config.now ≡ Some f) }
 {
     let name = config.name.as_slice();
     if !is_name(name) {
-        return Some(OperatorFault::Name);
+        return Err(OperatorFault::Name);
     }
     if !within_limits(config.cluster, config.quota, config.first) {
-        return Some(OperatorFault::Limits);
+        return Err(OperatorFault::Limits);
     }
-    if config.audit > MAX_AUDIT || tenants.len() >= MAX_TENANTS {
-        return Some(OperatorFault::Limits);
+    if config.audit > MAX_AUDIT || there.len() >= MAX_TENANTS {
+        return Err(OperatorFault::Limits);
     }
-    if tenants.contains_key(name) {
-        return Some(OperatorFault::Taken);
+    if is_taken(there, name) {
+        return Err(OperatorFault::Taken);
     }
-    if free < segments_for(config.quota as u32) {
-        return Some(OperatorFault::Short);
+    let reserved = segments_for(config.quota as u32);
+    if free < reserved {
+        return Err(OperatorFault::Short);
     }
-    None
+    Ok(free - reserved)
 }
 
-/// Takes in a tenant that nothing speaks against.
-fn admit(
+/// One of these tenants has the name.
+fn is_taken(there: &[TenantConfig], name: &[u8]) -> bool
+    ensures { result ≡ is_among (map opened there.now) name.now }
+{
+    for config in there {
+        if name == config.name.as_slice() {
+            return true;
+        }
+    }
+    false
+}
+
+/// Takes in a tenant that nothing speaks against, with the segments that its quota takes. If it finds no
+/// memory, nothing changed.
+pub(crate) fn admit(
     alloc: Global,
     tenants: &mut IndexMap<Vec<u8>, Tenant>,
     free: &mut Stock,

@@ -1,7 +1,7 @@
 //! Closing a registry.
-ghost use Rattle.std.specs.Prelude.{◌≡◌, ◌<◌, IfErr, IfOk, vec_len};
+ghost use Rattle.std.specs.Prelude.{◌≡◌, ◌<◌, ◌≤◌, [], length, IfErr, IfOk, vec_len, vec_capacity};
 ghost use Rattle.tenant_registry.specs.Audits.{IsLawful};
-ghost use Rattle.tenant_registry.specs.Closed.{AreClosed, AreLawful, IsFault, IsNamed, TellsFault, audits_of};
+ghost use Rattle.tenant_registry.specs.Closed.{AreClosed, AreLawful, HasFault, IsFault, IsNamed, audits_of};
 ghost use Rattle.tenant_registry.specs.Closed.{given_of, sheet_audits};
 ghost use Rattle.tenant_registry.specs.Registries.{tenants_of};
 
@@ -20,7 +20,7 @@ pub struct Closed {
 }
 
 /// Why audits and seats' lists are not the same, in the order in which the reasons count. Each is told of the
-/// first such tenant. Memory may stand in another's place.
+/// first such tenant.
 #[derive(Debug, Drop)]
 pub enum CloseFault {
     /// Two seats have this number.
@@ -44,37 +44,37 @@ pub enum CloseFault {
         tenant: Vec<u8>,
         turn: u32,
     },
-    /// A growth was refused.
+    /// All are the same, and the list of the audits can't be held.
     Memory,
 }
 
-/// Closes tenants, whatever their locks kept.
+/// Closes tenants, whatever their locks kept. The list of sheets is empty, and has room for one of each.
 pub(crate) fn close(
     alloc: Global,
     tenants: IndexMap<Vec<u8>, Tenant>,
+    sheets: Vec<Sheet>,
     seats: Vec<Seat>,
 ) -> Result<Closed, CloseFault>
+    requires none { sheets.items ≡ [] }
+    requires room { length tenants.entries ≤ vec_capacity sheets }
     ensures ok { IfOk result
         (λ closed. AreClosed (tenants_of tenants.entries) seats.items (audits_of closed.audits.items)) }
-    ensures fault { IfErr result (λ f. TellsFault (tenants_of tenants.entries) seats.items f) }
+    ensures fault { IfErr result (λ f. HasFault (tenants_of tenants.entries) seats.items f) }
 {
-    match sheets_of(alloc, tenants) {
-        Ok(sheets) => settle(alloc, sheets, seats),
-        Err(_) => Err(CloseFault::Memory),
-    }
+    settle(alloc, sheets_of(tenants, sheets), seats)
 }
 
-/// What the locks kept, beside what was given.
-fn sheets_of(alloc: Global, tenants: IndexMap<Vec<u8>, Tenant>) -> Mem<Vec<Sheet>>
-    ensures given { IfOk result (λ sheets. given_of sheets.items ≡ tenants_of tenants.entries) }
-    ensures lawful { IfOk result (λ sheets. AreLawful sheets.items) }
+/// What the locks kept, beside what was given, in a list with room for it.
+fn sheets_of(tenants: IndexMap<Vec<u8>, Tenant>, mut sheets: Vec<Sheet>) -> Vec<Sheet>
+    requires none { sheets.items ≡ [] }
+    requires room { length tenants.entries ≤ vec_capacity sheets }
+    ensures given { given_of result.items ≡ tenants_of tenants.entries }
+    ensures lawful { AreLawful result.items }
 {
-    let mut sheets = Vec::with_capacity(alloc, tenants.len())?;
     for (name, tenant) in tenants {
-        let sheet = sheet_of(name, tenant);
-        sheets.push(sheet)?;
+        sheets.push_reserved(sheet_of(name, tenant));
     }
-    Ok(sheets)
+    sheets
 }
 
 fn sheet_of(name: Vec<u8>, tenant: Tenant) -> Sheet

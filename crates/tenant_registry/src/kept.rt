@@ -141,7 +141,7 @@ impl Model for Kept {
 
 impl Kept {
     /// A tenant at its opening, with the segments that its quota takes, which are moved from the free ones.
-    /// Where it finds no memory, none was moved.
+    /// If it finds no memory, none was moved.
     pub(crate) fn open(alloc: Global, opening: Opening, free: &mut Stock) -> Mem<Kept>
         requires allowed { IsAllowed opening }
         requires enough { segments_for opening.quota ≤ free.old.held }
@@ -166,7 +166,7 @@ impl Kept {
     }
 
     /// Serves one step of the machine. Unless the audit is full, it keeps the step with its reply. All memory
-    /// is taken before the commit, and where there is none, nothing changes.
+    /// is taken before the commit, and if there is none, nothing changes.
     pub fn serve(&mut self, seat: u8, step: Step) -> Mem<Served>
         ensures ok { IfOk result (λ served. Serves self.old seat step served self.new) }
         ensures err { OnErr result (self.new ≡ self.old) }

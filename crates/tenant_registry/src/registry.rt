@@ -1,22 +1,21 @@
 //! All tenants, by name, each under a lock of its own.
 ghost use Rattle.std.specs.Prelude.{◌≡◌, ◌≢◌, ◌+◌, [], true, false, map, None, Some, Err, IfErr, IfOk};
 ghost use Rattle.std.specs.Prelude.{OnErr, OnOk};
-ghost use Rattle.etcd_types.specs.declared.refusal.Refusal.TheVariants as refusal;
-ghost use Rattle.steps_core.specs.declared.adding.OperatorFault.TheVariants as operator;
-ghost use Rattle.tenant_registry.specs.Adding.{new_fault, opened};
-ghost use Rattle.tenant_registry.specs.Closed.{AreClosed, TellsFault, audits_of};
-ghost use Rattle.tenant_registry.specs.Registries.{has_tenant};
+ghost use Rattle.tenant_registry.specs.Adding.{new_fault, opened, unmade};
+ghost use Rattle.tenant_registry.specs.Closed.{AreClosed, HasFault, audits_of};
+ghost use Rattle.tenant_registry.specs.Registries.{has_tenant, no_seat, unserved};
 ghost use Rattle.tenant_registry.specs.Seats.{Keeps, KeepsLists};
 ghost use Rattle.tenant_registry.specs.Serving.{IsServed};
 
-use crate::adding::{TenantConfig, add};
+use crate::adding::{TenantConfig, admit, check};
+use crate::close::Sheet;
 use crate::closed::{CloseFault, Closed, close};
 use crate::gate::{Gate, pass};
 use crate::kept::{Kept, Receipt, Served};
 use crate::seat::Seat;
 use crate::tally::Call;
 use crate::tenant::Tenant;
-use etcd_types::limits::{MAX_SEATS, MAX_SEGMENTS};
+use etcd_types::limits::MAX_SEATS;
 use etcd_types::{Mem, Refusal, Step};
 use indexmap::IndexMap;
 use segment_pool::Stock;
@@ -43,22 +42,26 @@ pub struct Registry {
     given: u8,
     /// The segments that no tenant reserved.
     free: Mutex<Stock>,
+    /// Empty, with room for each tenant: closing compares without memory.
+    sheets: Vec<Sheet>,
     alloc: Global,
 }
 
 impl Model for Registry {
-    ghost use Rattle.std.specs.Prelude.{◌≤◌};
     ghost use Rattle.tenant_registry.specs.Registries.{RegistryState, tenants_of};
 
     ghost Value = { RegistryState };
 
+    ghost use Rattle.tenant_registry.specs.RegistryInside.{CanClose};
+
     ghost view = { λ r. record { tenants = tenants_of r.tenants.entries; given = r.given } };
 
-    ghost invariant = { λ r. r.given ≤ 64 };
+    ghost invariant = { CanClose };
 }
 
 impl Registry {
-    /// A registry of so many segments and of these tenants, each at its opening.
+    /// A registry of so many segments and of these tenants, each at its opening. It is refused for the first
+    /// reason that speaks against them, in their order; if there is none, for want of memory.
     pub fn new(
         alloc: Global,
         configs: Vec<TenantConfig>,
@@ -67,23 +70,32 @@ impl Registry {
         ensures opens { IfOk result
             (λ registry. registry ≡ record { tenants = map opened configs.items; given = 0 }) }
         ensures none { OnOk result (new_fault segments configs.items ≡ None) }
-        ensures fault { IfErr result
-            (λ f. f ≢ operator.Memory → new_fault segments configs.items ≡ Some f) }
+        ensures fault { IfErr result (λ f. f ≡ unmade (new_fault segments configs.items)) }
     {
-        if segments == 0 || segments > MAX_SEGMENTS {
-            return Err(OperatorFault::Limits);
+        check(segments, configs.as_slice())?;
+        match Registry::open(alloc, configs.as_slice(), segments) {
+            Ok(registry) => Ok(registry),
+            Err(_) => Err(OperatorFault::Memory),
         }
-        let Ok(mut free) = Stock::new(alloc, segments) else {
-            return Err(OperatorFault::Memory);
-        };
+    }
+
+    /// A registry of tenants that nothing speaks against.
+    fn open(alloc: Global, configs: &[TenantConfig], segments: u32) -> Mem<Registry>
+        requires { new_fault segments configs.now ≡ None }
+        ensures { IfOk result
+            (λ registry. registry ≡ record { tenants = map opened configs.now; given = 0 }) }
+    {
+        let mut free = Stock::new(alloc, segments)?;
         let mut tenants = IndexMap::new(alloc);
-        for config in &configs {
-            add(alloc, &mut tenants, &mut free, config)?;
+        let sheets = Vec::with_capacity(alloc, configs.len())?;
+        for config in configs {
+            admit(alloc, &mut tenants, &mut free, config)?;
         }
         Ok(Registry {
             tenants,
             given: 0,
             free: Mutex::new(free),
+            sheets,
             alloc,
         })
     }
@@ -95,11 +107,11 @@ impl Registry {
         self.tenants.contains_key(tenant)
     }
 
-    /// A seat with no calls, under a number that no other of this registry has.
+    /// A seat with no calls, under a number that no other of this registry has. There are 64.
     pub fn seat(&mut self) -> Result<Seat, SeatFault>
         ensures seat { IfOk result (λ seat. seat ≡ record { number = self.old.given; tallies = [] }) }
         ensures ok { OnOk result (self.new ≡ record self.old { given = self.old.given + 1 }) }
-        ensures full { result ≡ Err SeatFault.Full → self.old.given ≡ 64 }
+        ensures fault { IfErr result (λ f. f ≡ no_seat self.old) }
         ensures err { OnErr result (self.new ≡ self.old) }
     {
         if usize::from(self.given) >= MAX_SEATS {
@@ -113,7 +125,7 @@ impl Registry {
     }
 
     /// One step of a tenant under its lock, once the gate lets it pass. No other lock is taken. It is refused
-    /// where no such tenant is there, or for want of memory; every other refusal has a receipt.
+    /// if no such tenant is there, and else only for want of memory; every other refusal has a receipt.
     pub fn call<R: Wait + Clock, G: Gate>(
         &self,
         rt: &R,
@@ -125,8 +137,7 @@ impl Registry {
         ensures keeps { IfOk result
             (λ receipt. Keeps receipt.turn tenant.now step receipt seat.old seat.new) }
         ensures there { OnOk result (has_tenant self.now tenant.now ≡ true) }
-        ensures refused { IfErr result (λ r. r ≢ refusal.Memory
-            → (r ≡ refusal.NoTenant) × (has_tenant self.now tenant.now ≡ false)) }
+        ensures refused { IfErr result (λ r. r ≡ unserved self.now tenant.now) }
         ensures err { OnErr result (KeepsLists seat.old seat.new) }
     {
         match self.tenants.get(tenant) {
@@ -138,19 +149,21 @@ impl Registry {
         }
     }
 
-    /// Ends the registry. It hands out the audits where they are the seats' lists and nothing else.
+    /// Ends the registry. It hands out the audits if they are the seats' lists and nothing else. Else it tells
+    /// what differs first, which takes no memory.
     pub fn close(self, seats: Vec<Seat>) -> Result<Closed, CloseFault>
         ensures ok { IfOk result
             (λ closed. AreClosed self.tenants seats.items (audits_of closed.audits.items)) }
-        ensures fault { IfErr result (λ f. TellsFault self.tenants seats.items f) }
+        ensures fault { IfErr result (λ f. HasFault self.tenants seats.items f) }
     {
         let Registry {
             tenants,
             given: _,
             free: _,
+            sheets,
             alloc,
         } = self;
-        close(alloc, tenants, seats)
+        close(alloc, tenants, sheets, seats)
     }
 }
 

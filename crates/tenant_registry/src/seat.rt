@@ -83,7 +83,7 @@ impl Seat {
         self.make_room(tenant)
     }
 
-    /// Begins a list on a tenant, where there is none yet.
+    /// Begins a list on a tenant, if there is none yet.
     fn begin(&mut self, tenant: &[u8]) -> Mem<()>
         ensures keeps { KeepsLists self.old self.new }
         ensures there { OnOk result (has_tally tenant.now self.new ≡ true) }

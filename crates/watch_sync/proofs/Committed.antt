@@ -51,3 +51,22 @@ all_committed old new writes slots commits agree = All-weaker (OneAgrees old) (O
     one : (o : Option WatchState) → OneAgrees old o → OneAgrees new o
     one None h = tt
     one (Some w) h = after_commit old new writes w commits h
+
+-- ---- a store that keeps the same under the same cells
+
+pub as_before : (old new : StoreState) (w : WatchState) → new.kept ≡ old.kept → cells new ≡ cells old → Agrees w old → Agrees w new
+as_before old new w kept same agrees = record {
+  up_to = omega (arith, agrees.up_to, ap (λ (k : Store). k.current) kept);
+  filled = λ goes.
+      subst (λ (k : Store). AreNotes (cells new) w.ring (ahead w.watch (before w.position k.changes))) (sym kept)
+      (subst (λ cs. AreNotes cs w.ring (ahead w.watch (before w.position old.kept.changes))) (sym same)
+      (agrees.filled (omega (arith, goes, ap (λ (k : Store). k.compacted) kept))));
+  lost = λ less. agrees.lost (omega (arith, less, ap (λ (k : Store). k.compacted) kept));
+}
+
+pub all_as_before : (old new : StoreState) (slots : List (Option WatchState)) → new.kept ≡ old.kept → cells new ≡ cells old → AllAgree slots old → AllAgree slots new
+all_as_before old new slots kept same agree = All-weaker (OneAgrees old) (OneAgrees new) one slots agree
+  where
+    one : (o : Option WatchState) → OneAgrees old o → OneAgrees new o
+    one None h = tt
+    one (Some w) h = as_before old new w kept same h

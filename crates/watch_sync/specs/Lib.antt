@@ -3,3 +3,4 @@ pub mod Agreeing
 pub mod Gathering
 pub mod Slots
 pub mod Telling
+pub mod Codes

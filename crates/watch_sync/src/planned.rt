@@ -1,4 +1,6 @@
 //! What is planned for a slot.
+ghost use Rattle.std.specs.Prelude.{◌≡◌};
+
 use crate::watch::OpenWatch;
 use etcd_types::Reply;
 use std::marker::Model;
@@ -16,6 +18,15 @@ impl Model for NewWatch {
     ghost Value = { Opening };
 
     ghost view = { λ n. record { slot = n.slot; watch = n.watch } };
+}
+
+impl NewWatch {
+    /// The slot that the watch gets.
+    pub fn slot(&self) -> u8
+        ensures { result ≡ self.now.slot }
+    {
+        self.slot
+    }
 }
 
 /// What a take makes of the watches.

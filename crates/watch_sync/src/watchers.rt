@@ -28,8 +28,11 @@ impl Model for Watchers {
     ghost use Rattle.std.specs.Prelude.{List, Option, length, ◌≡◌};
     ghost use Rattle.etcd_types.specs.Limits.{watch_slots};
     ghost use Rattle.watch_sync.specs.Agreeing.{WatchState};
+    ghost use Rattle.watch_sync.specs.Codes.{watchers_code};
 
     ghost Value = { List (Option WatchState) };
+
+    ghost coded = { watchers_code };
 
     ghost view = { λ a. a.slots.items };
 

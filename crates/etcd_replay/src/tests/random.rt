@@ -23,8 +23,30 @@ impl Random {
         Random { state: 1 }
     }
 
-    /// A call of a tenant whose revision is this one.
+    /// A line of a tenant whose revision is this one.
     pub(super) fn line(&mut self, alloc: Global, tenant: &str, revision: u64) -> Mem<String> {
+        match self.below(40) {
+            0..=7 => self.slot_line(alloc, "take", tenant),
+            8 => self.slot_line(alloc, "drop", tenant),
+            _ => self.call_line(alloc, tenant, revision),
+        }
+    }
+
+    /// A word for one of the first slots, or for any, and some that are none.
+    fn slot_line(&mut self, alloc: Global, word: &str, tenant: &str) -> Mem<String> {
+        let slots = if self.below(4) == 0 { 70 } else { 6 };
+        let slot = self.below(slots);
+        format!(in alloc; "{word} {tenant} {slot}\n")
+    }
+
+    /// A catch-up of few changes or of many.
+    pub(super) fn catch_up(&mut self, alloc: Global, tenant: &str) -> Mem<String> {
+        let most = if self.below(3) == 0 { 1000 } else { 5 };
+        let budget = self.below(most);
+        format!(in alloc; "catchup {tenant} {budget}\n")
+    }
+
+    fn call_line(&mut self, alloc: Global, tenant: &str, revision: u64) -> Mem<String> {
         let mut text = String::from_str(alloc, "call POST /t/")?;
         text.push_str(tenant)?;
         text.push_str("/v3/")?;
@@ -34,7 +56,7 @@ impl Random {
     }
 
     fn write_call(&mut self, text: &mut String, revision: u64) -> Mem<()> {
-        match self.below(24) {
+        match self.below(26) {
             0..=9 => self.write_put(text, "kv/put "),
             10..=12 => self.write_delete(text, "kv/deleterange "),
             13..=15 => self.write_range(text, "kv/range ", revision),
@@ -43,6 +65,7 @@ impl Random {
                 "maintenance/alarm {\"action\":\"DEACTIVATE\",\"alarm\":\"NOSPACE\"",
             ),
             19 => text.push_str("maintenance/status {"),
+            20 | 21 => self.write_watch(text, revision),
             _ => self.write_txn(text, revision),
         }
     }
@@ -125,6 +148,23 @@ impl Random {
     /// A revision that is not long ago, or the next one.
     fn near(&mut self, revision: u64) -> u64 {
         revision.saturating_add(1).saturating_sub(self.below(24))
+    }
+
+    /// A watch of a key or of all, from a revision or from now on.
+    fn write_watch(&mut self, text: &mut String, revision: u64) -> Mem<()> {
+        text.push_str("watch {\"create_request\":")?;
+        self.write_interval(text, 2)?;
+        if self.below(2) == 0 {
+            let at = self.near(revision);
+            write!(text, ",\"start_revision\":\"{at}\"")?;
+        }
+        match self.below(4) {
+            0 => text.push_str(",\"filters\":[\"NOPUT\"]")?,
+            1 => text.push_str(",\"filters\":[\"NODELETE\"]")?,
+            _ => {}
+        }
+        self.write_prev_kv(text)?;
+        text.push('}')
     }
 
     fn write_prev_kv(&mut self, text: &mut String) -> Mem<()> {

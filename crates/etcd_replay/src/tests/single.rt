@@ -68,14 +68,26 @@ impl<S: Source> Single<S> {
 
     /// The status and the body that an event is answered.
     pub(super) fn answer(&mut self, alloc: Global, event: LentEvent<'_>) -> Mem<(u16, Vec<u8>)> {
-        let LentEvent::Call {
-            method,
-            target,
-            body,
-        } = event
-        else {
-            return refuse(alloc, Refusal::NotOffered);
-        };
+        match event {
+            LentEvent::Call {
+                method,
+                target,
+                body,
+            } => self.call(alloc, method, target, body),
+            LentEvent::Take { slot, .. } => self.step(alloc, &Step::Take(slot)),
+            LentEvent::DropWatch { slot, .. } => self.step(alloc, &Step::DropWatch(slot)),
+            LentEvent::Tick { moment, .. } => self.step(alloc, &Step::Tick(moment)),
+            LentEvent::CatchUp { budget, .. } => self.step(alloc, &Step::CatchUp(budget)),
+        }
+    }
+
+    fn call(
+        &mut self,
+        alloc: Global,
+        method: &[u8],
+        target: &[u8],
+        body: &[u8],
+    ) -> Mem<(u16, Vec<u8>)> {
         let Some(target) = target_of(target) else {
             return refuse(alloc, Refusal::NoPath);
         };

@@ -209,9 +209,9 @@ pub(super) const REFUSALS: [Row; 17] = [
         body: r#"{"code":3,"error":"etcd_host: the body can't be read","message":"etcd_host: the body can't be read"}"#,
     },
     Row {
-        asked: Asked::Call("POST", "/t/one/v3/lease/grant", "not looked at"),
-        status: 501,
-        body: r#"{"code":12,"error":"etcd_host: not offered","message":"etcd_host: not offered"}"#,
+        asked: Asked::Call("POST", "/t/one/v3/lease/grant", "not an object"),
+        status: 400,
+        body: r#"{"code":3,"error":"etcd_host: the body can't be read","message":"etcd_host: the body can't be read"}"#,
     },
     Row {
         asked: Asked::Tick("two", 5),
@@ -235,22 +235,22 @@ pub(super) const REFUSALS: [Row; 17] = [
     },
     Row {
         asked: Asked::Tick("one", 5),
-        status: 501,
-        body: r#"{"code":12,"error":"etcd_host: not offered","message":"etcd_host: not offered"}"#,
+        status: 204,
+        body: "",
     },
     Row {
         asked: Asked::Take("one", 0),
-        status: 501,
-        body: r#"{"code":12,"error":"etcd_host: not offered","message":"etcd_host: not offered"}"#,
+        status: 204,
+        body: "",
     },
     Row {
         asked: Asked::Drop("one", 7),
-        status: 501,
-        body: r#"{"code":12,"error":"etcd_host: not offered","message":"etcd_host: not offered"}"#,
+        status: 204,
+        body: "",
     },
     Row {
         asked: Asked::CatchUp("one", 3),
-        status: 501,
-        body: r#"{"code":12,"error":"etcd_host: not offered","message":"etcd_host: not offered"}"#,
+        status: 204,
+        body: "",
     },
 ];

@@ -94,8 +94,17 @@ impl Keyed {
         }
     }
 
+    fn next_due(&mut self) -> Option<i64> {
+        self.book.next_due()
+    }
+
     fn end_due(&mut self, moment: u64) {
-        self.book.end_due(moment);
+        self.book.collect_due(moment);
+        for _lease in 0..self.book.room() {
+            if let Some(id) = self.next_due() {
+                self.end(id);
+            }
+        }
     }
 
     /// Whether the keys of a lease have these newest records, in this order.

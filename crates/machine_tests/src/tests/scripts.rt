@@ -22,10 +22,14 @@ pub(super) enum Ask {
     Alarm(AlarmAction, AlarmKind),
     Status,
     Defragment,
+    /// Of so many seconds, with an ID.
+    Grant(i64, i64),
     Leases,
     Revoke(i64),
     KeepAlive(i64),
     TimeToLive(i64),
+    /// Of `foo`, from a revision on.
+    Watch(i64),
     Take(u8),
     DropWatch(u8),
     CatchUp(u32),
@@ -99,20 +103,68 @@ const CLEAR: Ask = Ask::Alarm(AlarmAction::Deactivate, AlarmKind::NoSpace);
 
 const ALARMS: Ask = Ask::Alarm(AlarmAction::Get, AlarmKind::Any);
 
-/// Leases, watches, the clock, and the alarm of corruption.
-pub(super) const NOT_OFFERED: [Line; 10] = [
-    (Ask::Leases, "NotOffered"),
-    (Ask::Revoke(1), "NotOffered"),
-    (Ask::KeepAlive(1), "NotOffered"),
-    (Ask::TimeToLive(1), "NotOffered"),
-    (Ask::Take(0), "NotOffered"),
-    (Ask::DropWatch(0), "NotOffered"),
-    (Ask::CatchUp(1), "NotOffered"),
-    (Ask::Tick(5), "NotOffered"),
+/// The alarm of corruption.
+pub(super) const NOT_OFFERED: [Line; 2] = [
     (
         Ask::Alarm(AlarmAction::Activate, AlarmKind::Corrupt),
         "NotOffered",
     ),
+    (PUT, "2"),
+];
+
+const PUT_OF_LEASE_1: Ask = Ask::Put(Put {
+    key: "foo",
+    value: "bar",
+    lease: 1,
+    ignore_value: false,
+});
+
+/// A lease of five seconds with a key is kept alive, and runs out at the ninth; another is revoked. The clock
+/// does not go back, and stays at its last moment.
+pub(super) const LEASES: [Line; 24] = [
+    (Ask::Grant(5, 0), "1: 1 5"),
+    (Ask::Grant(60, 7), "1: 7 60"),
+    (Ask::Grant(60, 7), "LeaseExists"),
+    (Ask::Leases, "1: 2"),
+    (PUT_OF_LEASE_1, "2"),
+    (Ask::TimeToLive(1), "2: 5 5 1"),
+    (Ask::Tick(4), "quiet"),
+    (Ask::TimeToLive(1), "2: 1 5 1"),
+    (Ask::KeepAlive(1), "2: 1 5"),
+    (Ask::Tick(2), "quiet"),
+    (Ask::Tick(8), "quiet"),
+    (Ask::Range(0), "2: 1"),
+    (Ask::Tick(9), "quiet"),
+    (Ask::Range(0), "3: 0"),
+    (Ask::TimeToLive(1), "3: -1 0 0"),
+    (Ask::KeepAlive(1), "3: 1 0"),
+    (Ask::Revoke(1), "LeaseNotFound"),
+    (Ask::Leases, "3: 1"),
+    (Ask::Revoke(7), "3"),
+    (Ask::Leases, "3: 0"),
+    (Ask::Tick(18_446_744_073_709_551_615), "quiet"),
+    (Ask::Grant(5, 0), "3: 2 5"),
+    (Ask::TimeToLive(2), "3: 5 5 0"),
+    (Ask::Tick(18_446_744_073_709_551_615), "quiet"),
+];
+
+/// A put without the lease takes its key off it, and the lease's end leaves the key.
+pub(super) const PUT_AGAIN: [Line; 7] = [
+    (Ask::Grant(5, 1), "1: 1 5"),
+    (PUT_OF_LEASE_1, "2"),
+    (PUT, "3"),
+    (Ask::TimeToLive(1), "3: 5 5 0"),
+    (Ask::Tick(5), "quiet"),
+    (Ask::Range(0), "3: 1"),
+    (Ask::Leases, "3: 0"),
+];
+
+/// No slot is taken: takes, drops and catch-ups change nothing.
+pub(super) const NO_WATCH: [Line; 5] = [
+    (Ask::Take(0), "quiet"),
+    (Ask::Take(255), "quiet"),
+    (Ask::DropWatch(64), "quiet"),
+    (Ask::CatchUp(1), "quiet"),
     (PUT, "2"),
 ];
 
@@ -214,4 +266,28 @@ pub(super) const BRANCHES_AT_A_FULL_QUOTA: [Line; 11] = [
     (Ask::IfLive(Branch::Delete, Branch::Put), "3: success 1"),
     (Ask::Status, "3: 192 192"),
     (ALARMS, "3: none"),
+];
+
+/// A watch from the first change on and one of what comes, with a catch-up between. A compaction cancels
+/// the one that was not told of all below it, and not the other. Then the next watch has its slot.
+pub(super) const WATCHES: [Line; 19] = [
+    (PUT, "2"),
+    (Ask::Watch(2), "2: slot 0"),
+    (Ask::Watch(0), "2: slot 1"),
+    (PUT, "3"),
+    (Ask::Take(0), "3: 2 events"),
+    (Ask::Take(0), "quiet"),
+    (Ask::CatchUp(1), "quiet"),
+    (Ask::Delete("foo"), "4: 1"),
+    (Ask::Take(1), "4: 2 events"),
+    (Ask::Delete("foo"), "4: 0"),
+    (PUT, "5"),
+    (Ask::Compact(5), "5"),
+    (Ask::Take(0), "5: canceled"),
+    (Ask::Take(0), "quiet"),
+    (Ask::Take(1), "5: 1 events"),
+    (Ask::Watch(0), "5: slot 0"),
+    (Ask::DropWatch(1), "quiet"),
+    (Ask::Take(1), "quiet"),
+    (Ask::Take(200), "quiet"),
 ];

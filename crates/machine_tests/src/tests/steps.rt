@@ -1,8 +1,8 @@
 //! The steps of scripts.
 use crate::tests::scripts::{Ask, BAR, Branch, Put};
 use etcd_types::{
-    AlarmReq, Compare, CompareResult, DeleteReq, List, Mem, Op, Operand, PutReq, RangeReq,
-    SortOrder, SortTarget, Step, TxnReq,
+    AlarmReq, Compare, CompareResult, DeleteReq, GrantReq, List, Mem, Op, Operand, PutReq,
+    RangeReq, SortOrder, SortTarget, Step, TxnReq, WatchReq,
 };
 use std::alloc::Global;
 
@@ -23,10 +23,12 @@ pub(super) fn step_of(alloc: Global, ask: Ask) -> Mem<Step> {
         })),
         Ask::Status => Ok(Step::Status),
         Ask::Defragment => Ok(Step::Defragment),
+        Ask::Grant(ttl, id) => Ok(Step::Grant(GrantReq { ttl, id })),
         Ask::Leases => Ok(Step::Leases),
         Ask::Revoke(id) => Ok(Step::Revoke(id)),
         Ask::KeepAlive(id) => Ok(Step::KeepAlive(id)),
         Ask::TimeToLive(id) => Ok(Step::TimeToLive { id, keys: true }),
+        Ask::Watch(start) => watch_step(alloc, start),
         Ask::Take(slot) => Ok(Step::Take(slot)),
         Ask::DropWatch(slot) => Ok(Step::DropWatch(slot)),
         Ask::CatchUp(changes) => Ok(Step::CatchUp(changes)),
@@ -76,6 +78,19 @@ fn range_step(alloc: Global, revision: i64) -> Mem<Step> {
         max_mod_revision: 0,
         min_create_revision: 0,
         max_create_revision: 0,
+    }))
+}
+
+fn watch_step(alloc: Global, start: i64) -> Mem<Step> {
+    Ok(Step::Watch(WatchReq {
+        key: List::from_slice(alloc, b"foo")?,
+        range_end: List::new(alloc),
+        start_revision: start,
+        no_put: false,
+        no_delete: false,
+        prev_kv: false,
+        watch_id: 0,
+        progress_notify: false,
     }))
 }
 

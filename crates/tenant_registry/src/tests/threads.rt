@@ -10,6 +10,7 @@ use std::sync::Wait;
 use std::sync::atomic::{AtomicBool, Ordering};
 use std::test::Fail;
 use std::thread::{self, Threads};
+use std::time::Duration;
 
 /// A caller's seat, with the receipts of its calls on the first tenant.
 #[derive(Drop)]
@@ -125,6 +126,8 @@ fn a_seat_that_is_kept_back_is_missed(rt: HostRuntime) -> Result<(), Fail> {
 /// Holds calls on the first tenant until another call was answered.
 #[derive(Drop)]
 struct Until<'a> {
+    /// A call on the first tenant is held, under its lock.
+    held: &'a AtomicBool,
     answered: &'a AtomicBool,
     last: &'a AtomicBool,
 }
@@ -134,7 +137,21 @@ impl Gate for Until<'_> {
         if turn >= 9_999 {
             self.last.store(true, Ordering::SeqCst);
         }
-        tenant == b"one".as_slice() && !self.answered.load(Ordering::SeqCst)
+        if tenant != b"one".as_slice() {
+            return false;
+        }
+        self.held.store(true, Ordering::SeqCst);
+        !self.answered.load(Ordering::SeqCst)
+    }
+}
+
+/// Waits until this is so, ten seconds at most.
+fn wait_for<R: Clock>(rt: &R, so: &AtomicBool) {
+    for _ in 0..10_000 {
+        if so.load(Ordering::SeqCst) {
+            return;
+        }
+        thread::sleep(rt, Duration::from_millis(1));
     }
 }
 
@@ -150,7 +167,8 @@ fn held_call<R: Wait + Clock + Abort>(
     registry.call(rt, &mut seat, gate, tenant, step).is_ok()
 }
 
-/// Two calls on two tenants: the first is held under its lock until the second was answered.
+/// Two calls on two tenants: the first is held under its lock until the second, which begins later, was
+/// answered.
 fn overlap<R: Threads + Wait + Clock + Abort + Sync>(
     rt: &R,
     alloc: Global,
@@ -158,9 +176,11 @@ fn overlap<R: Threads + Wait + Clock + Abort + Sync>(
     one: Seat,
     two: Seat,
 ) -> bool {
+    let held = AtomicBool::new(false);
     let answered = AtomicBool::new(false);
     let last = AtomicBool::new(false);
     let gate = Until {
+        held: &held,
         answered: &answered,
         last: &last,
     };
@@ -168,6 +188,7 @@ fn overlap<R: Threads + Wait + Clock + Abort + Sync>(
         rt,
         || held_call(rt, alloc, registry, one, &gate, b"one"),
         || {
+            wait_for(rt, &held);
             let told = held_call(rt, alloc, registry, two, &gate, b"two");
             answered.store(true, Ordering::SeqCst);
             told

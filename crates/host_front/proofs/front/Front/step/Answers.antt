@@ -1,6 +1,8 @@
-use Rattle.std.proofs.Common.{◌∙◌, ap}
+use Rattle.std.proofs.Common.{◌≡◌, ◌∙◌, ap, false, subst, sym, true}
+use Rattle.etcd_types.specs.declared.reply.Reply.{Reply}
 use Rattle.etcd_model.specs.ReplyText.{text}
-use Rattle.host_front.proofs.Answered.{step_made, step_unplanned}
+use Rattle.host_front.specs.Answering.{has_fixed_text}
+use Rattle.host_front.proofs.Answered.{step_made, step_unplanned, step_untold}
 use Rattle.host_front.proofs.front.Front.step.Goals as goal
 
 pub returns : goal.returns
@@ -11,3 +13,8 @@ pub returns-in-Err : goal.returns-in-Err
 returns-in-Err c =
     step_unplanned c.args.self.now.host c.args.tenant.now c.args.step.now c.in-Err.refusal c.refused.result
     c.in-Err.ensures.err c.in-Err.ensures.sure c.refused.ensures
+
+pub returns-in_default : goal.returns-in_default
+returns-in_default c =
+    step_untold c.args.self.now.host c.args.tenant.now c.args.step.now _ c.no_memory.result c.in-Ok.ensures.ok
+    (λ fixed. c.in_default.ensures.sure (ap has_fixed_text c.reply.ensures ∙ fixed)) c.no_memory.ensures

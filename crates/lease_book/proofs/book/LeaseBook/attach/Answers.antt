@@ -24,6 +24,7 @@ invariant_of-self g c =
       book = c.self.invariant.book;
       rise = rw c.put_key.ensures.items (rises cells _ new.ascend);
       same_room = c.put_key.ensures.room ∙ c.self.invariant.same_room;
+      due_fits = c.self.invariant.due_fits;
     }
 
 pub returns-clause-attached : goal.returns-clause-attached

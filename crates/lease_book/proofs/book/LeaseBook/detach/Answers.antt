@@ -21,6 +21,7 @@ invariant_of-self g c =
       book = c.self.invariant.book;
       rise = rw c.drop_key.ensures.items (rise_filter (λ (b : Attachment). not (is_eq (attachment_cmp cells b gone))) c.self.inside.attachments.items c.self.invariant.rise);
       same_room = c.drop_key.ensures.room ∙ c.self.invariant.same_room;
+      due_fits = c.self.invariant.due_fits;
     }
 
 pub returns-clause-attached : goal.returns-clause-attached

@@ -14,7 +14,7 @@ invariant_of-self c =
     let position : position_of list.sizes c.place_with-place.result ≡ ids_below (leases_of list.items) c.args.id = search rules in
     let items : c.remove.new.self.items ≡ remove list.items (ids_below (leases_of list.items) c.args.id) = c.remove.ensures.items ∙ ap (remove list.items) position in
     let sound = gone_book list.items c.self.inside.soonest list.room c.self.invariant.book c.args.id has in
-    rw (items, c.remove.ensures.room) (record { book = sound; rise = c.drop_keys.ensures.rise; same_room = c.drop_keys.ensures.room ∙ c.self.invariant.same_room })
+    rw (items, c.remove.ensures.room) (record { book = sound; rise = c.drop_keys.ensures.rise; same_room = c.drop_keys.ensures.room ∙ c.self.invariant.same_room; due_fits = c.self.invariant.due_fits })
 
 pub returns-clause-value : goal.returns-clause-value
 returns-clause-value c =

@@ -8,4 +8,5 @@ invariant_of-result c =
       book = record { ascend = tt; within = tt; count = omega arith; room = omega (arith, c.in_ok-list.ensures.room) };
       rise = tt;
       same_room = omega (arith, c.in_ok-list.ensures.room, c.in_ok-attachments.ensures.room);
+      due_fits = omega (arith, c.in_ok-list.ensures.room, c.in_ok-due.ensures.capacity);
     })

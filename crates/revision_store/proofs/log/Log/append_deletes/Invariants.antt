@@ -1,4 +1,4 @@
-use Rattle.std.proofs.Common.{drop}
+use Rattle.std.proofs.Common.{drop, length}
 use Rattle.cell_arena.specs.Loan.{Settles}
 use Rattle.revision_store.specs.Plans.{head_deletes}
 use Rattle.revision_store.specs.Appending.{IsAppending}
@@ -8,6 +8,6 @@ abbrev pub invariant-loop-head : goal.invariant-loop-head
 invariant-loop-head g l =
     let loan = g.S.Segments.loan in
     record {
-      appending : IsAppending l.initial.self l.self l.revision (head_deletes l.heads) (head_deletes (drop l.head-index l.heads));
+      appending : IsAppending l.initial.self l.self l.revision (head_deletes g.list) (head_deletes (drop (length l.yielded) g.list));
       settles : Settles l.initial.self.share (loan l.initial.segments) l.self.share (loan l.segments);
     }

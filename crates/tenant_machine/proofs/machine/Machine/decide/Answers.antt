@@ -10,3 +10,6 @@ returns-in-Put-clause-does c = subst (λ (s : Step). IfOk c.plan_put.result (λ 
 
 pub returns-in-Txn-clause-does : goal.returns-in-Txn-clause-does
 returns-in-Txn-clause-does c = subst (λ (s : Step). IfOk c.plan_txn.result (λ p. Does c.args.self.now p (past_gate (tenant c.args.self.now) s))) (sym c.in-Txn.is) c.plan_txn.ensures.does
+
+pub returns-in-Grant-clause-does : goal.returns-in-Grant-clause-does
+returns-in-Grant-clause-does c = subst (λ (s : Step). Does c.args.self.now c.plan_grant.result (past_gate (tenant c.args.self.now) s)) (sym c.in-Grant.is) c.plan_grant.ensures.does

@@ -1,32 +1,26 @@
 use Rattle.std.proofs.Common.{◌≡◌, None, ap, is_some}
-use Rattle.etcd_model.specs.Offered.{is_offered}
 use Rattle.etcd_model.specs.Stepping.{look_up}
 use Rattle.etcd_model.specs.Store.{kept_store}
 use Rattle.tenant_machine.specs.Deciding.{gate}
 use Rattle.tenant_machine.specs.Plans.{takes_memory}
 use Rattle.tenant_machine.specs.Tenants.{tenant}
-use Rattle.tenant_machine.proofs.Gates.{let_through_is_built, refused_is_built, sure_past_gate, unoffered_is_built}
+use Rattle.tenant_machine.proofs.Gates.{let_through_does, refused_does, sure_past_gate}
 use Rattle.tenant_machine.proofs.Holding.{plans, plans_where}
 use Rattle.tenant_machine.proofs.machine.Machine.plan.Goals as goal
 
 pub returns-in-Some-clause-plans : goal.returns-in-Some-clause-plans
 returns-in-Some-clause-plans c =
-    plans c.args.self.now c.args.step.now c.refused-in-Some.result
-    (refused_is_built c.args.self.now c.args.step.now c.in-Some.refusal c.refused-in-Some.result (cc) (cc) c.refused-in-Some.ensures)
+    plans c.args.self.now c.args.step.now c.refused.result
+    (refused_does c.args.self.now c.args.step.now c.in-Some.refusal c.refused.result (cc) c.refused.ensures)
 
 pub returns-in-None-clause-plans : goal.returns-in-None-clause-plans
 returns-in-None-clause-plans c =
     plans_where c.args.self.now c.args.step.now c.decide.result
-    (let_through_is_built c.args.self.now c.args.step.now c.decide.result (cc) (cc) c.decide.ensures.does)
+    (let_through_does c.args.self.now c.args.step.now c.decide.result (cc) c.decide.ensures.does)
 
 pub returns-in-None-clause-sure : goal.returns-in-None-clause-sure
 returns-in-None-clause-sure c =
     let t = tenant c.args.self.now in
     let step = c.args.step.now in
     let none : gate t step ≡ None = cc in
-    sure_past_gate (takes_memory step) (is_offered step) (is_some (gate t step)) (is_some (look_up kept_store t step)) (cc) (ap is_some none) c.decide.ensures.sure c.decide.ensures.stopped
-
-pub returns-then-not-is_offered-clause-plans : goal.returns-then-not-is_offered-clause-plans
-returns-then-not-is_offered-clause-plans c =
-    plans c.args.self.now c.args.step.now c.refused.result
-    (unoffered_is_built c.args.self.now c.args.step.now c.refused.result (cc) c.refused.ensures)
+    sure_past_gate (takes_memory step) (is_some (gate t step)) (is_some (look_up kept_store t step)) (ap is_some none) c.decide.ensures.sure c.decide.ensures.stopped

@@ -1,9 +1,32 @@
-use Rattle.std.proofs.Common.{subst, sym}
+use Rattle.std.proofs.Common.{◌≡◌, ◌+◌, ◌*◌, ◌<◌, ◌≤◌, ap, arith, length, subst, sym}
+use Rattle.etcd_types.specs.Limits.{last_revision}
+use Rattle.etcd_model.specs.Store.{Store, counted_cells}
+use Rattle.lease_book.specs.Book.{Book}
 use Rattle.tenant_machine.specs.Plans.{FitsWrite}
 use Rattle.tenant_machine.proofs.Counting.{machine_after_write}
+use Rattle.tenant_machine.proofs.KeepingLeases.{keeps_after_write, next_revision}
 use Rattle.tenant_machine.proofs.machine.Machine.write.Goals as goal
+
+pub follow-requires : goal.follow-requires
+follow-requires g c = record {
+  next =
+      let fits = subst (λ m. FitsWrite m c.args.plan c.args.used) (sym c.self.view_is) c.requires.fits in
+      let store = c.self.inside.store in
+      let new = c.commit.new.self in
+      next_revision store new c.self.inside.leases c.self.inside.moment c.args.plan _ c.current-revision.ensures.sound.kept c.self.invariant.0.keeps fits.can.plan.once c.commit.ensures.commits.kept c.commit.ensures.commits.stay (omega (arith, c.current-revision.ensures.current))
+      (omega (arith, fits.counted, fits.within, c.self.invariant.0.room, ap counted_cells c.commit.ensures.commits.kept));
+}
 
 pub invariant_of-self : goal.invariant_of-self
 invariant_of-self g c =
     let fits = subst (λ m. FitsWrite m c.args.plan c.args.used) (sym c.self.view_is) c.requires.fits in
-    machine_after_write c.self.inside.store c.commit.new.self c.self.inside.leases c.self.inside.moment c.self.inside.quota c.args.plan c.args.used c.self.invariant fits.counted fits.within c.commit.ensures.commits.kept c.commit.ensures.commits.lease_cells c.commit.ensures.settles.reserved
+    let store = c.self.inside.store in
+    let new = c.commit.new.self in
+    let book = c.self.inside.leases in
+    let commits = c.commit.ensures.commits in
+    let reserved = c.commit.ensures.settles.reserved in (
+      machine_after_write store new book c.follow.new.leases c.self.inside.moment c.self.inside.quota c.args.plan c.args.used c.self.invariant.0 fits.counted fits.within commits.kept commits.lease_cells reserved c.follow.ensures.others
+          (keeps_after_write store new book c.follow.new.leases c.self.inside.moment c.args.plan c.self.invariant.0.keeps commits.kept commits.leases reserved fits.revisions
+          (omega (arith, fits.counted, fits.within, ap counted_cells commits.kept)) c.follow.ensures.keys c.follow.ensures.others),
+      c.note.ensures.agree store c.args.plan commits c.self.invariant.1,
+    )

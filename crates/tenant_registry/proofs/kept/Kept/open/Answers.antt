@@ -14,3 +14,9 @@ invariant_of-result c =
     omega (arith, c.move_to.ensures.to_held, ap (λ (s : StockState). s.held) c.in_ok-make_room.ensures.ok, ap (λ (s : StockState). s.held) c.in_ok-left.ensures) in
     opened_kept c.in_ok-machine.machine c.in_ok-audit.audit c.move_to.new.to o c.segments_for-segments.result c.in_ok-audit.ensures
     (c.in_ok-machine.ensures.holds (first_of o.first) (to_z-of_z fits ∙ first_is o.first c.requires.allowed.positive)) (c.in_ok-machine.ensures.share ∙ ap undrawn (sym c.segments_for-segments.ensures)) held
+
+pub returns-clause-holds : goal.returns-clause-holds
+returns-clause-holds c =
+    let o = c.args.opening in
+    let fits : FitsSigned w64 o.first = search rules in
+    c.in_ok-machine.ensures.holds (first_of o.first) (to_z-of_z fits ∙ first_is o.first c.requires.allowed.positive)

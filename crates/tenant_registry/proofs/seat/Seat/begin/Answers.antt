@@ -1,7 +1,8 @@
 use Rattle.std.proofs.Common.{◌≡◌, ◌∙◌, sym, ap, is_some, refl, None}
 use Rattle.std.specs.Map.{lookup}
-use Rattle.steps_core.proofs.Added.{absent}
-use Rattle.tenant_registry.proofs.SeatLemmas.{found, insert_last, kept_begun, test}
+use Rattle.steps_core.proofs.Added.{absent, last}
+use Rattle.steps_core.proofs.Shown.{test}
+use Rattle.tenant_registry.proofs.SeatLemmas.{found, kept_begun}
 use Rattle.tenant_registry.proofs.seat.Seat.begin.Goals as goal
 
 pub returns-then-contains_key-clause-there : goal.returns-then-contains_key-clause-there
@@ -14,7 +15,7 @@ returns-clause-keeps c =
     let es = c.self.inside.tallies.entries in
     let none : lookup (test t) es ≡ None = absent _ (sym c.contains_key.ensures ∙ c.if-contains_key.false) in
     (kept_begun c.self.inside.number t es c.args.self.now c.insert.new.self.entries c.insert.new.self.entries c.in_ok-name.name c.new.result c.self.view_is (sym none) c.in_ok-name.ensures.items
-    (c.in_ok-insert.ensures.entries ∙ insert_last es c.in_ok-name.name c.new.result t c.in_ok-name.ensures.items none) refl c.new.ensures.calls c.new.ensures.missed).0
+    (c.in_ok-insert.ensures.entries ∙ last es es c.in_ok-name.name c.new.result t refl c.in_ok-name.ensures.items none) refl c.new.ensures.calls c.new.ensures.missed).0
 
 pub returns-clause-there : goal.returns-clause-there
 returns-clause-there c =
@@ -22,4 +23,4 @@ returns-clause-there c =
     let es = c.self.inside.tallies.entries in
     let none : lookup (test t) es ≡ None = absent _ (sym c.contains_key.ensures ∙ c.if-contains_key.false) in
     (kept_begun c.self.inside.number t es c.args.self.now c.insert.new.self.entries c.insert.new.self.entries c.in_ok-name.name c.new.result c.self.view_is (sym none) c.in_ok-name.ensures.items
-    (c.in_ok-insert.ensures.entries ∙ insert_last es c.in_ok-name.name c.new.result t c.in_ok-name.ensures.items none) refl c.new.ensures.calls c.new.ensures.missed).1
+    (c.in_ok-insert.ensures.entries ∙ last es es c.in_ok-name.name c.new.result t refl c.in_ok-name.ensures.items none) refl c.new.ensures.calls c.new.ensures.missed).1

@@ -1,0 +1,80 @@
+//! What is measured, and what is said of it.
+use crate::giving::{CHANGES, time_of_change};
+use crate::putting::time_of_put;
+use crate::taking::{time_of_events, time_of_quiet};
+use anyhow::Result;
+use std::alloc::Global;
+use std::time::CpuClock;
+
+const PUT: &str = "overwrite a key, beside no watch";
+
+const OF_OTHERS: &str = "beside synced watches of other keys:";
+
+const OF_THE_KEY: &str = "beside synced watches of the key:";
+
+const QUIET: &str = "a quiet take, where the store has 1000 keys";
+
+const QUIET_OF_MORE: &str = "where it has 100000";
+
+const IN_THE_RING: &str = "a take of 16 revisions that are in the ring";
+
+const BY_A_SCAN: &str = "by a scan";
+
+const GIVEN: &str = "one of many changes that takes give";
+
+const CAUGHT_UP: &str = "with a catch-up of 256 before each take";
+
+/// Says what can be measured.
+pub(crate) fn say_what(rt: &impl Print) -> Result<()> {
+    println!(rt; "usage: bench_watches measure")?;
+    println!(rt;
+        "It times these, and tells how many times as long as the first of its line each takes:"
+    )?;
+    println!(rt; "  {PUT}; {OF_OTHERS} 1, 64; {OF_THE_KEY} 1, 64")?;
+    println!(rt; "  {QUIET}; {QUIET_OF_MORE}")?;
+    println!(rt; "  {IN_THE_RING}; {BY_A_SCAN}")?;
+    println!(rt; "  {GIVEN}, of {CHANGES}; {CAUGHT_UP}")?;
+    Ok(())
+}
+
+/// Prints a line: the time, and how many times the first of its part it is.
+fn print_time(rt: &impl Print, name: &str, time: u64, first: u64) -> Result<()> {
+    let ratio = time.saturating_mul(100) / first.max(1);
+    println!(rt; "{name:<48}{time:>12}{:>7}.{:02}", ratio / 100, ratio % 100)?;
+    Ok(())
+}
+
+/// Measures all, and prints a line for each.
+pub(crate) fn measure_all(rt: &(impl Print + CpuClock + Alloc<A = Global>)) -> Result<()> {
+    println!(rt; "{:<48}{:>12}{:>10}", "nanoseconds", "time", "ratio")?;
+    measure_puts(rt)?;
+    measure_takes(rt)?;
+    let given = time_of_change(rt, rt.alloc(), 0)?;
+    print_time(rt, GIVEN, given, given)?;
+    let caught_up = time_of_change(rt, rt.alloc(), 256)?;
+    print_time(rt, CAUGHT_UP, caught_up, given)
+}
+
+fn measure_puts(rt: &(impl Print + CpuClock + Alloc<A = Global>)) -> Result<()> {
+    let alone = time_of_put(rt, rt.alloc(), 0, false)?;
+    print_time(rt, PUT, alone, alone)?;
+    for (name, is_watched) in [(OF_OTHERS, false), (OF_THE_KEY, true)] {
+        println!(rt; "{name}")?;
+        for (label, watches) in [("  1", 1), ("  64", 64)] {
+            let time = time_of_put(rt, rt.alloc(), watches, is_watched)?;
+            print_time(rt, label, time, alone)?;
+        }
+    }
+    Ok(())
+}
+
+fn measure_takes(rt: &(impl Print + CpuClock + Alloc<A = Global>)) -> Result<()> {
+    let quiet = time_of_quiet(rt, rt.alloc(), 1_000)?;
+    print_time(rt, QUIET, quiet, quiet)?;
+    let of_more = time_of_quiet(rt, rt.alloc(), 100_000)?;
+    print_time(rt, QUIET_OF_MORE, of_more, quiet)?;
+    let in_ring = time_of_events(rt, rt.alloc(), true)?;
+    print_time(rt, IN_THE_RING, in_ring, in_ring)?;
+    let by_scan = time_of_events(rt, rt.alloc(), false)?;
+    print_time(rt, BY_A_SCAN, by_scan, in_ring)
+}

@@ -1,0 +1,59 @@
+//! The worked rows, answered through `Registry::call` by two seats in turn.
+mod callers;
+mod opening;
+
+use callers::Callers;
+use etcd_types::Mem;
+use opening::registry_of;
+use std::alloc::Global;
+use std::process::Abort;
+use std::rt::Clock;
+use std::sync::Wait;
+use tenant_registry::Closed;
+use test_rows::{ROWS, Row};
+
+/// Two callers of a script's tenants answer each line as the row says, and then the audits close.
+fn assert_row<R: Wait + Clock + Abort>(rt: &R, alloc: Global, row: &Row, audit: u32) -> Mem<()> {
+    let registry = registry_of(rt, alloc, row.script, audit)?;
+    let mut callers = Callers::new(rt, alloc, registry);
+    for line in row.script.as_bytes().split(|byte| *byte == b'\n') {
+        callers.ask(rt, alloc, line)?;
+    }
+    assert!(rt;
+        callers.answers() == row.answers.as_bytes(),
+        "{}",
+        row.script
+    );
+    assert_closes(rt, alloc, callers, audit)
+}
+
+/// The audits are those of the seats' calls, and have no more entries than they take.
+fn assert_closes(rt: &impl Abort, alloc: Global, callers: Callers, audit: u32) -> Mem<()> {
+    let Closed { audits } = callers.close(rt, alloc)?;
+    for (_, kept) in &audits {
+        assert!(rt; kept.entries.len() <= audit as usize);
+    }
+    Ok(())
+}
+
+fn assert_rows<R: Wait + Clock + Abort>(rt: &R, alloc: Global, audit: u32) -> Mem<()> {
+    for row in &ROWS {
+        assert_row(rt, alloc, row, audit)?;
+    }
+    Ok(())
+}
+
+#[test]
+fn rows_without_audits(rt: HostRuntime) -> Mem<()> {
+    assert_rows(&rt, rt.alloc(), 0)
+}
+
+#[test]
+fn rows_over_audits_that_are_full(rt: HostRuntime) -> Mem<()> {
+    assert_rows(&rt, rt.alloc(), 1)
+}
+
+#[test]
+fn rows_over_audits_with_room(rt: HostRuntime) -> Mem<()> {
+    assert_rows(&rt, rt.alloc(), 1_000)
+}

@@ -1,0 +1,143 @@
+//! Two callers of a registry, who take turns.
+use super::opening::number_in;
+use etcd_types::{Mem, Refusal, Reply, Step};
+use gateway_json::{Target, read_posted, target_of};
+use gateway_text::write_reply;
+use std::alloc::Global;
+use std::mem;
+use std::process::Abort;
+use std::rt::Clock;
+use std::sync::Wait;
+use tenant_registry::{Closed, OpenGate, Registry, Seat};
+
+/// A registry with two seats, and what their calls were answered.
+#[derive(Drop)]
+pub(super) struct Callers {
+    registry: Registry,
+    /// The seat that calls next.
+    next: Seat,
+    other: Seat,
+    answers: Vec<u8>,
+}
+
+impl Callers {
+    pub(super) fn new(rt: &impl Abort, alloc: Global, mut registry: Registry) -> Callers {
+        let next = registry.seat().expect(rt, "a seat");
+        let other = registry.seat().expect(rt, "a seat");
+        Callers {
+            registry,
+            next,
+            other,
+            answers: Vec::new(alloc),
+        }
+    }
+
+    pub(super) fn answers(&self) -> &[u8] {
+        self.answers.as_slice()
+    }
+
+    /// Ends the registry, with both seats.
+    pub(super) fn close(self, rt: &impl Abort, alloc: Global) -> Mem<Closed> {
+        let Callers {
+            registry,
+            next,
+            other,
+            answers: _,
+        } = self;
+        let mut seats = Vec::new(alloc);
+        seats.push(next)?;
+        seats.push(other)?;
+        Ok(registry.close(seats).expect(rt, "the audits close"))
+    }
+
+    /// Asks a line of a script, and keeps what it is answered. A tenant that it adds is there.
+    pub(super) fn ask<R: Wait + Clock>(&mut self, rt: &R, alloc: Global, line: &[u8]) -> Mem<()> {
+        let (word, rest) = parted(line);
+        match word {
+            b"" => Ok(()),
+            b"add" => self.answers.extend_from_slice(b"ok\n"),
+            b"call" => self.ask_call(rt, alloc, rest),
+            _ => self.ask_step(rt, alloc, word, rest),
+        }
+    }
+
+    /// `call METHOD TARGET BODY`: the path, the tenant and the body are looked at in this order.
+    fn ask_call<R: Wait + Clock>(&mut self, rt: &R, alloc: Global, rest: &[u8]) -> Mem<()> {
+        let (method, rest) = parted(rest);
+        let (target, body) = parted(rest);
+        let Some(Target { tenant, path }) = target_of(target) else {
+            return self.refuse(alloc, Refusal::NoPath);
+        };
+        match read_posted(alloc, method, path, body) {
+            Err(Refusal::NoPath) => self.refuse(alloc, Refusal::NoPath),
+            _ if !self.registry.has(tenant) => self.refuse(alloc, Refusal::NoTenant),
+            Err(refusal) => self.refuse(alloc, refusal),
+            Ok(step) => self.call(rt, alloc, tenant, step),
+        }
+    }
+
+    /// `take TENANT SLOT`, and the other lines of that form.
+    fn ask_step<R: Wait + Clock>(
+        &mut self,
+        rt: &R,
+        alloc: Global,
+        word: &[u8],
+        rest: &[u8],
+    ) -> Mem<()> {
+        let (tenant, number) = parted(rest);
+        let number = number_in(Some(number));
+        let step = match word {
+            b"tick" => Step::Tick(number),
+            b"take" => Step::Take(number.min(255) as u8),
+            b"drop" => Step::DropWatch(number.min(255) as u8),
+            _ => Step::CatchUp(number.min(u64::from(u32::MAX)) as u32),
+        };
+        self.call(rt, alloc, tenant, step)
+    }
+
+    /// A call of the seat whose turn it is.
+    fn call<R: Wait + Clock>(
+        &mut self,
+        rt: &R,
+        alloc: Global,
+        tenant: &[u8],
+        step: Step,
+    ) -> Mem<()> {
+        let told = self
+            .registry
+            .call(rt, &mut self.next, &OpenGate, tenant, step);
+        mem::swap(&mut self.next, &mut self.other);
+        match told {
+            Ok(receipt) => self.keep(alloc, receipt.status(), receipt.body()),
+            Err(refusal) => self.refuse(alloc, refusal),
+        }
+    }
+
+    fn refuse(&mut self, alloc: Global, refusal: Refusal) -> Mem<()> {
+        let (status, body) = write_reply(alloc, &Reply::Refused(refusal))?;
+        self.keep(alloc, status, &body)
+    }
+
+    /// One answer line, which a body that ends with a newline ends itself.
+    fn keep(&mut self, alloc: Global, status: u16, body: &[u8]) -> Mem<()> {
+        let status = format!(in alloc; "{status}")?;
+        self.answers.extend_from_slice(status.as_bytes())?;
+        if !body.is_empty() {
+            self.answers.push(b' ')?;
+            self.answers.extend_from_slice(body)?;
+        }
+        match body {
+            [.., b'\n'] => {}
+            _ => self.answers.push(b'\n')?,
+        }
+        Ok(())
+    }
+}
+
+/// A text before its first space, and what comes after it.
+fn parted(text: &[u8]) -> (&[u8], &[u8]) {
+    match text.iter().position(|byte| *byte == b' ') {
+        Some(at) => (&text[..at], &text[at + 1..]),
+        None => (text, b""),
+    }
+}
