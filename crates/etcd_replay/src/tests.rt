@@ -1,5 +1,5 @@
-//! The rows, scripts of two tenants that are shuffled together, such a script over each source of segments,
-//! and a script with catch-ups put in.
+//! The rows, and the rows over each source of segments; scripts of two tenants and of as many as there may be,
+//! shuffled together; and a script with catch-ups put in.
 //!
 //! Scripts are text in tables or made by chance, and are run by one small function: a test that holds many
 //! values itself is long to prove.
@@ -13,15 +13,16 @@ use crate::replay::Replay;
 use crate::run::run;
 use crate::script::{Line, read_line};
 use etcd_types::Mem;
+use etcd_types::limits::MAX_TENANTS;
 use random::Random;
-use single::{Single, Source};
+use single::{Singles, Source};
 use std::alloc::Global;
 use std::process::Abort;
 use test_rows::{ROWS, Row};
 use test_segments::{Filled, Highest, Lowest};
 
 /// Lines by chance, of both tenants.
-const LINES: u32 = 10_000;
+const LINES: u32 = 6_000;
 
 /// Lines by chance, of one tenant.
 const LINES_OF_ONE: u32 = 5_000;
@@ -46,7 +47,7 @@ fn assert_row(rt: &impl Abort, alloc: Global, row: &Row) {
 /// A tenant's part of a script, and what it was answered.
 #[derive(Drop)]
 struct Part {
-    name: &'static str,
+    name: String,
     script: String,
     answers: Vec<u8>,
     /// The revision that it was told last.
@@ -54,13 +55,13 @@ struct Part {
 }
 
 impl Part {
-    fn new(alloc: Global, name: &'static str) -> Part {
-        Part {
-            name,
+    fn new(alloc: Global, name: &str) -> Mem<Part> {
+        Ok(Part {
+            name: String::from_str(alloc, name)?,
             script: String::new(alloc),
             answers: Vec::new(alloc),
             revision: 1,
-        }
+        })
     }
 
     /// Asks the line, which is one of this tenant's.
@@ -73,6 +74,18 @@ impl Part {
         assert!(rt; told.is_ok() && start <= self.answers.len());
         self.revision = revision_in(&self.answers[start..]).unwrap_or(self.revision);
         self.script.push_str(line)
+    }
+
+    /// Asks a line by chance.
+    fn ask_by_chance(
+        &mut self,
+        rt: &impl Abort,
+        alloc: Global,
+        replay: &mut Replay,
+        random: &mut Random,
+    ) -> Mem<()> {
+        let line = random.line(alloc, self.name.as_str(), self.revision)?;
+        self.ask(rt, alloc, replay, line.as_str())
     }
 }
 
@@ -99,9 +112,46 @@ fn ask_by_chance(
         } else {
             &mut *two
         };
-        let line = random.line(alloc, part.name, part.revision)?;
-        part.ask(rt, alloc, replay, line.as_str())?;
+        part.ask_by_chance(rt, alloc, replay, &mut random)?;
     }
+    Ok(())
+}
+
+/// Tenants of one host, as many as it takes.
+fn parts_of_all(rt: &impl Abort, alloc: Global, replay: &mut Replay) -> Mem<Vec<Part>> {
+    let mut parts = Vec::new(alloc);
+    for number in 1..=MAX_TENANTS {
+        let name = format!(in alloc; "t{number}")?;
+        let mut part = Part::new(alloc, name.as_str())?;
+        let line = format!(in alloc; "add t{number} {number} 64 1\n")?;
+        part.ask(rt, alloc, replay, line.as_str())?;
+        parts.push(part)?;
+    }
+    Ok(parts)
+}
+
+/// Asks lines of any of the tenants, one after another.
+fn ask_all_by_chance(
+    rt: &impl Abort,
+    alloc: Global,
+    replay: &mut Replay,
+    parts: &mut Vec<Part>,
+) -> Mem<()> {
+    let mut random = Random::new();
+    for _ in 0..LINES {
+        let number = random.below(MAX_TENANTS as u64) as usize;
+        if let Some(part) = parts.get_mut(number) {
+            part.ask_by_chance(rt, alloc, replay, &mut random)?;
+        }
+    }
+    Ok(())
+}
+
+/// There is no place for one tenant more.
+fn assert_full(rt: &impl Abort, alloc: Global, replay: &mut Replay) -> Mem<()> {
+    let mut part = Part::new(alloc, "more")?;
+    part.ask(rt, alloc, replay, "add more 7 64 1\n")?;
+    assert!(rt; part.answers.as_slice() == b"no limits\n".as_slice());
     Ok(())
 }
 
@@ -124,24 +174,48 @@ fn count_of(answers: &[u8], front: &[u8]) -> u64 {
 
 /// A part that many kinds of answers were given to, alone.
 fn assert_alone(rt: &impl Abort, alloc: Global, part: &Part) {
-    assert_at_least(rt, &part.answers, b"429 ", 400);
-    assert_at_least(rt, &part.answers, b"200 {\"alarms\"", 40);
+    assert_at_least(rt, &part.answers, b"429 ", 100);
+    assert_at_least(rt, &part.answers, b"200 {\"alarms\"", 10);
+    assert_at_least(rt, &part.answers, b"200 {\"ID\"", 60);
     assert_answers(rt, alloc, part.script.as_bytes(), &part.answers);
 }
 
-/// What the calls of a script are answered over a source of segments.
+/// What a script is answered by tenants that each have segments of their own from a source.
 fn answers_over<S: Source>(alloc: Global, script: &[u8]) -> Mem<Vec<u8>> {
-    let mut single = Single::<S>::new(alloc)?;
-    let mut answers = Vec::from_slice(alloc, b"ok\n")?;
+    let mut singles = Singles::<S>::new(alloc);
+    let mut answers = Vec::new(alloc);
     for line in script.split(|byte| *byte == b'\n') {
-        if let Some(Line::Event(event)) = read_line(line, false) {
-            let (status, body) = single.answer(alloc, event)?;
-            let status = format!(in alloc; "{status}")?;
-            answers.extend_from_slice(status.as_bytes())?;
-            write_body(&mut answers, &body)?;
-        }
+        write_over(alloc, &mut singles, line, &mut answers)?;
     }
     Ok(answers)
+}
+
+fn write_over<S: Source>(
+    alloc: Global,
+    singles: &mut Singles<S>,
+    line: &[u8],
+    answers: &mut Vec<u8>,
+) -> Mem<()> {
+    match read_line(line, false) {
+        Some(
+            Line::Add {
+                name,
+                cluster,
+                quota,
+                first,
+            },
+        ) => {
+            singles.add(alloc, name, cluster, quota, first)?;
+            answers.extend_from_slice(b"ok\n")
+        }
+        Some(Line::Event(event)) => {
+            let (status, body) = singles.answer(alloc, event)?;
+            let status = format!(in alloc; "{status}")?;
+            answers.extend_from_slice(status.as_bytes())?;
+            write_body(answers, &body)
+        }
+        _ => Ok(()),
+    }
 }
 
 /// A space and the body, if there is one, and the line's end, which some bodies have.
@@ -159,13 +233,14 @@ fn write_body(answers: &mut Vec<u8>, body: &[u8]) -> Mem<()> {
 /// What the lines of a part are answered, with catch-ups put in behind them by chance.
 fn answers_with_catch_ups(rt: &impl Abort, alloc: Global, part: &Part) -> Mem<Vec<u8>> {
     let mut replay = Replay::new();
-    let mut again = Part::new(alloc, part.name);
-    let mut put_in = Part::new(alloc, part.name);
+    let name = part.name.as_str();
+    let mut again = Part::new(alloc, name)?;
+    let mut put_in = Part::new(alloc, name)?;
     let mut random = Random::new();
     for line in part.script.split_inclusive('\n') {
         again.ask(rt, alloc, &mut replay, line)?;
         if random.below(2) == 0 {
-            let line = random.catch_up(alloc, part.name)?;
+            let line = random.catch_up(alloc, name)?;
             put_in.ask(rt, alloc, &mut replay, line.as_str())?;
         }
     }
@@ -197,13 +272,42 @@ fn rows_are_answered(rt: HostRuntime) {
     }
 }
 
+/// A row is answered so over this source of segments.
+fn assert_row_over<S: Source>(rt: &impl Abort, alloc: Global, row: &Row) -> Mem<()> {
+    let answers = answers_over::<S>(alloc, row.script.as_bytes())?;
+    assert!(rt; answers.as_slice() == row.answers.as_bytes());
+    Ok(())
+}
+
+#[test]
+fn rows_are_answered_over_each_source(rt: HostRuntime) -> Mem<()> {
+    for row in &ROWS {
+        assert_row_over::<Lowest>(&rt, rt.alloc(), row)?;
+        assert_row_over::<Highest>(&rt, rt.alloc(), row)?;
+        assert_row_over::<Filled>(&rt, rt.alloc(), row)?;
+    }
+    Ok(())
+}
+
+#[test]
+fn as_many_tenants_as_there_may_be_are_answered_as_alone(rt: HostRuntime) -> Mem<()> {
+    let mut replay = Replay::new();
+    let mut parts = parts_of_all(&rt, rt.alloc(), &mut replay)?;
+    assert_full(&rt, rt.alloc(), &mut replay)?;
+    ask_all_by_chance(&rt, rt.alloc(), &mut replay, &mut parts)?;
+    for part in parts.as_slice() {
+        assert_over::<Highest>(&rt, rt.alloc(), part)?;
+    }
+    Ok(())
+}
+
 #[test]
 fn shuffled_tenants_are_answered_as_alone(rt: HostRuntime) -> Mem<()> {
     let mut replay = Replay::new();
-    let mut one = Part::new(rt.alloc(), "one");
-    let mut two = Part::new(rt.alloc(), "two");
-    one.ask(&rt, rt.alloc(), &mut replay, "add one 7 192 1\n")?;
-    two.ask(&rt, rt.alloc(), &mut replay, "add two 8 192 1\n")?;
+    let mut one = Part::new(rt.alloc(), "one")?;
+    let mut two = Part::new(rt.alloc(), "two")?;
+    one.ask(&rt, rt.alloc(), &mut replay, "add one 7 128 1\n")?;
+    two.ask(&rt, rt.alloc(), &mut replay, "add two 8 128 1\n")?;
     ask_by_chance(&rt, rt.alloc(), &mut replay, &mut one, &mut two)?;
     assert_alone(&rt, rt.alloc(), &one);
     assert_alone(&rt, rt.alloc(), &two);
@@ -215,12 +319,11 @@ fn shuffled_tenants_are_answered_as_alone(rt: HostRuntime) -> Mem<()> {
 #[test]
 fn catch_ups_change_no_answer(rt: HostRuntime) -> Mem<()> {
     let mut replay = Replay::new();
-    let mut one = Part::new(rt.alloc(), "one");
+    let mut one = Part::new(rt.alloc(), "one")?;
     one.ask(&rt, rt.alloc(), &mut replay, "add one 7 512 1\n")?;
     let mut random = Random::new();
     for _ in 0..LINES_OF_ONE {
-        let line = random.line(rt.alloc(), one.name, one.revision)?;
-        one.ask(&rt, rt.alloc(), &mut replay, line.as_str())?;
+        one.ask_by_chance(&rt, rt.alloc(), &mut replay, &mut random)?;
     }
     assert_with_catch_ups(&rt, rt.alloc(), &one)
 }

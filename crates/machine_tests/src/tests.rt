@@ -15,16 +15,16 @@ mod told;
 use alarm_rule::{Case, OF_ANOTHER_MEMBER, OF_THIS_MEMBER};
 use etcd_types::{AlarmReq, CopyOf, Header, Mem, Reply, Step};
 use scripts::{
-    Ask, BRANCHES_AT_A_FULL_QUOTA, BRANCHES_UNDER_THE_ALARM, LEASES, Line, NO_WATCH, NOT_OFFERED,
-    PAST_FOUR_CELLS, PUT, PUT_AGAIN, QUOTA_AND_ALARM, RAISE, REFUSALS, UNDER_THE_ALARM, WATCHES,
-    WITHIN_FOUR_CELLS,
+    Ask, BRANCHES_AT_A_FULL_QUOTA, BRANCHES_UNDER_THE_ALARM, FULL_OF_LEASES, HINTED, LEASES, Line,
+    NO_WATCH, NOT_OFFERED, PAST_FOUR_CELLS, PUT, PUT_AGAIN, QUOTA_AND_ALARM, RAISE, REFUSALS,
+    UNDER_THE_ALARM, WATCHES, WITHIN_FOUR_CELLS,
 };
 use std::alloc::Global;
 use std::process::Abort;
 use steps::step_of;
 use tenant_machine::{Machine, segments_for};
 use test_segments::Filled;
-use told::text_of;
+use told::{slots_of, text_of};
 
 /// A machine with the segments that it is lent, which are its own, and come filled with what is not.
 #[derive(Drop)]
@@ -118,6 +118,18 @@ fn assert_line(
     Ok(())
 }
 
+fn assert_hint(
+    rt: &impl Abort,
+    alloc: Global,
+    tenant: &Tenant,
+    number: usize,
+    wanted: &str,
+) -> Mem<()> {
+    let hinted = slots_of(alloc, &tenant.machine.hint())?;
+    assert!(rt; is_text(&hinted, wanted), "{hinted} after line {number}");
+    Ok(())
+}
+
 /// A case of the alarm's rule, of one member, with the alarm off and on before it.
 fn assert_case(rt: &impl Abort, alloc: Global, member: u64, case: &Case) -> Mem<()> {
     let request = AlarmReq {
@@ -200,6 +212,21 @@ fn refuses_what_is_not_offered(rt: HostRuntime) -> Mem<()> {
 fn leases_run_out(rt: HostRuntime) -> Mem<()> {
     assert_told(&rt, rt.alloc(), 64, &LEASES)?;
     assert_told(&rt, rt.alloc(), 64, &PUT_AGAIN)
+}
+
+#[test]
+fn leases_fill_a_quota(rt: HostRuntime) -> Mem<()> {
+    assert_told(&rt, rt.alloc(), 4, &FULL_OF_LEASES)
+}
+
+#[test]
+fn hints_leave_no_watch_out(rt: HostRuntime) -> Mem<()> {
+    let mut tenant = Tenant::new(rt.alloc(), 64)?;
+    for (number, (ask, told, hinted)) in HINTED.iter().enumerate() {
+        assert_line(&rt, rt.alloc(), &mut tenant, number, &(*ask, *told))?;
+        assert_hint(&rt, rt.alloc(), &tenant, number, hinted)?;
+    }
+    Ok(())
 }
 
 #[test]

@@ -13,23 +13,23 @@ use Rattle.etcd_types.specs.declared.reply.Reply.TheVariants.{Refused}
 use Rattle.etcd_model.specs.declared.state.History.{History}
 use Rattle.etcd_model.specs.declared.state.State.{State}
 use Rattle.etcd_model.specs.Alone.{is_catch_up}
-use Rattle.etcd_model.specs.Machine.{history, machine}
+use Rattle.etcd_model.specs.Machine.{history, machine, replies_to, state_after}
 use Rattle.etcd_model.specs.Tenant.{Outcome}
 use Rattle.etcd_model.proofs.QuietSteps.{catch_up_is_done}
 use Rattle.tenant_machine.specs.Deciding.{is_stopped}
 use Rattle.tenant_machine.specs.Plans.{takes_memory}
 use Rattle.tenant_machine.specs.Tenants.{MachineState, tenant}
 use Rattle.steps_core.specs.Hosts.{HostState, HoldsAt, IsSureAt, StepsAt, machine_at, has_tenant, names_of}
-use Rattle.steps_core.specs.Isolation.{StepTurn, step_turn, step_event, step_turns, found_none, is_own_step, own_steps, steps_of, replies_of, built_replies, built_state, IsToldAlone, IsIsolated}
+use Rattle.steps_core.specs.Isolation.{StepTurn, step_turn, step_event, step_turns, found_none, is_own_step, own_steps, steps_of, replies_of, IsToldAlone, IsIsolated}
 use Rattle.steps_core.proofs.Lists.{all-push, all-front}
 
-built_replies-append : (S : State History) (xs ys : List Step) → built_replies S (xs ++ ys) ≡ built_replies S xs ++ built_replies (built_state S xs) ys
-built_replies-append S [] ys = refl
-built_replies-append S (x ∷ xs) ys = ap (λ rs. (machine S x).reply ∷ rs) (built_replies-append (machine S x).state xs ys)
+replies_to-append : (S : State History) (xs ys : List Step) → replies_to S (xs ++ ys) ≡ replies_to S xs ++ replies_to (state_after S xs) ys
+replies_to-append S [] ys = refl
+replies_to-append S (x ∷ xs) ys = ap (λ rs. (machine S x).reply ∷ rs) (replies_to-append (machine S x).state xs ys)
 
-built_state-append : (S : State History) (xs ys : List Step) → built_state S (xs ++ ys) ≡ built_state (built_state S xs) ys
-built_state-append S [] ys = refl
-built_state-append S (x ∷ xs) ys = built_state-append (machine S x).state xs ys
+state_after-append : (S : State History) (xs ys : List Step) → state_after S (xs ++ ys) ≡ state_after (state_after S xs) ys
+state_after-append S [] ys = refl
+state_after-append S (x ∷ xs) ys = state_after-append (machine S x).state xs ys
 
 step_turns-push : {A : Type 0} (cs : List (Vec ℕ A × Step)) (c : Vec ℕ A × Step) (rs : List Reply) (r : Reply) → length rs ≡ length cs → step_turns (cs ++ c ∷ []) (rs ++ r ∷ []) ≡ step_turns cs rs ++ step_turn c.0.items c.1 r ∷ []
 step_turns-push [] c [] r h = refl
@@ -123,24 +123,24 @@ taken_in mid new t x S held steps h = by (bytes_eq t x.tenant) (is_catch_up (ste
         let after = own_step mid new x.tenant x.step x.reply S (answered x.reply k) (subst (λ u. HoldsAt mid u S) same held) steps in
         (after.0, subst (λ u. HoldsAt new u (machine S x.step).state) (sym same) after.1)
 
-one_more : (mid new : HostState) (t : List ℕ) (x : StepTurn) (S : State History) → HoldsAt mid t S → StepsAt mid x.tenant x.step x.reply new → (replies_of (own_steps t (x ∷ [])) ≡ built_replies S (steps_of (own_steps t (x ∷ [])))) × HoldsAt new t (built_state S (steps_of (own_steps t (x ∷ []))))
+one_more : (mid new : HostState) (t : List ℕ) (x : StepTurn) (S : State History) → HoldsAt mid t S → StepsAt mid x.tenant x.step x.reply new → (replies_of (own_steps t (x ∷ [])) ≡ replies_to S (steps_of (own_steps t (x ∷ [])))) × HoldsAt new t (state_after S (steps_of (own_steps t (x ∷ []))))
 one_more mid new t x S held steps = by (is_own_step t x) refl
   where
-    by : (b : Bool) → is_own_step t x ≡ b → (replies_of (cond b (x ∷ []) []) ≡ built_replies S (steps_of (cond b (x ∷ []) []))) × HoldsAt new t (built_state S (steps_of (cond b (x ∷ []) [])))
+    by : (b : Bool) → is_own_step t x ≡ b → (replies_of (cond b (x ∷ []) []) ≡ replies_to S (steps_of (cond b (x ∷ []) []))) × HoldsAt new t (state_after S (steps_of (cond b (x ∷ []) [])))
     by true h = let in_list = taken_in mid new t x S held steps h in (ap (λ r. r ∷ []) in_list.0, in_list.1)
     by false h = (refl, left_out mid new t x S held steps h)
 
 alone_push : (mid new : HostState) (xs : List StepTurn) (x : StepTurn) (t : List ℕ) (S : State History) → IsToldAlone t S xs mid → StepsAt mid x.tenant x.step x.reply new → IsToldAlone t S (xs ++ x ∷ []) new
 alone_push mid new xs x t S before steps =
-    let T = built_state S (steps_of (own_steps t xs)) in
+    let T = state_after S (steps_of (own_steps t xs)) in
     let one = one_more mid new t x T before.holds steps in
     let parts : own_steps t (xs ++ x ∷ []) ≡ own_steps t xs ++ own_steps t (x ∷ []) = filter-append (is_own_step t) xs (x ∷ []) in
     let asked : steps_of (own_steps t (xs ++ x ∷ [])) ≡ steps_of (own_steps t xs) ++ steps_of (own_steps t (x ∷ [])) = ap steps_of parts ∙ map-append (λ (y : StepTurn). y.step) (own_steps t xs) (own_steps t (x ∷ [])) in
     let told : replies_of (own_steps t (xs ++ x ∷ [])) ≡ replies_of (own_steps t xs) ++ replies_of (own_steps t (x ∷ [])) = ap replies_of parts ∙ map-append (λ (y : StepTurn). y.reply) (own_steps t xs) (own_steps t (x ∷ [])) in
     record {
-      replies = told ∙ ap (λ rs. rs ++ replies_of (own_steps t (x ∷ []))) before.replies ∙ ap (λ rs. built_replies S (steps_of (own_steps t xs)) ++ rs) one.0
-          ∙ sym (built_replies-append S (steps_of (own_steps t xs)) (steps_of (own_steps t (x ∷ [])))) ∙ ap (built_replies S) (sym asked);
-      holds = subst (HoldsAt new t) (sym (ap (built_state S) asked ∙ built_state-append S (steps_of (own_steps t xs)) (steps_of (own_steps t (x ∷ []))))) one.1;
+      replies = told ∙ ap (λ rs. rs ++ replies_of (own_steps t (x ∷ []))) before.replies ∙ ap (λ rs. replies_to S (steps_of (own_steps t xs)) ++ rs) one.0
+          ∙ sym (replies_to-append S (steps_of (own_steps t xs)) (steps_of (own_steps t (x ∷ [])))) ∙ ap (replies_to S) (sym asked);
+      holds = subst (HoldsAt new t) (sym (ap (state_after S) asked ∙ state_after-append S (steps_of (own_steps t xs)) (steps_of (own_steps t (x ∷ []))))) one.1;
       catch_ups = all-push _ xs x before.catch_ups (λ same catch. (caught mid new t x T S (sym same) catch before.holds steps).0);
     }
 

@@ -9,20 +9,9 @@ use Rattle.etcd_types.specs.declared.reply.Reply.TheVariants.{Refused}
 use Rattle.etcd_model.specs.declared.state.History.{History}
 use Rattle.etcd_model.specs.declared.state.State.{State}
 use Rattle.etcd_model.specs.Alone.{Event, Stepped, is_of, is_catch_up}
-use Rattle.etcd_model.specs.Machine.{machine}
+use Rattle.etcd_model.specs.Machine.{machine, replies_to, state_after}
 use Rattle.tenant_machine.specs.Plans.{takes_memory}
 use Rattle.steps_core.specs.Hosts.{HostState, HoldsAt, machine_at, has_tenant, SameTenants}
-
--- ---- a run of the machine
-
-abbrev pub built_replies : State History → List Step → List Reply
-built_replies S [] = []
-built_replies S (step ∷ steps) =
-    (machine S step).reply ∷ built_replies (machine S step).state steps
-
-abbrev pub built_state : State History → List Step → State History
-built_state S [] = S
-built_state S (step ∷ steps) = built_state (machine S step).state steps
 
 -- ---- own steps
 
@@ -66,8 +55,8 @@ replies_of xs = map (λ x. x.reply) xs
 
 -- a tenant's replies are those of the machine to its own steps alone, and it holds the state after them
 pub record IsToldAlone (t : List ℕ) (S : State History) (xs : List StepTurn) (new : HostState) : Type 0 where
-  pub replies : replies_of (own_steps t xs) ≡ built_replies S (steps_of (own_steps t xs))
-  pub holds : HoldsAt new t (built_state S (steps_of (own_steps t xs)))
+  pub replies : replies_of (own_steps t xs) ≡ replies_to S (steps_of (own_steps t xs))
+  pub holds : HoldsAt new t (state_after S (steps_of (own_steps t xs)))
   -- a catch-up is answered as the machine answers it
   pub catch_ups : AllByRecursion
       (λ x. x.tenant ≡ t → is_catch_up (step_event x) ≡ true → x.reply ≡ (machine S x.step).reply) xs

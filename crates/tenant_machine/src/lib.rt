@@ -16,3 +16,4 @@ mod watching;
 
 pub use machine::{Machine, segments_for};
 pub use planned::Planned;
+pub use watch_sync::Hint;

@@ -12,7 +12,7 @@ use crate::machine::Machine;
 use crate::planned::{Effect, Planned};
 use etcd_types::{Mem, Reply, WatchReq};
 use std::alloc::Global;
-use watch_sync::{NewWatch, Taken};
+use watch_sync::{Hint, NewWatch, Taken};
 
 // Plans.
 impl Machine {
@@ -80,6 +80,13 @@ impl Machine {
             effect: Effect::CatchUp(budget),
             reply: Reply::Quiet,
         }
+    }
+}
+
+impl Machine {
+    /// Which takes may not be quiet. It promises nothing.
+    pub fn hint(&self) -> Hint {
+        self.watchers.hint(&self.store)
     }
 }
 

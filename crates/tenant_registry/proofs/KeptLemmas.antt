@@ -11,10 +11,9 @@ use Rattle.etcd_model.specs.declared.state.History.{History}
 use Rattle.etcd_model.specs.declared.state.State.{State}
 use Rattle.etcd_model.specs.Held.{Holds}
 use Rattle.etcd_model.specs.Pool.{StockState}
-use Rattle.etcd_model.specs.Machine.{machine}
+use Rattle.etcd_model.specs.Machine.{machine, replies_to, state_after}
 use Rattle.tenant_machine.specs.Tenants.{MachineState, tenant}
 use Rattle.tenant_machine.specs.Plans.{Plan, Plans, IsAfter, Steps}
-use Rattle.steps_core.specs.Isolation.{built_replies, built_state}
 use Rattle.tenant_registry.specs.declared.audit.Entry.{Entry}
 use Rattle.tenant_registry.specs.declared.audit.Opening.{Opening}
 use Rattle.tenant_registry.specs.declared.kept.Served.{Served}
@@ -26,12 +25,12 @@ use Rattle.tenant_registry.specs.Serving.{Serves, IsServed}
 -- ---- runs
 
 -- the replies after one step more
-run_more : (S : State History) (xs : List Step) (y : Step) → built_replies S (xs ++ y ∷ []) ≡ built_replies S xs ++ (machine (built_state S xs) y).reply ∷ []
+run_more : (S : State History) (xs : List Step) (y : Step) → replies_to S (xs ++ y ∷ []) ≡ replies_to S xs ++ (machine (state_after S xs) y).reply ∷ []
 run_more S [] y = refl
 run_more S (x ∷ xs) y = ap (λ rs. (machine S x).reply ∷ rs) (run_more (machine S x).state xs y)
 
 -- the state after one step more
-ends_more : (S : State History) (xs : List Step) (y : Step) → built_state S (xs ++ y ∷ []) ≡ (machine (built_state S xs) y).state
+ends_more : (S : State History) (xs : List Step) (y : Step) → state_after S (xs ++ y ∷ []) ≡ (machine (state_after S xs) y).state
 ends_more S [] y = refl
 ends_more S (x ∷ xs) y = ends_more (machine S x).state xs y
 
@@ -57,7 +56,7 @@ pub kept_more : (m n : MachineState) (a : Log) (left rest : StockState) (seat : 
     → IsKept m a left → IsOpen a → Plans m step p → IsAfter m p n → reply ≡ p.reply → Settles m.store.share (loan_of left) n.store.share (loan_of rest)
     → IsKept n (with_entry a (entry seat step reply)) rest
 kept_more m n a left rest seat step p reply kept room plans after is settles =
-    let here : Holds (end_of a) (tenant m) = subst (λ xs. Holds (built_state (end_of a) xs) (tenant m)) (kept.none room) kept.holds in
+    let here : Holds (end_of a) (tenant m) = subst (λ xs. Holds (state_after (end_of a) xs) (tenant m)) (kept.none room) kept.holds in
     let o = opening_of a.opening in
     let e = entry seat step reply in
     let told = (machine (end_of a) step).reply in
@@ -65,10 +64,10 @@ kept_more m n a left rest seat step p reply kept room plans after is settles =
     let steps : steps_of (a.entries ++ e ∷ []) ≡ steps_of a.entries ++ step ∷ [] = map-append (λ (x : Entry). x.step) a.entries (e ∷ []) in
     let replies : replies_of (a.entries ++ e ∷ []) ≡ replies_of a.entries ++ reply ∷ [] = map-append (λ (x : Entry). x.reply) a.entries (e ∷ []) in
     record {
-      lawful = ap (built_replies o) steps ∙ run_more o (steps_of a.entries) step ∙ ap (λ rs. rs ++ told ∷ []) kept.lawful ∙ ap (λ r. replies_of a.entries ++ r ∷ []) (sym now) ∙ sym replies;
+      lawful = ap (replies_to o) steps ∙ run_more o (steps_of a.entries) step ∙ ap (λ rs. rs ++ told ∷ []) kept.lawful ∙ ap (λ r. replies_of a.entries ++ r ∷ []) (sym now) ∙ sym replies;
       later = [];
       none = λ _. refl;
-      holds = subst (λ S. Holds S (tenant n)) (sym (ap (built_state o) steps ∙ ends_more o (steps_of a.entries) step)) (plans.state (end_of a) n here after);
+      holds = subst (λ S. Holds S (tenant n)) (sym (ap (state_after o) steps ∙ ends_more o (steps_of a.entries) step)) (plans.state (end_of a) n here after);
       lent = settled m.store.share n.store.share (loan_of left) (loan_of rest) kept.lent settles;
     }
 
@@ -79,7 +78,7 @@ kept_later m n a left rest step p kept full plans after settles = record {
   lawful = kept.lawful;
   later = kept.later ++ step ∷ [];
   none = λ room. absurd (full room);
-  holds = subst (λ S. Holds S (tenant n)) (sym (ends_more (end_of a) kept.later step)) (plans.state (built_state (end_of a) kept.later) n kept.holds after);
+  holds = subst (λ S. Holds S (tenant n)) (sym (ends_more (end_of a) kept.later step)) (plans.state (state_after (end_of a) kept.later) n kept.holds after);
   lent = settled m.store.share n.store.share (loan_of left) (loan_of rest) kept.lent settles;
 }
 

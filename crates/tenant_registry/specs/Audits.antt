@@ -6,8 +6,7 @@ use Rattle.etcd_types.specs.declared.step.Step.{Step}
 use Rattle.etcd_types.specs.declared.reply.Reply.{Reply}
 use Rattle.etcd_model.specs.declared.state.History.{History}
 use Rattle.etcd_model.specs.declared.state.State.{State}
-use Rattle.etcd_model.specs.Machine.{opening}
-use Rattle.steps_core.specs.Isolation.{built_replies, built_state}
+use Rattle.etcd_model.specs.Machine.{opening, replies_to, state_after}
 use Rattle.tenant_registry.specs.declared.audit.Entry.{Entry}
 use Rattle.tenant_registry.specs.declared.audit.Opening.{Opening}
 
@@ -50,11 +49,11 @@ pub record Log : Type 0 where
 
 -- the machine, run over the steps from the opening, gives the replies
 abbrev pub IsLawful : Log → Type 0
-IsLawful a = built_replies (opening_of a.opening) (steps_of a.entries) ≡ replies_of a.entries
+IsLawful a = replies_to (opening_of a.opening) (steps_of a.entries) ≡ replies_of a.entries
 
 -- the state where that run ends
 abbrev pub end_of : Log → State History
-end_of a = built_state (opening_of a.opening) (steps_of a.entries)
+end_of a = state_after (opening_of a.opening) (steps_of a.entries)
 
 -- there is room for an entry
 abbrev pub IsOpen : Log → Type 0

@@ -2,7 +2,7 @@
 use Rattle.std.specs.Prelude.{◌≡◌, ℕ, List, Vec, All, Some, map, slice_get, slice_index_or}
 use Rattle.std.specs.List.{AllByRecursion}
 use Rattle.etcd_model.specs.ReplyText.{Answer, text}
-use Rattle.steps_core.specs.Isolation.{built_replies}
+use Rattle.etcd_model.specs.Machine.{replies_to}
 use Rattle.tenant_registry.specs.declared.audit.Opening.{Opening}
 use Rattle.tenant_registry.specs.declared.close.Sheet.{Sheet}
 use Rattle.tenant_registry.specs.declared.close.Verdict.TheVariants as verdict
@@ -15,7 +15,7 @@ use Rattle.tenant_registry.specs.Closing.{AreApart, Agrees, HaveMissedNone, IsVe
 
 -- the texts of the machine's replies to an audit's steps, from its opening on
 abbrev pub texts_of : Log → List Answer
-texts_of a = map text (built_replies (opening_of a.opening) (steps_of a.entries))
+texts_of a = map text (replies_to (opening_of a.opening) (steps_of a.entries))
 
 -- at the turn of each of these calls stands the text of its reply, which is that of its receipt
 abbrev pub AreTold : Log → List Call → Type 0

@@ -6,7 +6,7 @@ use Rattle.etcd_types.specs.declared.step.Step.{Step}
 use Rattle.etcd_model.specs.Held.{Holds}
 use Rattle.etcd_model.specs.Pool.{StockState}
 use Rattle.tenant_machine.specs.Tenants.{MachineState, machine_code, tenant}
-use Rattle.steps_core.specs.Isolation.{built_state}
+use Rattle.etcd_model.specs.Machine.{state_after}
 use Rattle.tenant_registry.specs.Audits.{Log, IsLawful, IsOpen, end_of}
 
 -- the machine, the audit, and the segments that are reserved and not drawn
@@ -41,5 +41,5 @@ pub record IsKept (m : MachineState) (a : Log) (left : StockState) : Type 0 wher
   pub lawful : IsLawful a
   pub later : List Step
   pub none : IsOpen a → later ≡ []
-  pub holds : Holds (built_state (end_of a) later) (tenant m)
+  pub holds : Holds (state_after (end_of a) later) (tenant m)
   pub lent : IsLent m.store.share (loan_of left)

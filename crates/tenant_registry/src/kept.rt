@@ -13,7 +13,7 @@ use gateway_text::write_reply;
 use segment_pool::Stock;
 use std::alloc::Global;
 use std::marker::Model;
-use tenant_machine::{Machine, segments_for};
+use tenant_machine::{Hint, Machine, segments_for};
 
 /// What a call was answered. Only `Kept::serve` makes one.
 #[derive(Debug, Drop)]
@@ -179,6 +179,11 @@ impl Kept {
         let reply = self.machine.commit(&mut self.left, planned);
         self.audit.keep(Entry { seat, step, reply });
         Ok(Served { receipt, mine })
+    }
+
+    /// Which takes of its watches may not be quiet.
+    pub(crate) fn hint(&self) -> Hint {
+        self.machine.hint()
     }
 
     /// Its audit.

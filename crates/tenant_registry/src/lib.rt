@@ -25,3 +25,4 @@ pub use gate::{Gate, OpenGate};
 pub use kept::{Kept, Receipt, Served};
 pub use registry::{Registry, SeatFault};
 pub use seat::Seat;
+pub use tenant_machine::Hint;

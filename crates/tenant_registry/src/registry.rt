@@ -1,6 +1,6 @@
 //! All tenants, by name, each under a lock of its own.
 ghost use Rattle.std.specs.Prelude.{◌≡◌, ◌≢◌, ◌+◌, [], true, false, map, None, Some, Err, IfErr, IfOk};
-ghost use Rattle.std.specs.Prelude.{OnErr, OnOk};
+ghost use Rattle.std.specs.Prelude.{OnErr, OnOk, is_some};
 ghost use Rattle.tenant_registry.specs.Adding.{new_fault, opened, unmade};
 ghost use Rattle.tenant_registry.specs.Closed.{AreClosed, HasFault, audits_of};
 ghost use Rattle.tenant_registry.specs.Registries.{has_tenant, no_seat, unserved};
@@ -24,6 +24,7 @@ use std::marker::Model;
 use std::rt::Clock;
 use std::sync::{Mutex, Wait};
 use steps_core::OperatorFault;
+use tenant_machine::Hint;
 
 /// Why no seat is given.
 #[derive(Clone, Copy, Debug, PartialEq, Eq)]
@@ -146,6 +147,17 @@ impl Registry {
                 Err(_) => Err(Refusal::Memory),
             },
             None => Err(Refusal::NoTenant),
+        }
+    }
+
+    /// Which takes of a tenant's watches may not be quiet, read under its lock; none if no such tenant is
+    /// there. It promises nothing: a call that comes between may change it.
+    pub fn hint<R: Wait + Clock>(&self, rt: &R, tenant: &[u8]) -> Option<Hint>
+        ensures { is_some result ≡ has_tenant self.now tenant.now }
+    {
+        match self.tenants.get(tenant) {
+            Some(held) => Some(held.kept.lock(rt).hint()),
+            None => None,
         }
     }
 

@@ -1,6 +1,6 @@
 -- A watch with its ring, and when it agrees with a store.
 use Rattle.std.specs.Prelude.{◌≡◌, ℕ, ◌+◌, ◌<◌, ◌≤◌, List, [], ◌∷◌, Some, filter, map, min, nat_le}
-use Rattle.std.specs.Prelude.{if◌then◌else◌}
+use Rattle.std.specs.Prelude.{Bool, ◌||◌, not, length, nat_lt, if◌then◌else◌}
 use Rattle.std.specs.List.{AllByRecursion}
 use Rattle.etcd_model.specs.declared.state.Watch.{Watch}
 use Rattle.etcd_model.specs.Changes.{since}
@@ -41,6 +41,12 @@ from_next w next = record { watch = with_next w.watch next; ring = w.ring; posit
 -- after a compaction a watch that missed what it took keeps no note
 abbrev pub cut_to : StoreState → WatchState → WatchState
 cut_to store w = if nat_le store.kept.compacted w.watch.next then w else with_ring w []
+
+-- it has notes, is behind, or is to be cancelled: else its take is quiet
+abbrev pub may_tell : StoreState → WatchState → Bool
+may_tell store w =
+    nat_lt 0 (length w.ring)
+    || (nat_le w.position store.kept.current || not (nat_le store.kept.compacted w.watch.next))
 
 -- the new store is the old one, compacted at a revision
 pub record Compacts (old new : StoreState) (revision : ℕ) : Type 0 where

@@ -1,6 +1,6 @@
 -- The watches of a tenant in their slots, and what is planned for one of them.
 use Rattle.std.specs.Prelude.{◌≡◌, ℕ, ◌≤◌, List, map, Option, Some, None, option_and_then, option_map}
-use Rattle.std.specs.Prelude.{slice_get, slice_set, IfSome}
+use Rattle.std.specs.Prelude.{Bool, false, slice_get, slice_set, IfSome}
 use Rattle.std.specs.List.{All}
 use Rattle.etcd_types.specs.declared.reply.Header.{Header}
 use Rattle.etcd_model.specs.declared.state.Watch.{Watch}
@@ -9,7 +9,7 @@ use Rattle.etcd_model.specs.Store.{Store, kept_store}
 use Rattle.etcd_model.specs.Tenant.{Outcome, header}
 use Rattle.etcd_model.specs.Watches as model
 use Rattle.revision_store.specs.Stored.{StoreState}
-use Rattle.watch_sync.specs.Agreeing.{Agrees, WatchState, with_next}
+use Rattle.watch_sync.specs.Agreeing.{Agrees, WatchState, may_tell, with_next}
 use Rattle.watch_sync.specs.declared.planned.Taken.{Taken}
 use Rattle.watch_sync.specs.declared.planned.Taken.TheVariants.{Nothing, Canceled, Told}
 use Rattle.watch_sync.specs.declared.planned.PlannedTake.{PlannedTake}
@@ -25,6 +25,11 @@ OneAgrees store (Some w) = Agrees w store
 
 abbrev pub AllAgree : List (Option WatchState) → StoreState → Type 0
 AllAgree slots store = All (OneAgrees store) slots
+
+-- the take of the slot may not be quiet
+abbrev pub hinted : StoreState → Option WatchState → Bool
+hinted store None = false
+hinted store (Some w) = may_tell store w
 
 -- whatever store the old watches agree with, the new ones agree with it too
 abbrev pub StillAgree : List (Option WatchState) → List (Option WatchState) → Type 0

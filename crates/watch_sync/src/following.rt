@@ -5,7 +5,7 @@ ghost use Rattle.etcd_model.specs.Changes.{since};
 ghost use Rattle.key_index.specs.Links.{change_at};
 ghost use Rattle.revision_store.specs.Stored.{cells};
 ghost use Rattle.watch_sync.specs.Ahead.{is_ahead_at, notes_at};
-ghost use Rattle.watch_sync.specs.Agreeing.{Agrees, IsStretch, cut_to, reached, with_ring};
+ghost use Rattle.watch_sync.specs.Agreeing.{Agrees, IsStretch, cut_to, may_tell, reached, with_ring};
 
 use crate::wanting::{is_ahead, note_of, revision_at};
 use crate::watch::OpenWatch;
@@ -30,6 +30,13 @@ impl OpenWatch {
         ensures { result ≡ nat_le store.now.kept.compacted self.now.watch.next }
     {
         store.compacted() <= self.next()
+    }
+
+    /// Whether it has notes, is behind, or is to be cancelled.
+    pub fn may_tell(&self, store: &Store) -> bool
+        ensures { result ≡ may_tell store.now self.now }
+    {
+        self.ring_len() > 0 || self.position() <= store.current() || !self.is_whole(store)
     }
 
     /// Whether it is to be told of the change under a cell.

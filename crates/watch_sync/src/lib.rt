@@ -26,6 +26,7 @@
 mod following;
 mod gathered;
 mod gathering;
+mod hint;
 mod noted;
 mod opening;
 mod planned;
@@ -38,5 +39,6 @@ mod wanting;
 mod watch;
 mod watchers;
 
+pub use hint::Hint;
 pub use planned::{NewWatch, PlannedTake, Taken};
 pub use watchers::Watchers;

@@ -4,7 +4,7 @@ ghost use Rattle.etcd_model.specs.Changes.{since};
 ghost use Rattle.key_index.specs.Links.{change_at};
 ghost use Rattle.revision_store.specs.Stored.{cells};
 ghost use Rattle.watch_sync.specs.Agreeing.{cut_to, with_next};
-ghost use Rattle.watch_sync.specs.Slots.{AllAgree, GoesOn, OneAgrees, watches};
+ghost use Rattle.watch_sync.specs.Slots.{AllAgree, GoesOn, OneAgrees, hinted, watches};
 
 use crate::watch::OpenWatch;
 use etcd_types::CellNo;
@@ -40,6 +40,16 @@ fn cut(slot: &mut Option<OpenWatch>, store: &Store)
 {
     if let Some(watch) = slot {
         watch.cut(store);
+    }
+}
+
+/// Whether a take may not be quiet.
+pub(crate) fn may_tell(slot: &Option<OpenWatch>, store: &Store) -> bool
+    ensures { result ≡ hinted store.now slot.now }
+{
+    match slot {
+        Some(watch) => watch.may_tell(store),
+        None => false,
     }
 }
 

@@ -9,8 +9,9 @@ ghost use Rattle.revision_store.specs.declared.plan.Write.{Write};
 ghost use Rattle.watch_sync.specs.Agreeing.{Agrees, Compacts};
 ghost use Rattle.watch_sync.specs.Slots.{AllAgree, FitsTake, StillAgree, slots_after, watches};
 
+use crate::hint::Hint;
 use crate::planned::{NewWatch, Taken};
-use crate::slots::{catch_up_all, cut_all, note_all, told};
+use crate::slots::{catch_up_all, cut_all, may_tell, note_all, told};
 use crate::watch::OpenWatch;
 use etcd_types::limits::WATCH_SLOTS;
 use etcd_types::{Mem, Refusal, WatchReq};
@@ -57,6 +58,15 @@ impl Watchers {
             slots.push_reserved(None);
         }
         Ok(Watchers { slots })
+    }
+
+    /// Which takes may not be quiet.
+    pub fn hint(&self, store: &Store) -> Hint {
+        let mut slots = [false; WATCH_SLOTS];
+        for (is_told, slot) in slots.iter_mut().zip(self.slots.iter()) {
+            *is_told = may_tell(slot, store);
+        }
+        Hint { slots }
     }
 
     /// A watch that is to be opened, with its ring, or the refusal if no slot is free, which takes no memory.

@@ -12,22 +12,27 @@ const FRONT: &str = "YWFhYWFhYWFhYWFhYWFhYWFhYWFhYWFhYWFhYWFhYWFhYWFhYWFhYWFhYWF
 
 const INTERVAL: &str = "\"AA==\",\"range_end\":\"AA==\"";
 
-/// A source of numbers by chance.
+/// A source of numbers by chance, and the moment that its lines have come to.
 #[derive(Drop)]
 pub(super) struct Random {
     state: u64,
+    moment: u64,
 }
 
 impl Random {
     pub(super) fn new() -> Random {
-        Random { state: 1 }
+        Random {
+            state: 1,
+            moment: 0,
+        }
     }
 
     /// A line of a tenant whose revision is this one.
     pub(super) fn line(&mut self, alloc: Global, tenant: &str, revision: u64) -> Mem<String> {
-        match self.below(40) {
+        match self.below(44) {
             0..=7 => self.slot_line(alloc, "take", tenant),
             8 => self.slot_line(alloc, "drop", tenant),
+            9..=11 => self.tick_line(alloc, tenant),
             _ => self.call_line(alloc, tenant, revision),
         }
     }
@@ -37,6 +42,13 @@ impl Random {
         let slots = if self.below(4) == 0 { 70 } else { 6 };
         let slot = self.below(slots);
         format!(in alloc; "{word} {tenant} {slot}\n")
+    }
+
+    /// A tick at a moment that is a little later or earlier.
+    fn tick_line(&mut self, alloc: Global, tenant: &str) -> Mem<String> {
+        self.moment = self.moment.saturating_add(self.below(4));
+        let moment = self.moment.saturating_sub(self.below(3));
+        format!(in alloc; "tick {tenant} {moment}\n")
     }
 
     /// A catch-up of few changes or of many.
@@ -56,7 +68,7 @@ impl Random {
     }
 
     fn write_call(&mut self, text: &mut String, revision: u64) -> Mem<()> {
-        match self.below(26) {
+        match self.below(32) {
             0..=9 => self.write_put(text, "kv/put "),
             10..=12 => self.write_delete(text, "kv/deleterange "),
             13..=15 => self.write_range(text, "kv/range ", revision),
@@ -66,13 +78,41 @@ impl Random {
             ),
             19 => text.push_str("maintenance/status {"),
             20 | 21 => self.write_watch(text, revision),
+            22..=27 => self.write_lease_call(text),
             _ => self.write_txn(text, revision),
         }
     }
 
-    /// A transaction whose branch depends on whether a key is there.
+    /// A call of leases. A grant of ID 0 gets one that is chosen.
+    fn write_lease_call(&mut self, text: &mut String) -> Mem<()> {
+        let id = self.lease();
+        match self.below(8) {
+            0..=2 => {
+                let lifetime = self.below(12);
+                write!(text, "lease/grant {{\"TTL\":\"{lifetime}\",\"ID\":\"{id}\"")
+            }
+            3 => write!(text, "lease/revoke {{\"ID\":\"{id}\""),
+            4 | 5 => write!(text, "lease/keepalive {{\"ID\":\"{id}\""),
+            6 => write!(text, "lease/timetolive {{\"ID\":\"{id}\",\"keys\":true"),
+            _ => text.push_str("lease/leases {"),
+        }
+    }
+
+    /// The ID of a lease that may be there, or 0.
+    fn lease(&mut self) -> u64 {
+        self.below(8)
+    }
+
+    /// A transaction whose branch depends on whether a key is there, or on the lease that it has.
     fn write_txn(&mut self, text: &mut String, revision: u64) -> Mem<()> {
-        text.push_str("kv/txn {\"compare\":[{\"target\":\"VERSION\",\"key\":")?;
+        text.push_str("kv/txn {\"compare\":[{")?;
+        if self.below(2) == 0 {
+            text.push_str("\"target\":\"VERSION\"")?;
+        } else {
+            let id = self.lease();
+            write!(text, "\"target\":\"LEASE\",\"lease\":\"{id}\"")?;
+        }
+        text.push_str(",\"key\":")?;
         self.write_key(text)?;
         text.push_str("}],\"success\":[")?;
         self.write_branch(text, revision)?;
@@ -109,7 +149,20 @@ impl Random {
             text.push_str("YmFy")?;
         }
         text.push('"')?;
+        self.write_lease(text)?;
         self.write_prev_kv(text)
+    }
+
+    /// What a put says of leases: nothing, one of them, or the one that the key has.
+    fn write_lease(&mut self, text: &mut String) -> Mem<()> {
+        match self.below(8) {
+            0..=2 => {
+                let id = self.lease();
+                write!(text, ",\"lease\":\"{id}\"")
+            }
+            3 => text.push_str(",\"ignore_lease\":true"),
+            _ => Ok(()),
+        }
     }
 
     fn write_delete(&mut self, text: &mut String, front: &str) -> Mem<()> {

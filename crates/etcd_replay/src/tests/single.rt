@@ -1,7 +1,8 @@
-//! One tenant with segments of its own, from any source, which is answered as a host answers it.
+//! Tenants with segments of their own, each from any source, which are answered as a host answers them.
 ghost use Rattle.std.specs.Prelude.{◌≡◌, IfOk};
 
 use cell_arena::Segments;
+use etcd_types::limits::{LAST_REVISION, MAX_QUOTA, MIN_QUOTA};
 use etcd_types::{Mem, Refusal, Reply, Step};
 use gateway_json::{read_posted, target_of};
 use gateway_text::write_reply;
@@ -10,9 +11,6 @@ use std::alloc::Global;
 use std::marker::Model;
 use tenant_machine::{Machine, segments_for};
 use test_segments::{Filled, Highest, Lowest};
-
-/// The cells of the tenant.
-pub(super) const QUOTA: u32 = 192;
 
 /// A source of segments, made for one tenant.
 pub(super) trait Source: Segments + Drop {
@@ -38,8 +36,10 @@ impl Source for Filled {
     }
 }
 
+/// A tenant that has its segments for itself.
 #[derive(Drop)]
-pub(super) struct Single<S: Source> {
+struct Single<S: Source> {
+    name: Vec<u8>,
     machine: Machine,
     segments: S,
 }
@@ -58,16 +58,32 @@ impl<S: Source> Model for Single<S> {
 }
 
 impl<S: Source> Single<S> {
-    /// A tenant of cluster 7, whose store begins at revision 1.
-    pub(super) fn new(alloc: Global) -> Mem<Single<S>> {
-        Ok(Single {
-            machine: Machine::new(alloc, 7, QUOTA, 1)?,
-            segments: S::make(alloc, segments_for(QUOTA))?,
-        })
+    /// A new tenant, or none if its numbers are not within the limits.
+    fn new(
+        alloc: Global,
+        name: &[u8],
+        cluster: u64,
+        quota: u64,
+        first: u64,
+    ) -> Mem<Option<Single<S>>> {
+        if cluster == 0
+            || quota < MIN_QUOTA
+            || quota > MAX_QUOTA
+            || first == 0
+            || first > LAST_REVISION
+        {
+            return Ok(None);
+        }
+        let quota = quota as u32;
+        Ok(Some(Single {
+            name: Vec::from_slice(alloc, name)?,
+            machine: Machine::new(alloc, cluster, quota, first as i64)?,
+            segments: S::make(alloc, segments_for(quota))?,
+        }))
     }
 
     /// The status and the body that an event is answered.
-    pub(super) fn answer(&mut self, alloc: Global, event: LentEvent<'_>) -> Mem<(u16, Vec<u8>)> {
+    fn answer(&mut self, alloc: Global, event: LentEvent<'_>) -> Mem<(u16, Vec<u8>)> {
         match event {
             LentEvent::Call {
                 method,
@@ -102,6 +118,72 @@ impl<S: Source> Single<S> {
         let answer = write_reply(alloc, planned.reply())?;
         let _ = self.machine.commit(&mut self.segments, planned);
         Ok(answer)
+    }
+}
+
+/// Tenants by name.
+#[derive(Drop)]
+pub(super) struct Singles<S: Source> {
+    tenants: Vec<Single<S>>,
+}
+
+impl<S: Source> Singles<S> {
+    pub(super) fn new(alloc: Global) -> Singles<S> {
+        Singles {
+            tenants: Vec::new(alloc),
+        }
+    }
+
+    /// One tenant more, if its numbers are within the limits.
+    pub(super) fn add(
+        &mut self,
+        alloc: Global,
+        name: &[u8],
+        cluster: u64,
+        quota: u64,
+        first: u64,
+    ) -> Mem<()> {
+        match Single::new(alloc, name, cluster, quota, first)? {
+            Some(single) => Ok(self.tenants.push(single)?),
+            None => Ok(()),
+        }
+    }
+
+    /// The status and the body that an event is answered.
+    pub(super) fn answer(&mut self, alloc: Global, event: LentEvent<'_>) -> Mem<(u16, Vec<u8>)> {
+        for single in self.tenants.iter_mut() {
+            if is_of(event, single.name.as_slice()) {
+                return single.answer(alloc, event);
+            }
+        }
+        refuse_unknown(alloc, event)
+    }
+}
+
+/// No tenant has the name. A path that names no call is told first.
+fn refuse_unknown(alloc: Global, event: LentEvent<'_>) -> Mem<(u16, Vec<u8>)> {
+    if let LentEvent::Call {
+        method,
+        target,
+        body,
+    } = event
+    {
+        let path = target_of(target).map_or(b"".as_slice(), |it| it.path);
+        if let Err(Refusal::NoPath) = read_posted(alloc, method, path, body) {
+            return refuse(alloc, Refusal::NoPath);
+        }
+    }
+    refuse(alloc, Refusal::NoTenant)
+}
+
+/// Whether an event is of this tenant.
+fn is_of(event: LentEvent<'_>, name: &[u8]) -> bool {
+    match event {
+        LentEvent::Call { target, .. } => target_of(target).is_some_and(|it| it.tenant == name),
+        LentEvent::Take { tenant, .. }
+        | LentEvent::DropWatch { tenant, .. }
+        | LentEvent::Tick { tenant, .. }
+        | LentEvent::CatchUp { tenant, .. } => tenant == name,
     }
 }
 

@@ -166,7 +166,7 @@ pub(super) const ALONE: [Row; 5] = [
     },
 ];
 
-/// Path, tenant and method go before the body. Leases, watches and ticks are not offered yet.
+/// Path, tenant and method go before the body.
 pub(super) const REFUSALS: [Row; 17] = [
     Row {
         asked: Asked::Call("GET", "/t/one/v3/kv/put", ""),

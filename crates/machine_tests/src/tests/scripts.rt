@@ -159,6 +159,64 @@ pub(super) const PUT_AGAIN: [Line; 7] = [
     (Ask::Leases, "3: 0"),
 ];
 
+/// Four leases fill four cells, and the fifth is refused and raises the alarm. Under it leases are kept alive,
+/// revoked and run out, which frees their cells. A grant that was refused took no ID.
+pub(super) const FULL_OF_LEASES: [Line; 20] = [
+    (Ask::Grant(5, 0), "1: 1 5"),
+    (Ask::Grant(5, 0), "1: 2 5"),
+    (Ask::Grant(5, 0), "1: 3 5"),
+    (Ask::Grant(60, 0), "1: 4 60"),
+    (Ask::Status, "1: 192 192"),
+    (ALARMS, "1: none"),
+    (Ask::Grant(5, 0), "NoSpace"),
+    (ALARMS, "1: no space"),
+    (Ask::KeepAlive(1), "1: 1 5"),
+    (Ask::Revoke(2), "1"),
+    (Ask::Status, "1: 192 144"),
+    (Ask::Grant(5, 0), "NoSpace"),
+    (CLEAR, "1: no space"),
+    (Ask::Grant(5, 0), "1: 5 5"),
+    (Ask::Leases, "1: 4"),
+    (PUT_OF_LEASE_1, "NoSpace"),
+    (Ask::Tick(5), "quiet"),
+    (Ask::Leases, "1: 1"),
+    (CLEAR, "1: no space"),
+    (Ask::Status, "1: 192 48"),
+];
+
+/// What is asked, the text of its answer, and the slots whose takes may not be quiet after it.
+pub(super) type HintedLine = (Ask, &'static str, &'static str);
+
+const PUT_OF_ANOTHER_KEY: Ask = Ask::Put(Put {
+    key: "fo",
+    value: "",
+    lease: 0,
+    ignore_value: false,
+});
+
+/// A watch is hinted at while it has notes, while it is behind, and when it is to be cancelled, which an idle one
+/// is too.
+pub(super) const HINTED: [HintedLine; 18] = [
+    (Ask::Watch(2), "1: slot 0", ""),
+    (PUT, "2", "0 "),
+    (Ask::Take(0), "2: 1 events", ""),
+    (PUT_OF_ANOTHER_KEY, "3", ""),
+    (Ask::Watch(2), "3: slot 1", "1 "),
+    (Ask::CatchUp(100), "quiet", "1 "),
+    (Ask::Take(1), "3: 1 events", ""),
+    (PUT, "4", "0 1 "),
+    (Ask::Take(1), "4: 1 events", "0 "),
+    (PUT, "5", "0 1 "),
+    (Ask::Compact(5), "5", "0 1 "),
+    (Ask::Take(0), "5: canceled", "1 "),
+    (Ask::DropWatch(1), "quiet", ""),
+    (Ask::Watch(0), "5: slot 0", ""),
+    (PUT_OF_ANOTHER_KEY, "6", ""),
+    (PUT_OF_ANOTHER_KEY, "7", ""),
+    (Ask::Compact(7), "7", "0 "),
+    (Ask::Take(0), "7: canceled", ""),
+];
+
 /// No slot is taken: takes, drops and catch-ups change nothing.
 pub(super) const NO_WATCH: [Line; 5] = [
     (Ask::Take(0), "quiet"),

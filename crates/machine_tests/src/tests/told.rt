@@ -1,6 +1,7 @@
 //! What a machine answers, as a line of text.
 use etcd_types::{Header, Mem, Reply};
 use std::alloc::Global;
+use tenant_machine::Hint;
 
 /// The revision, and then what the answer says: how many keys, which branch is taken and how many answers it
 /// has, whether the alarm is listed, the bytes of the quota and those in use, a lease and its seconds, the
@@ -98,4 +99,15 @@ fn lease(alloc: Global, header: &Header, id: i64, ttl: i64) -> Mem<String> {
 fn time_left(alloc: Global, header: &Header, left: i64, granted: i64, keys: usize) -> Mem<String> {
     let revision = header.revision;
     format!(in alloc; "{revision}: {left} {granted} {keys}")
+}
+
+/// The slots of a hint, each with a space behind it.
+pub(super) fn slots_of(alloc: Global, hint: &Hint) -> Mem<String> {
+    let mut text = String::new(alloc);
+    for slot in 0..=u8::MAX {
+        if hint.has(slot) {
+            write!(text, "{slot} ")?;
+        }
+    }
+    Ok(text)
 }
