@@ -111,3 +111,13 @@ read_later before all chain piece rest skip left was is size late =
     ap (λ xs. before ++ xs) (sym (part_later piece rest skip left size late))
     ∙ ap (λ xs. before ++ take left (drop skip xs)) (sym is)
     ∙ was
+
+-- the first piece is the first 48 bytes of all
+pub front_first : (piece rest all : List ℕ) (count left : ℕ) → all ≡ piece ++ rest → length piece ≡ min count 48 → left + length piece ≡ count → length rest ≤ left → piece ≡ take 48 all
+front_first piece rest all count left both size sum few =
+    let none : length (take (48 - length piece) rest) ≡ 0 = length-take (48 - length piece) rest ∙ omega (arith, size, sum, few) in
+    sym (ap (take 48) both
+    ∙ take_both 48 piece rest
+    ∙ ap (λ bytes. bytes ++ take (48 - length piece) rest) (take_all 48 piece (omega (arith, size)))
+    ∙ ap (λ bytes. piece ++ bytes) (nil_from_length (take (48 - length piece) rest) none)
+    ∙ append-nil piece)

@@ -1,5 +1,5 @@
 //! Reading a part of a record's bytes.
-ghost use Rattle.std.specs.Prelude.{◌≡◌, ◌+◌, ◌<◌, ◌++◌, min, length, OnOk, OnErr};
+ghost use Rattle.std.specs.Prelude.{◌≡◌, ◌+◌, ◌<◌, ◌++◌, min, length, take, OnOk, OnErr};
 ghost use Rattle.std.specs.Ordering.{nat_cmp};
 ghost use Rattle.std.specs.Cmp.Lexicographic.{slice_cmp};
 ghost use Rattle.cell_arena.specs.Part.{IsPart, part_bytes};
@@ -97,6 +97,18 @@ fn first_piece(table: &Table, part: Part) -> (&[u8], Part)
         count: part.count - wanted,
     };
     (&bytes[..wanted], rest)
+}
+
+/// The bytes of a part in its first cell.
+pub(crate) fn front(table: &Table, part: Part) -> &[u8]
+    requires part { IsPart (table_at table.now) part }
+    requires front { part.from ≡ 0 }
+    ensures { result.now ≡ take 48 (part_bytes (table_at table.now) part) }
+{
+    if part.count == 0 {
+        return b"";
+    }
+    first_piece(table, part).0
 }
 
 /// How the front of one chain's bytes stands to that of another's, in byte order.

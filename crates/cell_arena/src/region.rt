@@ -1,5 +1,5 @@
 //! A store of records.
-ghost use Rattle.std.specs.Prelude.{◌≡◌, ◌+◌, ◌*◌, ◌/◌, ◌%◌, ◌≤◌, ◌^◌, ◌++◌, max, length, OnOk, OnErr};
+ghost use Rattle.std.specs.Prelude.{◌≡◌, ◌+◌, ◌*◌, ◌/◌, ◌%◌, ◌≤◌, ◌^◌, ◌++◌, max, length, take, OnOk, OnErr};
 ghost use Rattle.std.specs.Prelude.{IfOk, None, IsSome, is_some, IfSome, []};
 ghost use Rattle.std.specs.Ordering.{nat_cmp};
 ghost use Rattle.std.specs.Cmp.Lexicographic.{slice_cmp};
@@ -225,6 +225,15 @@ impl Region {
     {
         let part = chain::value_part(&self.table, cell);
         reading::read_part(&self.table, part, sink)
+    }
+
+    /// The first bytes of the record's key, as many as lie in one cell.
+    pub fn key_front(&self, cell: CellNo) -> &[u8]
+        requires { IsSome (map.get self.now.records cell) }
+        ensures { IfSome (map.get self.now.records cell) (λ r. result.now ≡ take 48 r.key) }
+    {
+        let part = chain::key_part(&self.table, cell);
+        reading::front(&self.table, part)
     }
 
     /// How the record's key stands to a text, in byte order.

@@ -1,5 +1,5 @@
 //! A change under its cell: its key, its row, and what its key showed before.
-ghost use Rattle.std.specs.Prelude.{◌≡◌, ◌-◌, ◌≤◌, Some, IsSome, IfSome, IfOk, option_and_then};
+ghost use Rattle.std.specs.Prelude.{◌≡◌, ◌-◌, ◌≤◌, Some, IsSome, IfSome, IfOk, option_and_then, take};
 ghost use Rattle.std.specs.List.{AllByRecursion};
 ghost use Rattle.etcd_model.specs.Changes.{live};
 ghost use Rattle.etcd_model.specs.Store.{kept_store};
@@ -22,6 +22,14 @@ impl Store {
         ensures { IfOk result (λ key. key ≡ key_at (cells self.now) cell) }
     {
         self.log.key(alloc, cell)
+    }
+
+    /// The first 48 bytes of the key of the change under a cell, or the whole key if it has no more.
+    pub fn key_front(&self, cell: CellNo) -> &[u8]
+        requires { IsSome (cells self.now cell) }
+        ensures { result.now ≡ take 48 (key_at (cells self.now) cell) }
+    {
+        self.log.key_front(cell)
     }
 
     /// The row that the put under a cell left.
@@ -69,6 +77,14 @@ impl Log {
         let mut key = Vec::with_capacity(alloc, self.region.key_len(cell) as usize)?;
         self.region.read_key(cell, &mut key)?;
         Ok(List::from_vec(key))
+    }
+
+    /// The first 48 bytes of the key of the change under a cell, or the whole key if it has no more.
+    fn key_front(&self, cell: CellNo) -> &[u8]
+        requires { IsSome (cells_of self.now.records cell) }
+        ensures { result.now ≡ take 48 (key_at (cells_of self.now.records) cell) }
+    {
+        self.region.key_front(cell)
     }
 
     /// The cell of the row that the key of a change showed at the revision before, if it was live.

@@ -11,3 +11,4 @@ pub mod Told
 pub mod Takes
 pub mod Committed
 pub mod Filling
+pub mod Others

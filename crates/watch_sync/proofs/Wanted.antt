@@ -35,7 +35,7 @@ module _ (cells : Cells) (c : ℕ) where
       by None some is = let bad : ⊥ = cc in absurd bad
       by (Some e) some is = is
 
-  abbrev passes : Watch → Bool → Bool
+  abbrev pub passes : Watch → Bool → Bool
   passes w put = if put then not w.no_put else not w.no_delete
 
   -- the three parts of what is ahead

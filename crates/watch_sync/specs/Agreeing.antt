@@ -1,6 +1,7 @@
 -- A watch with its ring, and when it agrees with a store.
 use Rattle.std.specs.Prelude.{◌≡◌, ℕ, ◌+◌, ◌<◌, ◌≤◌, List, [], ◌∷◌, Some, filter, map, min, nat_le}
-use Rattle.std.specs.Prelude.{Bool, ◌||◌, not, length, nat_lt, if◌then◌else◌}
+use Rattle.revision_store.specs.Plans.{key_at}
+use Rattle.std.specs.Prelude.{Bool, take, ◌||◌, not, length, nat_lt, if◌then◌else◌}
 use Rattle.std.specs.List.{AllByRecursion}
 use Rattle.etcd_model.specs.declared.state.Watch.{Watch}
 use Rattle.etcd_model.specs.Changes.{since}
@@ -59,6 +60,12 @@ pub record IsStretch (store : StoreState) (from to : ℕ) (cs : List ℕ) : Type
   pub order : from ≤ to
   pub top : to ≤ store.kept.current + 1
   pub changes : map (change_at (cells store)) cs ≡ map Some (before to (since from store.kept.changes))
+
+-- of one change the front of its key, and of more none
+abbrev pub front_of : StoreState → List ℕ → List ℕ
+front_of store [] = []
+front_of store (c ∷ []) = take 48 (key_at (cells store) c)
+front_of store (c ∷ d ∷ cs) = []
 
 -- the first revision after that of the first of some cells, or after the current one
 abbrev pub reached : StoreState → List ℕ → ℕ

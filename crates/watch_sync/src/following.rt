@@ -1,13 +1,15 @@
 //! How a ring follows its store: over the newest revision, over those before, and over a compaction.
 ghost use Rattle.std.specs.Prelude.{◌≡◌, ◌<◌, ◌≤◌, ◌++◌, IfSome, IsFalse, IsSome, IsTrue, Some, map, nat_le};
+ghost use Rattle.std.specs.Prelude.{ℕ, List, false, length, take};
 ghost use Rattle.std.specs.List.{AllByRecursion};
+ghost use Rattle.etcd_model.specs.Interval.{is_in};
 ghost use Rattle.etcd_model.specs.Changes.{since};
 ghost use Rattle.key_index.specs.Links.{change_at};
 ghost use Rattle.revision_store.specs.Stored.{cells};
 ghost use Rattle.watch_sync.specs.Ahead.{is_ahead_at, notes_at};
-ghost use Rattle.watch_sync.specs.Agreeing.{Agrees, IsStretch, cut_to, may_tell, reached, with_ring};
+ghost use Rattle.watch_sync.specs.Agreeing.{Agrees, IsStretch, cut_to, front_of, may_tell, reached, with_ring};
 
-use crate::wanting::{is_ahead, note_of, revision_at};
+use crate::wanting::{is_ahead, is_other, note_of, revision_at};
 use crate::watch::OpenWatch;
 use etcd_types::CellNo;
 use revision_store::Store;
@@ -45,6 +47,15 @@ impl OpenWatch {
         ensures { result ≡ is_ahead_at (cells store.now) self.now.watch cell }
     {
         is_ahead(&self.watch, store, cell)
+    }
+
+    /// Whether it is of one key, and another key's front shows that it is not that one.
+    fn is_other(&self, front: &[u8]) -> bool
+        ensures other { IsTrue result → (key : List ℕ) → front.now ≡ take 48 key
+            → is_in self.now.watch.key self.now.watch.range_end key ≡ false }
+        ensures some { IsTrue result → 0 < length front.now }
+    {
+        is_other(&self.watch, front)
     }
 
     /// Takes up the changes under some cells, those that are ahead, if there is room for all of them.
@@ -85,9 +96,10 @@ impl OpenWatch {
     }
 
     /// Takes up the newest revision, if the ring has all before it and room for it.
-    pub fn note(&mut self, store: &Store, newest: &[CellNo])
-        requires { map (change_at (cells store.now)) newest.now
+    pub fn note(&mut self, store: &Store, newest: &[CellNo], front: &[u8])
+        requires newest { map (change_at (cells store.now)) newest.now
             ≡ map Some (since store.now.kept.current store.now.kept.changes) }
+        requires front { front.now ≡ front_of store.now newest.now }
         ensures agrees { Agrees self.old store.now → Agrees self.new store.now }
         ensures watch { self.new.watch ≡ self.old.watch }
     {
@@ -96,6 +108,11 @@ impl OpenWatch {
             return;
         }
         if !self.is_whole(store) {
+            return;
+        }
+        // Most puts are of another key, which one comparison of bytes tells.
+        if self.is_other(front) {
+            self.move_to(current + 1);
             return;
         }
         self.pass(store, newest, current + 1);

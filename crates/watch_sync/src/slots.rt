@@ -3,22 +3,24 @@ ghost use Rattle.std.specs.Prelude.{◌≡◌, ◌≤◌, Some, IfSome, map, opt
 ghost use Rattle.etcd_model.specs.Changes.{since};
 ghost use Rattle.key_index.specs.Links.{change_at};
 ghost use Rattle.revision_store.specs.Stored.{cells};
-ghost use Rattle.watch_sync.specs.Agreeing.{cut_to, with_next};
+ghost use Rattle.watch_sync.specs.Agreeing.{cut_to, front_of, with_next};
 ghost use Rattle.watch_sync.specs.Slots.{AllAgree, GoesOn, OneAgrees, hinted, watches};
 
+use crate::wanting::front_of;
 use crate::watch::OpenWatch;
 use etcd_types::CellNo;
 use revision_store::Store;
 
 /// Takes up the newest revision.
-fn note(slot: &mut Option<OpenWatch>, store: &Store, newest: &[CellNo])
-    requires { map (change_at (cells store.now)) newest.now
+fn note(slot: &mut Option<OpenWatch>, store: &Store, newest: &[CellNo], front: &[u8])
+    requires newest { map (change_at (cells store.now)) newest.now
         ≡ map Some (since store.now.kept.current store.now.kept.changes) }
+    requires front { front.now ≡ front_of store.now newest.now }
     ensures agrees { OneAgrees store.now slot.old → OneAgrees store.now slot.new }
     ensures watch { option_map (λ w. w.watch) slot.new ≡ option_map (λ w. w.watch) slot.old }
 {
     if let Some(watch) = slot {
-        watch.note(store, newest);
+        watch.note(store, newest, front);
     }
 }
 
@@ -72,8 +74,9 @@ pub(crate) fn note_all(slots: &mut [Option<OpenWatch>], store: &Store)
     ensures watches { watches slots.new ≡ watches slots.old }
 {
     let newest = store.since(store.current());
+    let front = front_of(store, newest);
     for slot in slots.iter_mut() {
-        note(slot, store, newest);
+        note(slot, store, newest, front);
     }
 }
 

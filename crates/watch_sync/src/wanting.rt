@@ -1,10 +1,12 @@
 //! Whether a watch is to be told of a change, which is read where it lies.
-ghost use Rattle.std.specs.Prelude.{◌≡◌, IsSome};
+ghost use Rattle.std.specs.Prelude.{◌≡◌, ◌<◌, ℕ, List, IsSome, IsTrue, false, length, take};
+ghost use Rattle.std.specs.List.{AllByRecursion};
 ghost use Rattle.std.specs.Str.{bytes_eq};
 ghost use Rattle.etcd_model.specs.Interval.{is_in};
 ghost use Rattle.etcd_model.specs.Order.{key_cmp, key_le};
 ghost use Rattle.revision_store.specs.Plans.{key_at};
 ghost use Rattle.revision_store.specs.Stored.{cells};
+ghost use Rattle.watch_sync.specs.Agreeing.{front_of};
 ghost use Rattle.watch_sync.specs.Ahead.{is_ahead_at, is_put_at, note_at, revision_at};
 
 use crate::noted::Noted;
@@ -36,6 +38,36 @@ fn key_cmp(store: &Store, cell: CellNo, key: &[u8]) -> Ordering
     ensures { result ≡ key_cmp (key_at (cells store.now) cell) key.now }
 {
     store.records().key_cmp(cell, key)
+}
+
+/// Of one change the front of its key, and of more none.
+pub(crate) fn front_of<'a>(store: &'a Store, changes: &[CellNo]) -> &'a [u8]
+    requires { AllByRecursion (λ c. IsSome (cells store.now c)) changes.now }
+    ensures { result.now ≡ front_of store.now changes.now }
+{
+    match changes {
+        [cell] => store.key_front(*cell),
+        _ => b"",
+    }
+}
+
+/// Whether a watch is of one key, and another key's front shows that it is not that one. The last byte of the
+/// front tells most keys apart.
+pub(crate) fn is_other(watch: &Watch, front: &[u8]) -> bool
+    ensures other { IsTrue result → (key : List ℕ) → front.now ≡ take 48 key
+        → is_in watch.now.key watch.now.range_end key ≡ false }
+    ensures some { IsTrue result → 0 < length front.now }
+{
+    let [.., last] = front else {
+        return false;
+    };
+    if !watch.range_end.as_slice().is_empty() {
+        return false;
+    }
+    match watch.key.as_slice().get(front.len() - 1) {
+        Some(byte) => *byte != *last,
+        None => true,
+    }
 }
 
 /// Whether its key is the key.

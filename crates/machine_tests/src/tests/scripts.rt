@@ -194,9 +194,16 @@ const PUT_OF_ANOTHER_KEY: Ask = Ask::Put(Put {
     ignore_value: false,
 });
 
+const PUT_OF_ANOTHER_KEY_AND_LEASE_1: Ask = Ask::Put(Put {
+    key: "fo",
+    value: "",
+    lease: 1,
+    ignore_value: false,
+});
+
 /// A watch is hinted at while it has notes, while it is behind, and when it is to be cancelled, which an idle one
-/// is too.
-pub(super) const HINTED: [HintedLine; 18] = [
+/// is too. So it is not where a write or a lease's end of another key was noted.
+pub(super) const HINTED: [HintedLine; 26] = [
     (Ask::Watch(2), "1: slot 0", ""),
     (PUT, "2", "0 "),
     (Ask::Take(0), "2: 1 events", ""),
@@ -215,6 +222,14 @@ pub(super) const HINTED: [HintedLine; 18] = [
     (PUT_OF_ANOTHER_KEY, "7", ""),
     (Ask::Compact(7), "7", "0 "),
     (Ask::Take(0), "7: canceled", ""),
+    (Ask::Watch(0), "7: slot 0", ""),
+    (Ask::Grant(5, 1), "7: 1 5", ""),
+    (PUT_OF_ANOTHER_KEY_AND_LEASE_1, "8", ""),
+    (Ask::Revoke(1), "9", ""),
+    (Ask::Grant(5, 1), "9: 1 5", ""),
+    (PUT_OF_ANOTHER_KEY_AND_LEASE_1, "10", ""),
+    (Ask::Tick(5), "quiet", ""),
+    (Ask::Range(0), "11: 1", ""),
 ];
 
 /// No slot is taken: takes, drops and catch-ups change nothing.
