@@ -1,12 +1,11 @@
 -- Ticks, catch-ups and dropped watches are never refused, and nobody is told of them.
 use Rattle.std.proofs.Common.{◌≡◌, ◌∙◌, ℕ, refl, ap}
-use Rattle.std.specs.Prelude.{Bool, true, false, ◌&&◌, ◌||◌, nat_le, None}
+use Rattle.std.specs.Prelude.{Bool, true, false, ◌&&◌, ◌||◌, nat_le, Option, None, [], ◌∷◌, if◌then◌else◌}
 use Rattle.etcd_types.specs.Limits.{last_lease_id, last_revision}
 use Rattle.etcd_types.specs.declared.step.Step.{Step}
 use Rattle.etcd_types.specs.declared.step.Step.TheVariants.{CatchUp, DropWatch, Tick}
 use Rattle.etcd_types.specs.declared.refusal.Refusal.TheVariants.{NoSpace, UsedUp}
 use Rattle.etcd_types.specs.declared.reply.Reply.TheVariants.{Quiet, Refused}
-use Rattle.std.specs.Prelude.{Option, [], ◌∷◌, if◌then◌else◌}
 use Rattle.etcd_types.specs.declared.refusal.Refusal.{Refusal}
 use Rattle.etcd_model.specs.Fields.{refused_if}
 use Rattle.etcd_model.specs.Operations.{first_refusal}

@@ -22,6 +22,11 @@ all_since : (r : ℕ) (xs : List Recorded) → AllByRecursion (λ y. r ≤ y.rev
 all_since r [] all = refl
 all_since r (x ∷ xs) all = grind (arith, nat_tests, all.0, all_since r xs all.1)
 
+-- nothing is since a later revision
+pub none_since : (r top : ℕ) (xs : List Recorded) → top < r → AllByRecursion (λ y. y.revision ≤ top) xs → since r xs ≡ []
+none_since r top [] less all = refl
+none_since r top (x ∷ xs) less all = grind (arith, nat_tests, all.0, none_since r top xs less all.1)
+
 -- the whole is what is before r and what is since it
 pub splits : (r : ℕ) (xs : List Recorded) → Rises xs → before r xs ++ since r xs ≡ xs
 splits r [] rises = refl

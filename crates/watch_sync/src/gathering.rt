@@ -1,6 +1,8 @@
 //! What a watch is told next.
-ghost use Rattle.std.specs.Prelude.{◌≡◌, ◌<◌, ◌≤◌, IfOk, IsSome, OnOk, fold};
+ghost use Rattle.std.specs.Prelude.{◌≡◌, ◌<◌, ◌≤◌, IfOk, IsSome, OnOk, Some, fold, map};
 ghost use Rattle.std.specs.List.{AllByRecursion};
+ghost use Rattle.etcd_model.specs.Changes.{since};
+ghost use Rattle.key_index.specs.Links.{change_at};
 ghost use Rattle.revision_store.specs.Stored.{cells};
 ghost use Rattle.watch_sync.specs.Ahead.{AreNotes, ahead, notes_at};
 ghost use Rattle.watch_sync.specs.Agreeing.{Agrees, NotesRise, notes_from, with_next};
@@ -34,8 +36,19 @@ impl OpenWatch {
             found.offer(self.note_at(place))?;
             place += 1;
         }
-        self.scan(store, store.since(self.position()), &mut found)?;
+        self.scan(store, self.behind(store), &mut found)?;
         Ok(found)
+    }
+
+    /// The changes from the position on, which a watch that is synced has none of.
+    fn behind<'a>(&self, store: &'a Store) -> &'a [CellNo]
+        ensures { map (change_at (cells store.now)) result.now
+            ≡ map Some (since self.now.position store.now.kept.changes) }
+    {
+        if self.position() > store.current() {
+            return &[];
+        }
+        store.since(self.position())
     }
 
     /// Goes over some cells, until there is one revision more than a response has.
