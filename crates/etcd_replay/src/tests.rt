@@ -1,5 +1,5 @@
-//! The rows, and the rows over each source of segments; scripts of two tenants and of as many as there may be,
-//! shuffled together; and a script with catch-ups put in.
+//! The rows, and the rows over each source of segments; scripts of two tenants, shuffled together; and a script
+//! with catch-ups put in.
 //!
 //! Scripts are text in tables or made by chance, and are run by one small function: a test that holds many
 //! values itself is long to prove.
@@ -13,7 +13,6 @@ use crate::replay::Replay;
 use crate::run::run;
 use crate::script::{Line, read_line};
 use etcd_types::Mem;
-use etcd_types::limits::MAX_TENANTS;
 use random::Random;
 use single::{Singles, Source};
 use std::alloc::Global;
@@ -114,44 +113,6 @@ fn ask_by_chance(
         };
         part.ask_by_chance(rt, alloc, replay, &mut random)?;
     }
-    Ok(())
-}
-
-/// Tenants of one host, as many as it takes.
-fn parts_of_all(rt: &impl Abort, alloc: Global, replay: &mut Replay) -> Mem<Vec<Part>> {
-    let mut parts = Vec::new(alloc);
-    for number in 1..=MAX_TENANTS {
-        let name = format!(in alloc; "t{number}")?;
-        let mut part = Part::new(alloc, name.as_str())?;
-        let line = format!(in alloc; "add t{number} {number} 64 1\n")?;
-        part.ask(rt, alloc, replay, line.as_str())?;
-        parts.push(part)?;
-    }
-    Ok(parts)
-}
-
-/// Asks lines of any of the tenants, one after another.
-fn ask_all_by_chance(
-    rt: &impl Abort,
-    alloc: Global,
-    replay: &mut Replay,
-    parts: &mut Vec<Part>,
-) -> Mem<()> {
-    let mut random = Random::new();
-    for _ in 0..LINES {
-        let number = random.below(MAX_TENANTS as u64) as usize;
-        if let Some(part) = parts.get_mut(number) {
-            part.ask_by_chance(rt, alloc, replay, &mut random)?;
-        }
-    }
-    Ok(())
-}
-
-/// There is no place for one tenant more.
-fn assert_full(rt: &impl Abort, alloc: Global, replay: &mut Replay) -> Mem<()> {
-    let mut part = Part::new(alloc, "more")?;
-    part.ask(rt, alloc, replay, "add more 7 64 1\n")?;
-    assert!(rt; part.answers.as_slice() == b"no limits\n".as_slice());
     Ok(())
 }
 
@@ -285,18 +246,6 @@ fn rows_are_answered_over_each_source(rt: HostRuntime) -> Mem<()> {
         assert_row_over::<Lowest>(&rt, rt.alloc(), row)?;
         assert_row_over::<Highest>(&rt, rt.alloc(), row)?;
         assert_row_over::<Filled>(&rt, rt.alloc(), row)?;
-    }
-    Ok(())
-}
-
-#[test]
-fn as_many_tenants_as_there_may_be_are_answered_as_alone(rt: HostRuntime) -> Mem<()> {
-    let mut replay = Replay::new();
-    let mut parts = parts_of_all(&rt, rt.alloc(), &mut replay)?;
-    assert_full(&rt, rt.alloc(), &mut replay)?;
-    ask_all_by_chance(&rt, rt.alloc(), &mut replay, &mut parts)?;
-    for part in parts.as_slice() {
-        assert_over::<Highest>(&rt, rt.alloc(), part)?;
     }
     Ok(())
 }
