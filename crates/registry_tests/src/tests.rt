@@ -12,9 +12,8 @@ use std::sync::Wait;
 use tenant_registry::Closed;
 use test_rows::{ROWS, Row};
 
-/// Two callers of a script's tenants answer each line as the row says, and then the audits close. Answers how
-/// many takes no hint had.
-fn assert_row<R: Wait + Clock + Abort>(rt: &R, alloc: Global, row: &Row, audit: u32) -> Mem<u32> {
+/// Two callers of a script's tenants answer each line as the row says, and then the audits close.
+fn assert_row<R: Wait + Clock + Abort>(rt: &R, alloc: Global, row: &Row, audit: u32) -> Mem<()> {
     let registry = registry_of(rt, alloc, row.script, audit)?;
     let mut callers = Callers::new(rt, alloc, registry);
     for line in row.script.as_bytes().split(|byte| *byte == b'\n') {
@@ -25,9 +24,7 @@ fn assert_row<R: Wait + Clock + Abort>(rt: &R, alloc: Global, row: &Row, audit: 
         "{}",
         row.script
     );
-    let left_out = callers.left_out();
-    assert_closes(rt, alloc, callers, audit)?;
-    Ok(left_out)
+    assert_closes(rt, alloc, callers, audit)
 }
 
 /// The audits are those of the seats' calls, and have no more entries than they take.
@@ -40,11 +37,9 @@ fn assert_closes(rt: &impl Abort, alloc: Global, callers: Callers, audit: u32) -
 }
 
 fn assert_rows<R: Wait + Clock + Abort>(rt: &R, alloc: Global, audit: u32) -> Mem<()> {
-    let mut left_out = 0u32;
     for row in &ROWS {
-        left_out = left_out.saturating_add(assert_row(rt, alloc, row, audit)?);
+        assert_row(rt, alloc, row, audit)?;
     }
-    assert!(rt; left_out > 0);
     Ok(())
 }
 

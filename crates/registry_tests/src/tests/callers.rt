@@ -18,7 +18,6 @@ pub(super) struct Callers {
     next: Seat,
     other: Seat,
     answers: Vec<u8>,
-    left_out: u32,
 }
 
 impl Callers {
@@ -30,7 +29,6 @@ impl Callers {
             next,
             other,
             answers: Vec::new(alloc),
-            left_out: 0,
         }
     }
 
@@ -45,7 +43,6 @@ impl Callers {
             next,
             other,
             answers: _,
-            left_out: _,
         } = self;
         let mut seats = Vec::new(alloc);
         seats.push(next)?;
@@ -54,12 +51,7 @@ impl Callers {
     }
 
     /// Asks a line of a script, and keeps what it is answered. A tenant that it adds is there.
-    pub(super) fn ask<R: Wait + Clock + Abort>(
-        &mut self,
-        rt: &R,
-        alloc: Global,
-        line: &[u8],
-    ) -> Mem<()> {
+    pub(super) fn ask<R: Wait + Clock>(&mut self, rt: &R, alloc: Global, line: &[u8]) -> Mem<()> {
         let (word, rest) = parted(line);
         match word {
             b"" => Ok(()),
@@ -85,7 +77,7 @@ impl Callers {
     }
 
     /// `take TENANT SLOT`, and the other lines of that form.
-    fn ask_step<R: Wait + Clock + Abort>(
+    fn ask_step<R: Wait + Clock>(
         &mut self,
         rt: &R,
         alloc: Global,
@@ -96,35 +88,11 @@ impl Callers {
         let number = number_in(Some(number));
         let step = match word {
             b"tick" => Step::Tick(number),
-            b"take" => return self.take(rt, alloc, tenant, number.min(255) as u8),
+            b"take" => Step::Take(number.min(255) as u8),
             b"drop" => Step::DropWatch(number.min(255) as u8),
             _ => Step::CatchUp(number.min(u64::from(u32::MAX)) as u32),
         };
         self.call(rt, alloc, tenant, step)
-    }
-
-    /// A take of a slot. If it is not quiet, the hint has the slot.
-    fn take<R: Wait + Clock + Abort>(
-        &mut self,
-        rt: &R,
-        alloc: Global,
-        tenant: &[u8],
-        slot: u8,
-    ) -> Mem<()> {
-        let hint = self.registry.hint(rt, tenant);
-        assert!(rt; hint.is_some() == self.registry.has(tenant));
-        let start = self.answers.len();
-        self.call(rt, alloc, tenant, Step::Take(slot))?;
-        let is_told = self.answers[start..].starts_with(b"200 ");
-        let is_hinted = hint.is_some_and(|hint| hint.has(slot));
-        assert!(rt; is_hinted || !is_told);
-        self.left_out = self.left_out.saturating_add(u32::from(!is_hinted));
-        Ok(())
-    }
-
-    /// How many takes no hint had.
-    pub(super) fn left_out(&self) -> u32 {
-        self.left_out
     }
 
     /// A call of the seat whose turn it is.
