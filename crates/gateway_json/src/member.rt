@@ -83,20 +83,28 @@ fn unsigned_of_text(text: &str) -> Option<u64>
     number.try_into().ok()
 }
 
+/// The number of the unsigned 64 bits that a member is, as a number or as a text; an absent one is 0. Any
+/// other is refused.
+#[tactic(auto, unfolding(etcd_model::specs::Members::read_unsigned))]
+pub fn read_unsigned(value: Option<&Value>) -> Result<u64, Refusal>
+    ensures { IsAnswer result (read_unsigned (option_map (λ v. view v.now) value.entry)) }
+{
+    let Some(value) = value else {
+        return Ok(0);
+    };
+    let number = match value {
+        Value::Number(number) => number.as_u64(),
+        Value::String(text) => unsigned_of_text(text.as_str()),
+        _ => None,
+    };
+    number.ok_or(Refusal::BadBody)
+}
+
 impl FromMember for u64 {
     ghost reads = { read_unsigned };
 
-    #[tactic(auto, unfolding(etcd_model::specs::Members::read_unsigned))]
     fn read(_alloc: Global, value: Option<&Value>) -> Result<u64, Refusal> {
-        let Some(value) = value else {
-            return Ok(0);
-        };
-        let number = match value {
-            Value::Number(number) => number.as_u64(),
-            Value::String(text) => unsigned_of_text(text.as_str()),
-            _ => None,
-        };
-        number.ok_or(Refusal::BadBody)
+        read_unsigned(value)
     }
 }
 

@@ -1,11 +1,13 @@
 -- The tenants that a registry shows, over the entries of its map.
-use Rattle.std.proofs.Common.{◌≡◌, ◌∙◌, sym, ap, refl, ℕ, Bool, true, false, cond, List, [], ◌∷◌, Option, None, Some, is_some, Vec}
+use Rattle.std.proofs.Common.{◌≡◌, ◌∙◌, sym, ap, refl, ℕ, Bool, true, false, cond, List, [], ◌∷◌, Option, None, Some, is_some, slice_get, Vec}
 use Rattle.std.specs.Option.{option_map}
+use Rattle.std.proofs.lemmas.Option.{slice_get-map}
 use Rattle.std.specs.Str.{bytes_eq}
 use Rattle.std.specs.Map.{lookup}
 use Rattle.steps_core.proofs.Shown.{test}
+use Rattle.tenant_registry.specs.declared.audit.Opening.{Opening}
 use Rattle.tenant_registry.specs.declared.tenant.Tenant.{Tenant}
-use Rattle.tenant_registry.specs.Registries.{RegistryState, has_tenant, is_among, tenants_of}
+use Rattle.tenant_registry.specs.Registries.{RegistryState, has_tenant, is_among, names_of, tenants_of}
 
 shown : {A : Type 0} (t : List ℕ) (es : List (Vec ℕ A × Tenant)) → lookup (bytes_eq t) (tenants_of es) ≡ option_map (λ x. x.opening) (lookup (test t) es)
 shown t [] = refl
@@ -27,3 +29,14 @@ found_shown t es = by (lookup (test t) es) ∙ ap is_some (sym (shown t es))
 -- what a look-up found, or did not, is what the registry tells
 pub told_there : {A : Type 0} (t : List ℕ) (es : List (Vec ℕ A × Tenant)) (given : ℕ) (r : RegistryState) (o : Option Tenant) → record { tenants = tenants_of es; given = given } ≡ r → o ≡ lookup (test t) es → has_tenant r t ≡ is_some o
 told_there t es given r o view at = sym (ap (λ (x : RegistryState). has_tenant x t) view) ∙ sym (found_shown t es) ∙ ap is_some (sym at)
+
+-- the name at a place is that of the entry there
+pub name_there : {A : Type 0} (es : List (Vec ℕ A × Tenant)) (given place : ℕ) (r : RegistryState) → record { tenants = tenants_of es; given = given } ≡ r
+    → slice_get (names_of r) place ≡ option_map (λ (e : Vec ℕ A × Tenant). e.0.items) (slice_get es place)
+name_there {A = A} es given place r view =
+    sym (ap (λ (x : RegistryState). slice_get (names_of x) place) view) ∙ slice_get-map (λ t. t.0) (tenants_of es) place
+    ∙ ap (option_map (λ t. t.0)) (slice_get-map (λ e. (e.0.items, e.1.opening)) es place) ∙ by (slice_get es place)
+  where
+    by : (o : Option (Vec ℕ A × Tenant)) → option_map (λ (t : List ℕ × Opening). t.0) (option_map (λ (e : Vec ℕ A × Tenant). (e.0.items, e.1.opening)) o) ≡ option_map (λ (e : Vec ℕ A × Tenant). e.0.items) o
+    by None = refl
+    by (Some e) = refl

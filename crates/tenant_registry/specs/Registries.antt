@@ -24,6 +24,10 @@ tenants_of es = map (λ e. (e.0.items, e.1.opening)) es
 abbrev pub is_among : List (List ℕ × Opening) → List ℕ → Bool
 is_among ts name = is_some (lookup (bytes_eq name) ts)
 
+-- the tenants' names, in the order in which they were added
+abbrev pub names_of : RegistryState → List (List ℕ)
+names_of r = map (λ t. t.0) r.tenants
+
 -- a tenant of that name is there
 abbrev pub has_tenant : RegistryState → List ℕ → Bool
 has_tenant r name = is_among r.tenants name

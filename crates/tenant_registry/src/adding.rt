@@ -49,7 +49,7 @@ impl TenantConfig {
 }
 
 /// Whether a registry of so many segments can be made of these tenants, or the first reason that it can't.
-pub(crate) fn check(segments: u32, configs: &[TenantConfig]) -> Result<(), OperatorFault>
+pub fn check(segments: u32, configs: &[TenantConfig]) -> Result<(), OperatorFault>
     ensures ok { OnOk result (new_fault segments configs.now ≡ None) }
     ensures fault { IfErr result (λ f. new_fault segments configs.now ≡ Some f) }
 {

@@ -61,6 +61,13 @@ impl Receipt {
         self.body.as_slice()
     }
 
+    /// The answer's text, by value.
+    pub fn into_body(self) -> Vec<u8>
+        ensures { result.items ≡ self.body }
+    {
+        self.body
+    }
+
     /// The slot of the watch that the call created.
     pub fn slot(&self) -> Option<u8>
         ensures { result ≡ self.now.slot }

@@ -18,7 +18,7 @@ mod tenant;
 #[cfg(test)]
 mod tests;
 
-pub use adding::TenantConfig;
+pub use adding::{TenantConfig, check};
 pub use audit::{Audit, Entry, Opening};
 pub use closed::{CloseFault, Closed};
 pub use gate::{Gate, OpenGate};

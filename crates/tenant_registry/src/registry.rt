@@ -1,9 +1,9 @@
 //! All tenants, by name, each under a lock of its own.
 ghost use Rattle.std.specs.Prelude.{◌≡◌, ◌≢◌, ◌+◌, [], true, false, map, None, Some, Err, IfErr, IfOk};
-ghost use Rattle.std.specs.Prelude.{OnErr, OnOk, is_some};
+ghost use Rattle.std.specs.Prelude.{OnErr, OnOk, is_some, option_map, slice_get};
 ghost use Rattle.tenant_registry.specs.Adding.{new_fault, opened, unmade};
 ghost use Rattle.tenant_registry.specs.Closed.{AreClosed, HasFault, audits_of};
-ghost use Rattle.tenant_registry.specs.Registries.{has_tenant, no_seat, unserved};
+ghost use Rattle.tenant_registry.specs.Registries.{has_tenant, names_of, no_seat, unserved};
 ghost use Rattle.tenant_registry.specs.Seats.{Keeps, KeepsLists};
 ghost use Rattle.tenant_registry.specs.Serving.{IsServed};
 
@@ -106,6 +106,16 @@ impl Registry {
         ensures { result ≡ has_tenant self.now tenant.now }
     {
         self.tenants.contains_key(tenant)
+    }
+
+    /// The name of the tenant at this place, in the order in which they were added.
+    pub fn name_at(&self, place: usize) -> Option<&[u8]>
+        ensures { option_map (λ name. name.now) result ≡ slice_get (names_of self.now) place }
+    {
+        match self.tenants.get_index(place) {
+            Some((name, _)) => Some(name.as_slice()),
+            None => None,
+        }
     }
 
     /// A seat with no calls, under a number that no other of this registry has. There are 64.
