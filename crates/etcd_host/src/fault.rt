@@ -1,0 +1,75 @@
+//! Why the server ends early.
+use host_sessions::{ConfigFault, ListenFault, ServeFault};
+use std::io;
+use tenant_registry::CloseFault;
+use thiserror::Error;
+
+/// Why the server ends early.
+#[derive(Clone, Copy, Debug, PartialEq, Eq, Error)]
+pub enum HostFault {
+    #[error("the configuration can't be read")]
+    Config,
+    #[error("can't listen")]
+    Listen,
+    #[error("input or output failed")]
+    Io,
+    #[error("out of memory")]
+    Memory,
+    /// The audits are not the seats' lists. `mismatch` stands on standard output.
+    #[error("the audits are not the seats' lists")]
+    Mismatch,
+}
+
+impl HostFault {
+    /// The status that the program ends with.
+    pub fn status(self) -> u8 {
+        match self {
+            HostFault::Mismatch => 1,
+            HostFault::Config => 2,
+            HostFault::Listen | HostFault::Io => 3,
+            HostFault::Memory => 4,
+        }
+    }
+}
+
+impl From<io::Error> for HostFault {
+    fn from(_: io::Error) -> HostFault {
+        HostFault::Io
+    }
+}
+
+impl From<ConfigFault> for HostFault {
+    fn from(fault: ConfigFault) -> HostFault {
+        match fault {
+            ConfigFault::Unreadable => HostFault::Config,
+            ConfigFault::Memory => HostFault::Memory,
+        }
+    }
+}
+
+impl From<ListenFault> for HostFault {
+    fn from(fault: ListenFault) -> HostFault {
+        match fault {
+            ListenFault::Address | ListenFault::Socket => HostFault::Listen,
+            ListenFault::Memory => HostFault::Memory,
+        }
+    }
+}
+
+impl From<ServeFault> for HostFault {
+    fn from(fault: ServeFault) -> HostFault {
+        match fault {
+            ServeFault::Socket => HostFault::Io,
+            ServeFault::Memory => HostFault::Memory,
+        }
+    }
+}
+
+impl From<CloseFault> for HostFault {
+    fn from(fault: CloseFault) -> HostFault {
+        match fault {
+            CloseFault::Memory => HostFault::Memory,
+            _ => HostFault::Mismatch,
+        }
+    }
+}

@@ -1,0 +1,96 @@
+//! From the configuration to the end.
+use crate::fault::HostFault;
+use etcd_types::limits::MAX_CONFIG;
+use host_sessions::{Config, Ended, Sessions, read_config};
+use std::alloc::{AllocGlobal, Global};
+use std::io::{Input, Read};
+use std::mem;
+use std::net::Net;
+use std::random::RandomSource;
+use std::sync::Wait;
+use std::thread::Threads;
+use std::time::Clock;
+use steps_core::OperatorFault;
+use tenant_registry::{OpenGate, Registry, Seat, SeatFault};
+
+/// The clock, the pump and the catch-up worker have a seat each.
+const SEATS_BESIDE_WORKERS: usize = 3;
+
+/// Reads the configuration, makes the registry and its seats, listens, serves, and closes. It ends at the first
+/// fault.
+pub(crate) fn host<R>(rt: R) -> Result<(), HostFault>
+where
+    R: Wait
+        + Threads
+        + Clock
+        + Net
+        + RandomSource
+        + AllocGlobal
+        + Input
+        + Print
+        + Copy
+        + Drop
+        + Send
+        + Sync
+        + 'static,
+{
+    let alloc = rt.alloc();
+    let mut config = configured(&rt, alloc)?;
+    let tenants = mem::replace(&mut config.tenants, Vec::new(alloc));
+    let mut registry = Registry::new(alloc, tenants, config.segments).map_err(refused)?;
+    let seats = seats(alloc, &mut registry, config.workers.saturating_add(SEATS_BESIDE_WORKERS))?;
+    let listening = Sessions::listen(&rt, &config)?;
+    let Ok(address) = listening.address() else {
+        return Err(HostFault::Io);
+    };
+    println!(rt; "listening on {address}")?;
+    let Ended {
+        connections: _,
+        seats,
+    } = Sessions::serve(rt, listening, &registry, seats, &OpenGate)?;
+    println!(rt; "ended")?;
+    match registry.close(seats) {
+        Ok(_) => println!(rt; "closed")?,
+        Err(fault) => {
+            let fault = HostFault::from(fault);
+            if fault == HostFault::Mismatch {
+                println!(rt; "mismatch")?;
+            }
+            return Err(fault);
+        }
+    }
+    Ok(())
+}
+
+/// The configuration on standard input.
+fn configured<R: Input>(rt: &R, alloc: Global) -> Result<Config, HostFault> {
+    let mut text = Vec::new(alloc);
+    // One byte more than the longest shows that it is too long.
+    let mut reader = rt.reader().take(MAX_CONFIG as u64 + 1);
+    reader.read_to_end(&mut text)?;
+    Ok(read_config(alloc, text.as_slice())?)
+}
+
+/// Why no registry was made: what speaks against its tenants, or want of memory.
+fn refused(fault: OperatorFault) -> HostFault {
+    match fault {
+        OperatorFault::Memory => HostFault::Memory,
+        _ => HostFault::Config,
+    }
+}
+
+/// So many seats of a registry.
+fn seats(alloc: Global, registry: &mut Registry, count: usize) -> Result<Vec<Seat>, HostFault> {
+    let mut seats = Vec::new(alloc);
+    for _ in 0..count {
+        match registry.seat() {
+            Ok(seat) => {
+                if seats.push(seat).is_err() {
+                    return Err(HostFault::Memory);
+                }
+            }
+            Err(SeatFault::Full | SeatFault::Memory) => return Err(HostFault::Memory),
+        }
+    }
+    Ok(seats)
+}

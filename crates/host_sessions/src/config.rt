@@ -1,0 +1,138 @@
+//! What the server is told at its start.
+use etcd_types::limits::{DEFAULT_SEGMENTS, MAX_CONFIG, MAX_WORKERS};
+use gateway_json::read_unsigned;
+use serde_json::Value;
+use std::alloc::{AllocError, Global};
+use tenant_registry::{TenantConfig, check};
+
+/// How many threads serve calls where nothing is said.
+const DEFAULT_WORKERS: u64 = 4;
+
+/// Where to listen, with how many workers, and which tenants there are.
+#[derive(Debug, Drop)]
+pub struct Config {
+    /// An address and a port, as `127.0.0.1:2379`.
+    pub listen: String,
+    /// How many segments the pool has.
+    pub segments: u32,
+    /// How many threads serve calls, from 1 to 32.
+    pub workers: usize,
+    /// How many connections are served before the end; without it there is none.
+    pub connections: Option<u32>,
+    pub tenants: Vec<TenantConfig>,
+}
+
+/// Why there is no configuration.
+#[derive(Clone, Copy, Debug, PartialEq, Eq)]
+pub enum ConfigFault {
+    /// It is too long, no JSON object, or a member is not what it has to be.
+    Unreadable,
+    /// It can't be held.
+    Memory,
+}
+
+impl From<AllocError> for ConfigFault {
+    fn from(_: AllocError) -> ConfigFault {
+        ConfigFault::Memory
+    }
+}
+
+/// Reads the JSON object of a configuration, and refuses tenants that no registry takes. Members that it does
+/// not know are passed over.
+pub fn read_config(alloc: Global, text: &[u8]) -> Result<Config, ConfigFault> {
+    if text.len() > MAX_CONFIG {
+        return Err(ConfigFault::Unreadable);
+    }
+    let object = object_of(alloc, text)?;
+    let segments = number(&object, "segments", DEFAULT_SEGMENTS.into())?;
+    let Ok(segments) = u32::try_from(segments) else {
+        return Err(ConfigFault::Unreadable);
+    };
+    let tenants = tenants_of(alloc, &object)?;
+    if check(segments, tenants.as_slice()).is_err() {
+        return Err(ConfigFault::Unreadable);
+    }
+    Ok(Config {
+        listen: text_of(alloc, &object, "listen")?,
+        segments,
+        workers: workers_of(&object)?,
+        connections: connections_of(&object)?,
+        tenants,
+    })
+}
+
+fn object_of(alloc: Global, text: &[u8]) -> Result<Value, ConfigFault> {
+    match Value::from_slice(alloc, text) {
+        Ok(value) if value.is_object() => Ok(value),
+        Err(error) if error.is_memory() => Err(ConfigFault::Memory),
+        _ => Err(ConfigFault::Unreadable),
+    }
+}
+
+/// The member of that name; a null is none.
+fn member<'v>(object: &'v Value, name: &str) -> Option<&'v Value> {
+    object.get(name).filter(|member| !member.is_null())
+}
+
+/// A number, as a number or as a text, or what an absent one stands for.
+fn number(object: &Value, name: &str, absent: u64) -> Result<u64, ConfigFault> {
+    match member(object, name) {
+        None => Ok(absent),
+        member => read_unsigned(member).map_err(|_| ConfigFault::Unreadable),
+    }
+}
+
+/// A text that has to be there.
+fn text_of(alloc: Global, object: &Value, name: &str) -> Result<String, ConfigFault> {
+    match member(object, name) {
+        Some(Value::String(text)) => Ok(String::from_str(alloc, text.as_str())?),
+        _ => Err(ConfigFault::Unreadable),
+    }
+}
+
+fn workers_of(object: &Value) -> Result<usize, ConfigFault> {
+    let workers = number(object, "workers", DEFAULT_WORKERS)?;
+    if workers == 0 || workers > MAX_WORKERS as u64 {
+        return Err(ConfigFault::Unreadable);
+    }
+    Ok(workers as usize)
+}
+
+fn connections_of(object: &Value) -> Result<Option<u32>, ConfigFault> {
+    match member(object, "connections") {
+        None => Ok(None),
+        member => match read_unsigned(member).map(u32::try_from) {
+            Ok(Ok(connections)) => Ok(Some(connections)),
+            _ => Err(ConfigFault::Unreadable),
+        },
+    }
+}
+
+fn tenants_of(alloc: Global, object: &Value) -> Result<Vec<TenantConfig>, ConfigFault> {
+    let mut tenants = Vec::new(alloc);
+    match member(object, "tenants") {
+        None => {}
+        Some(Value::Array(values)) => {
+            for value in values.as_slice() {
+                if tenants.push(tenant_of(alloc, value)?).is_err() {
+                    return Err(ConfigFault::Memory);
+                }
+            }
+        }
+        Some(_) => return Err(ConfigFault::Unreadable),
+    }
+    Ok(tenants)
+}
+
+fn tenant_of(alloc: Global, object: &Value) -> Result<TenantConfig, ConfigFault> {
+    let Ok(audit) = u32::try_from(number(object, "audit", 0)?) else {
+        return Err(ConfigFault::Unreadable);
+    };
+    Ok(TenantConfig {
+        name: text_of(alloc, object, "name")?.into_bytes(),
+        cluster: number(object, "cluster_id", 0)?,
+        quota: number(object, "quota", 0)?,
+        first: number(object, "first", 1)?,
+        audit,
+    })
+}

@@ -1,0 +1,30 @@
+//! What a tenant's turn is about: its callers' jobs, and its open watches.
+use crate::answer::Answer;
+use crate::feed::Outlet;
+use etcd_types::Call;
+use futures::channel::oneshot;
+use std::sync::Wait;
+use tokio::sync::mpsc;
+
+/// A call of a client, and where its answer goes.
+#[derive(Drop)]
+pub(crate) struct Job<R: Wait + Drop> {
+    pub(crate) call: Call,
+    pub(crate) body: Vec<u8>,
+    pub(crate) reply: oneshot::Sender<Answer<R>>,
+}
+
+/// A watch whose client is there.
+#[derive(Drop)]
+pub(crate) struct OpenWatch {
+    pub(crate) slot: u8,
+    pub(crate) outlet: Outlet,
+}
+
+/// One tenant, for whoever has the turn there.
+#[derive(Drop)]
+pub(crate) struct Desk<R: Wait + Drop> {
+    pub(crate) name: Vec<u8>,
+    pub(crate) jobs: mpsc::Receiver<Job<R>>,
+    pub(crate) watches: Vec<OpenWatch>,
+}

@@ -1,0 +1,254 @@
+//! One exchange of a connection: the body is read, a job is left in its tenant's queue, its answer is awaited.
+ghost use Rattle.futures.specs.Task.{IsArmed, Keeps};
+ghost use Rattle.futures.specs.Poll.{OnPending};
+
+use crate::answer::{Answer, AnswerBody};
+use crate::desk::Job;
+use crate::doors::{HeldBack, Jobs, Offered, Route};
+use etcd_types::Refusal;
+use etcd_types::limits::MAX_BODY;
+use futures::channel::oneshot;
+use futures::task::{Context, Poll};
+use futures::{Future, ready};
+use http_body_util::{Limited, LimitedError};
+use hyper::body::{Body, Incoming};
+use hyper::service::Service;
+use hyper::{Request, Response};
+use std::alloc::{AllocError, Global};
+use std::mem;
+use std::sync::Wait;
+
+/// How many pieces of a body are read in one poll.
+const PIECES_A_POLL: usize = 128;
+
+/// How many pieces of a body that is too long are passed over before it is answered. A client that still
+/// writes when its connection closes may never see the answer.
+const MAX_PASSED: u32 = 4096;
+
+/// Hands each request of a connection to its tenant.
+#[derive(Drop)]
+pub(crate) struct Gateway<R: Wait + Drop> {
+    pub(crate) rt: R,
+    pub(crate) alloc: Global,
+    pub(crate) jobs: Option<Jobs<R>>,
+}
+
+/// The exchange of one request.
+#[derive(Drop)]
+pub(crate) struct Exchange<I, R: Wait + Drop> {
+    rt: R,
+    alloc: Global,
+    jobs: Option<Jobs<R>>,
+    stage: Stage<I, R>,
+}
+
+#[derive(Drop)]
+enum Stage<I, R: Wait + Drop> {
+    Reading(Reading<I>),
+    Queueing(Queueing<R>),
+    Waiting(oneshot::Receiver<Answer<R>>),
+    Failed,
+}
+
+/// A request whose body is being read.
+#[derive(Drop)]
+struct Reading<I> {
+    route: Result<Route, Refusal>,
+    body: Limited<Incoming<I>>,
+    read: Vec<u8>,
+    /// Why the body is read on and thrown away.
+    lost: Option<Refusal>,
+    passed: u32,
+}
+
+/// A job whose tenant's queue is full.
+#[derive(Drop)]
+struct Queueing<R: Wait + Drop> {
+    held: HeldBack<R>,
+    place: usize,
+    answer: oneshot::Receiver<Answer<R>>,
+}
+
+impl<I: Drop, R: Wait + Copy + Drop> Service<Request<Incoming<I>>> for Gateway<R> {
+    type Response = Response<AnswerBody<R>>;
+
+    type Error = hyper::Error;
+
+    type Future = Exchange<I, R>;
+
+    fn call(&self, req: Request<Incoming<I>>) -> Exchange<I, R> {
+        let jobs = match &self.jobs {
+            Some(jobs) => jobs.share(),
+            None => None,
+        };
+        let route = match &jobs {
+            Some(jobs) => jobs.route(
+                req.method().as_str().as_bytes(),
+                req.uri().path().as_bytes(),
+            ),
+            None => Err(Refusal::Memory),
+        };
+        Exchange {
+            rt: self.rt,
+            alloc: self.alloc,
+            jobs,
+            stage: Stage::Reading(Reading {
+                route,
+                body: Limited::new(req.into_body(), MAX_BODY),
+                read: Vec::new(self.alloc),
+                lost: None,
+                passed: 0,
+            }),
+        }
+    }
+}
+
+impl<I: Drop> Reading<I> {
+    /// Ready once the body is read, or once enough of it was passed over.
+    fn poll_whole(&mut self, cx: &mut Context<'_>) -> Poll<Result<(), hyper::Error>>
+        ensures registered { OnPending result (IsArmed cx.new) }
+        ensures kept { Keeps cx.old cx.new }
+    {
+        for _ in 0..PIECES_A_POLL {
+            match ready!(self.body.poll_frame(cx)) {
+                Some(Ok(frame)) => {
+                    if let Ok(data) = frame.into_data() {
+                        self.keep(data.as_slice());
+                    }
+                }
+                Some(Err(LimitedError::LengthLimit)) => self.lost = Some(Refusal::TooLarge),
+                Some(Err(LimitedError::Body(e))) => return Poll::Ready(Err(e)),
+                None => return Poll::Ready(Ok(())),
+            }
+            if self.lost.is_some() {
+                self.passed = self.passed.saturating_add(1);
+                if self.passed > MAX_PASSED {
+                    return Poll::Ready(Ok(()));
+                }
+            }
+        }
+        cx.yield_now()
+    }
+
+    /// Keeps a piece of the body of a request that is not refused yet.
+    fn keep(&mut self, data: &[u8]) {
+        if self.route.is_err() || self.lost.is_some() {
+            return;
+        }
+        if self.read.extend_from_slice(data).is_err() {
+            self.lost = Some(Refusal::Memory);
+        }
+    }
+}
+
+impl<I: Drop, R: Wait + Copy + Drop> Future for Exchange<I, R> {
+    type Output = Result<Response<AnswerBody<R>>, hyper::Error>;
+
+    fn poll(
+        &mut self,
+        cx: &mut Context<'_>,
+    ) -> Poll<Result<Response<AnswerBody<R>>, hyper::Error>> {
+        if let Stage::Reading(reading) = &mut self.stage {
+            if let Err(e) = ready!(reading.poll_whole(cx)) {
+                return Poll::Ready(Err(e));
+            }
+            if let Some(answer) = self.hand_over() {
+                return Poll::Ready(answer.into_response(self.alloc));
+            }
+        }
+        if let Stage::Queueing(_) = &self.stage {
+            ready!(self.poll_room(cx));
+        }
+        let Stage::Waiting(answer) = &mut self.stage else {
+            return Poll::Ready(Err(hyper::Error::from(AllocError)));
+        };
+        match ready!(answer.poll(cx)) {
+            Ok(answer) => Poll::Ready(answer.into_response(self.alloc)),
+            // The server ended before a worker took the job.
+            Err(_) => Poll::Ready(Err(hyper::Error::from(AllocError))),
+        }
+    }
+}
+
+impl<I: Drop, R: Wait + Copy + Drop> Exchange<I, R> {
+    /// Refuses a request that was read, or leaves its job in its tenant's queue.
+    fn hand_over(&mut self) -> Option<Answer<R>> {
+        let Stage::Reading(reading) = mem::replace(&mut self.stage, Stage::Failed) else {
+            return None;
+        };
+        let Reading {
+            route,
+            body: _,
+            read,
+            lost,
+            passed: _,
+        } = reading;
+        let route = match route {
+            Ok(route) => route,
+            Err(refusal) => return Some(Answer::refused(self.alloc, refusal)),
+        };
+        if let Some(refusal) = lost {
+            return Some(Answer::refused(self.alloc, refusal));
+        }
+        self.queue(route, read)
+    }
+
+    /// Leaves a job in a tenant's queue, or waits for room there.
+    fn queue(&mut self, route: Route, body: Vec<u8>) -> Option<Answer<R>> {
+        let Some(jobs) = &self.jobs else {
+            return Some(Answer::no_memory());
+        };
+        let Ok((reply, answer)) = oneshot::channel(self.alloc) else {
+            return Some(Answer::no_memory());
+        };
+        let Route { place, call } = route;
+        match jobs.offer(&self.rt, place, Job { call, body, reply }) {
+            Offered::Left => self.stage = Stage::Waiting(answer),
+            Offered::Full(held) => {
+                self.stage = Stage::Queueing(Queueing {
+                    held,
+                    place,
+                    answer,
+                });
+            }
+            Offered::Refused => return Some(Answer::no_memory()),
+        }
+        None
+    }
+
+    /// Leaves the job in the queue once there is room.
+    fn poll_room(&mut self, cx: &mut Context<'_>) -> Poll<()>
+        ensures registered { OnPending result (IsArmed cx.new) }
+        ensures kept { Keeps cx.old cx.new }
+    {
+        let Stage::Queueing(queueing) = mem::replace(&mut self.stage, Stage::Failed) else {
+            return Poll::Ready(());
+        };
+        let Queueing {
+            held,
+            place,
+            answer,
+        } = queueing;
+        let HeldBack { mut room, job } = held;
+        match room.poll(cx) {
+            Poll::Pending => {
+                let held = HeldBack { room, job };
+                self.stage = Stage::Queueing(Queueing {
+                    held,
+                    place,
+                    answer,
+                });
+                Poll::Pending
+            }
+            Poll::Ready(Ok(permit)) => {
+                drop(permit.send(job));
+                if let Some(jobs) = &self.jobs {
+                    jobs.call_for(&self.rt, place);
+                }
+                self.stage = Stage::Waiting(answer);
+                Poll::Ready(())
+            }
+            Poll::Ready(Err(_)) => Poll::Ready(()),
+        }
+    }
+}

@@ -1,0 +1,101 @@
+//! From a watch to its client: one text at a time.
+//!
+//! The channel holds one text. The next one is taken only when the client has taken that, so a client that is
+//! slow holds one text and no more, and one that stops reading holds up nobody.
+ghost use Rattle.futures.specs.Task.{IsArmed, Keeps};
+ghost use Rattle.futures.specs.Poll.{OnPending};
+
+use crate::rota::{Duty, Rota};
+use etcd_types::Mem;
+use futures::ready;
+use futures::task::{Context, Poll};
+use std::alloc::{AllocError, Global};
+use std::sync::atomic::{AtomicBool, Ordering};
+use std::sync::{Arc, Wait};
+use tokio::sync::mpsc;
+
+/// Where the texts of an open watch are put in.
+#[derive(Drop)]
+pub(crate) struct Outlet {
+    texts: mpsc::Sender<Vec<u8>>,
+    is_owed: Arc<AtomicBool>,
+}
+
+/// Where a client takes them out. Its end is the end of the watch.
+pub(crate) struct Feed<R: Wait + Drop> {
+    rt: R,
+    texts: mpsc::Receiver<Vec<u8>>,
+    is_owed: Arc<AtomicBool>,
+    rota: Arc<Rota>,
+    place: usize,
+}
+
+impl Outlet {
+    /// The two ends for a watch of the tenant at a place.
+    pub(crate) fn new<R: Wait + Drop>(
+        rt: R,
+        alloc: Global,
+        rota: &Arc<Rota>,
+        place: usize,
+    ) -> Mem<(Outlet, Feed<R>)> {
+        let (to, texts) = mpsc::channel(alloc, 1)?;
+        let is_owed = Arc::new(alloc, AtomicBool::new(false))?;
+        let outlet = Outlet {
+            texts: to,
+            is_owed: Arc::try_clone(&is_owed)?,
+        };
+        let feed = Feed {
+            rt,
+            texts,
+            is_owed,
+            rota: Arc::try_clone(rota)?,
+            place,
+        };
+        Ok((outlet, feed))
+    }
+
+    /// A right to put one text in, unless the last one is still there.
+    pub(crate) fn permit(&self) -> Option<mpsc::Permit<'_, Vec<u8>>> {
+        self.texts.try_reserve().ok()
+    }
+
+    /// The client has gone.
+    pub(crate) fn is_closed(&self) -> bool {
+        self.texts.is_closed()
+    }
+
+    /// There may be more: the client calls for it when it has taken its text. If it has done so already,
+    /// that is told, since it did not call.
+    pub(crate) fn owe(&self) -> bool {
+        self.is_owed.store(true, Ordering::SeqCst);
+        self.texts.capacity() > 0
+    }
+}
+
+impl<R: Wait + Drop> Feed<R> {
+    /// The next text, or the end of the watch.
+    pub(crate) fn poll_text(&mut self, cx: &mut Context<'_>) -> Poll<Option<Vec<u8>>>
+        ensures registered { OnPending result (IsArmed cx.new) }
+        ensures kept { Keeps cx.old cx.new }
+    {
+        let text = ready!(self.texts.poll_recv(cx));
+        if self.is_owed.swap(false, Ordering::SeqCst) {
+            self.rota.call_for(&self.rt, self.place, Duty::Takes);
+        }
+        Poll::Ready(text)
+    }
+}
+
+impl<R: Wait + Drop> Drop for Feed<R> {
+    fn drop(self) {
+        let Feed {
+            rt,
+            texts,
+            is_owed: _,
+            rota,
+            place,
+        } = self;
+        drop(texts);
+        rota.call_for(&rt, place, Duty::Takes);
+    }
+}

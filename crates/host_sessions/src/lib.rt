@@ -1,0 +1,26 @@
+//! HTTP/1.1 in front of the registry: connections, workers, a clock and a pump.
+//!
+//! A connection reads a request and leaves it in its tenant's queue. A tenant is served by one thread at a
+//! time, whose turn it is there; so nobody waits for a lock that another holds for long, and a tenant that is
+//! flooded holds up its own callers alone.
+#![tactic(auto)]
+
+mod answer;
+mod caller;
+mod catch_up;
+mod clock;
+mod config;
+mod connections;
+mod crew;
+mod desk;
+mod doors;
+mod exchange;
+mod feed;
+mod pump;
+mod rota;
+mod sessions;
+mod worker;
+
+pub use config::{Config, ConfigFault, read_config};
+pub use doors::Jobs;
+pub use sessions::{End, Ended, ListenFault, Listening, ServeFault, Sessions};

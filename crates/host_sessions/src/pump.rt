@@ -1,0 +1,163 @@
+//! The pump: from a tenant's watches to their clients.
+use crate::caller::Caller;
+use crate::crew::Station;
+use crate::desk::{Desk, OpenWatch};
+use crate::rota::{Duty, Rota, Turn};
+use etcd_types::Step;
+use std::rt::Clock;
+use std::sync::Wait;
+use tenant_machine::Hint;
+use tenant_registry::{Gate, Seat};
+
+/// Takes for the open watches of each tenant where that is due, until there are no more turns.
+pub(crate) fn pump<R: Wait + Clock + Copy + Drop, G: Gate>(station: Station<'_, R, G>) -> Seat {
+    let Station {
+        rt,
+        mut caller,
+        floor,
+    } = station;
+    for _ in rt.forever() {
+        let Ok(Turn::On(place)) = floor.turns.pump.recv(&rt) else {
+            break;
+        };
+        if let Some(desk) = floor.desks.get(place) {
+            let mut desk = desk.lock(&rt);
+            take_turn(&rt, &mut caller, &floor.rota, place, &mut *desk);
+        }
+        floor.rota.pass_on(&rt, place, Duty::Takes);
+    }
+    caller.into_seat()
+}
+
+/// Ends the watches whose clients have gone, takes once for each of the others that may have something to
+/// give, and sees to it that it comes again where there is more.
+fn take_turn<R: Wait + Clock + Drop, G: Gate>(
+    rt: &R,
+    caller: &mut Caller<'_, R, G>,
+    rota: &Rota,
+    place: usize,
+    desk: &mut Desk<R>,
+) {
+    drop_closed(caller, desk);
+    if desk.watches.is_empty() {
+        return;
+    }
+    let Some(told) = caller.hint(desk.name.as_slice()) else {
+        return;
+    };
+    if !take_each(caller, desk, Some(&told)) {
+        // There is no memory now; the clock calls for the next turn.
+        return;
+    }
+    let Some(left) = caller.hint(desk.name.as_slice()) else {
+        return;
+    };
+    let mut is_behind = false;
+    for watch in desk.watches.as_slice() {
+        if left.has(watch.slot) {
+            is_behind = true;
+            if watch.outlet.owe() {
+                rota.call_for(rt, place, Duty::Takes);
+            }
+        }
+    }
+    if is_behind {
+        rota.call_for(rt, place, Duty::CatchUp);
+    }
+}
+
+/// Takes once for each watch, or for those that a hint tells, whose client waits for a text. It is `false`
+/// where a take found no memory.
+pub(crate) fn take_each<R: Wait + Clock + Drop, G: Gate>(
+    caller: &mut Caller<'_, R, G>,
+    desk: &mut Desk<R>,
+    hint: Option<&Hint>,
+) -> bool {
+    let name = desk.name.as_slice();
+    let watches = &mut desk.watches;
+    let mut all_answered = true;
+    let mut at = 0;
+    for _ in 0..watches.len() {
+        if at >= watches.len() {
+            break;
+        }
+        let taken = if is_told(hint, watches[at].slot) {
+            take(caller, name, &watches[at])
+        } else {
+            Taken::Open
+        };
+        match taken {
+            Taken::Open => at += 1,
+            Taken::NoMemory => {
+                all_answered = false;
+                at += 1;
+            }
+            Taken::Ended => {
+                let _ = watches.swap_remove(at);
+            }
+        }
+    }
+    all_answered
+}
+
+fn is_told(hint: Option<&Hint>, slot: u8) -> bool {
+    match hint {
+        Some(hint) => hint.has(slot),
+        None => true,
+    }
+}
+
+/// What a take leaves of a watch.
+#[derive(Clone, Copy, Debug, PartialEq, Eq)]
+enum Taken {
+    Open,
+    /// It was canceled, and its client has been told.
+    Ended,
+    NoMemory,
+}
+
+/// Takes once, if the client waits for a text.
+fn take<R: Wait + Clock + Drop, G: Gate>(
+    caller: &mut Caller<'_, R, G>,
+    tenant: &[u8],
+    watch: &OpenWatch,
+) -> Taken {
+    let Some(permit) = watch.outlet.permit() else {
+        return Taken::Open;
+    };
+    let Ok(receipt) = caller.call(tenant, Step::Take(watch.slot)) else {
+        return Taken::NoMemory;
+    };
+    if receipt.body().is_empty() {
+        return Taken::Open;
+    }
+    let taken = if receipt.canceled() {
+        Taken::Ended
+    } else {
+        Taken::Open
+    };
+    permit.send(receipt.into_body());
+    taken
+}
+
+/// Frees the slots of the watches whose clients have gone. Where one finds no memory, it stays for the next
+/// turn.
+pub(crate) fn drop_closed<R: Wait + Clock + Drop, G: Gate>(
+    caller: &mut Caller<'_, R, G>,
+    desk: &mut Desk<R>,
+) {
+    let name = desk.name.as_slice();
+    let watches = &mut desk.watches;
+    let mut at = 0;
+    for _ in 0..watches.len() {
+        if at >= watches.len() {
+            break;
+        }
+        let watch = &watches[at];
+        if watch.outlet.is_closed() && caller.call(name, Step::DropWatch(watch.slot)).is_ok() {
+            let _ = watches.swap_remove(at);
+        } else {
+            at += 1;
+        }
+    }
+}

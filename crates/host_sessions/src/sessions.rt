@@ -1,0 +1,167 @@
+//! Listens, and serves a registry.
+use crate::config::Config;
+use crate::connections::serve_connections;
+use crate::crew::staff;
+use crate::doors::Jobs;
+use crate::exchange::Gateway;
+use futures::executor::block_on;
+use hyper::server::conn::http1;
+use std::alloc::AllocGlobal;
+use std::hash::RandomState;
+use std::net::{Net, SocketAddr};
+use std::random::RandomSource;
+use std::sync::Wait;
+use std::thread::Threads;
+use std::time::Clock;
+use std::{io, thread};
+use tenant_registry::{Gate, Registry, Seat};
+use tokio::io::{AsyncRead, AsyncWrite};
+use tokio::net::TcpListener;
+use tokio::runtime::Runtime;
+
+/// How many threads read and write sockets, at most.
+const MAX_SOCKET_THREADS: usize = 4;
+
+/// A socket that listens, and how many connections it takes.
+#[derive(Drop)]
+pub struct Listening {
+    pub(crate) runtime: Runtime,
+    pub(crate) listener: TcpListener,
+    pub(crate) connections: Option<u32>,
+}
+
+/// Why nothing listens.
+#[derive(Clone, Copy, Debug, PartialEq, Eq)]
+pub enum ListenFault {
+    /// The text is no address with a port.
+    Address,
+    /// The system refused the socket.
+    Socket,
+    Memory,
+}
+
+/// Why nothing was served, or why it ended before its time.
+#[derive(Clone, Copy, Debug, PartialEq, Eq)]
+pub enum ServeFault {
+    Socket,
+    Memory,
+}
+
+/// What is left when the last connection has ended.
+#[derive(Drop)]
+pub struct Ended {
+    /// How many connections were served.
+    pub connections: u32,
+    pub seats: Vec<Seat>,
+}
+
+/// How a connection ended.
+#[derive(Clone, Copy, Debug, PartialEq, Eq)]
+pub enum End {
+    Finished,
+    /// Its stream failed, or what came was no HTTP.
+    Fault,
+}
+
+/// HTTP/1.1 in front of a registry.
+pub struct Sessions;
+
+impl Listening {
+    /// The address that clients connect to.
+    pub fn address(&self) -> io::Result<SocketAddr> {
+        self.listener.local_addr()
+    }
+}
+
+impl Sessions {
+    /// Listens where the configuration says.
+    pub fn listen<R>(rt: &R, config: &Config) -> Result<Listening, ListenFault>
+    where
+        R: Threads + Clock + Net + RandomSource + AllocGlobal,
+    {
+        let Ok(address) = config.listen.parse::<SocketAddr>() else {
+            return Err(ListenFault::Address);
+        };
+        let threads = match thread::available_parallelism(rt) {
+            Ok(processors) => processors.get().min(MAX_SOCKET_THREADS),
+            Err(_) => MAX_SOCKET_THREADS,
+        };
+        let Ok(runtime) = Runtime::with_worker_threads(rt, threads) else {
+            return Err(ListenFault::Socket);
+        };
+        match TcpListener::bind(rt, address, runtime.handle().reactor()) {
+            Ok(listener) => Ok(Listening {
+                runtime,
+                listener,
+                connections: config.connections,
+            }),
+            Err(_) => Err(ListenFault::Socket),
+        }
+    }
+
+    /// Serves a registry until as many connections as were told have ended. There has to be a seat for the
+    /// clock, the pump and the catch-up worker each; every other one is a worker's. With fewer than four, or
+    /// where a thread can't be made, that is want of memory.
+    pub fn serve<'x, R, G>(
+        rt: R,
+        listening: Listening,
+        registry: &'x Registry,
+        seats: Vec<Seat>,
+        gate: &'x G,
+    ) -> Result<Ended, ServeFault>
+    where
+        R: Wait
+            + Threads
+            + Clock
+            + RandomSource
+            + AllocGlobal
+            + Copy
+            + Drop
+            + Send
+            + Sync
+            + 'static,
+        G: Gate + Sync,
+    {
+        let connections = listening.connections.unwrap_or(u32::MAX);
+        let bring = move |jobs| serve_connections(rt, listening, jobs);
+        let seats = staff(rt, registry, seats, gate, bring)?;
+        Ok(Ended { connections, seats })
+    }
+
+    /// Serves what a function brings, over streams of any kind by `serve_one`, until it returns. The seats are
+    /// as for `serve`.
+    pub fn serve_with<'x, R, G, B>(
+        rt: R,
+        registry: &'x Registry,
+        seats: Vec<Seat>,
+        gate: &'x G,
+        bring: B,
+    ) -> Result<Vec<Seat>, ServeFault>
+    where
+        R: Wait + Threads + Clock + AllocGlobal + Copy + Drop + Send + Sync + 'static,
+        G: Gate + Sync,
+        B: FnOnce(Jobs<R>) -> Result<(), ServeFault> + Drop,
+        requires { B.IsAlwaysCallable bring }
+    {
+        staff(rt, registry, seats, gate, bring)
+    }
+
+    /// Serves one connection over any stream, by the jobs that `serve` uses.
+    pub fn serve_one<R, I>(rt: R, jobs: &Jobs<R>, io: I) -> End
+    where
+        R: Wait + RandomSource + AllocGlobal + Copy + Drop,
+        I: AsyncRead + AsyncWrite + Drop,
+    {
+        let alloc = rt.alloc();
+        let Ok(keys) = RandomState::new(&rt) else {
+            return End::Fault;
+        };
+        let http = http1::Builder::new(alloc, keys);
+        let jobs = jobs.share();
+        let connection = http.serve_connection(io, Gateway { rt, alloc, jobs });
+        match block_on(&rt, connection) {
+            Ok(Ok(())) => End::Finished,
+            _ => End::Fault,
+        }
+    }
+}

@@ -1,0 +1,159 @@
+//! The workers: the calls of clients.
+use crate::answer::{Answer, AnswerBody};
+use crate::caller::Caller;
+use crate::crew::Station;
+use crate::desk::{Desk, Job, OpenWatch};
+use crate::feed::Outlet;
+use crate::pump::take_each;
+use crate::rota::{Duty, Rota, Turn};
+use etcd_types::{Call, Step};
+use gateway_json::read_step;
+use std::alloc::Global;
+use std::rt::Clock;
+use std::sync::{Arc, Wait};
+use tenant_registry::{Gate, Seat};
+
+/// How many jobs of a tenant are served in one turn.
+const JOBS_A_TURN: usize = 8;
+
+/// Serves a few jobs of each tenant whose turn it is, until there are no more turns.
+pub(crate) fn work<R: Wait + Clock + Copy + Drop, G: Gate>(
+    alloc: Global,
+    station: Station<'_, R, G>,
+) -> Seat {
+    let Station {
+        rt,
+        mut caller,
+        floor,
+    } = station;
+    for _ in rt.forever() {
+        let Ok(Turn::On(place)) = floor.turns.workers.recv(&rt) else {
+            break;
+        };
+        if let Some(desk) = floor.desks.get(place) {
+            let mut desk = desk.lock(&rt);
+            let bench = Bench {
+                rt,
+                alloc,
+                rota: &floor.rota,
+                place,
+            };
+            bench.serve_jobs(&mut caller, &mut *desk);
+        }
+        floor.rota.pass_on(&rt, place, Duty::Jobs);
+    }
+    caller.into_seat()
+}
+
+/// Where a worker works at the moment.
+#[derive(Clone, Copy)]
+struct Bench<'a, R> {
+    rt: R,
+    alloc: Global,
+    rota: &'a Arc<Rota>,
+    place: usize,
+}
+
+impl<R: Wait + Clock + Copy + Drop> Bench<'_, R> {
+    /// Serves a few of a tenant's jobs. If there may be more, the tenant comes again behind the others.
+    fn serve_jobs<G: Gate>(&self, caller: &mut Caller<'_, R, G>, desk: &mut Desk<R>) {
+        for _ in 0..JOBS_A_TURN {
+            let Ok(job) = desk.jobs.try_recv() else {
+                return;
+            };
+            let Job { call, body, reply } = job;
+            let answer = self.answer(caller, desk, call, body.as_slice());
+            // Where the client has gone, the call stays made.
+            drop(reply.send(answer));
+            if may_tell(call) && !desk.watches.is_empty() {
+                self.rota.call_for(&self.rt, self.place, Duty::Takes);
+            }
+        }
+        self.rota.call_for(&self.rt, self.place, Duty::Jobs);
+    }
+
+    fn answer<G: Gate>(
+        &self,
+        caller: &mut Caller<'_, R, G>,
+        desk: &mut Desk<R>,
+        call: Call,
+        body: &[u8],
+    ) -> Answer<R> {
+        let step = match read_step(self.alloc, call, body) {
+            Ok(step) => step,
+            Err(refusal) => return Answer::refused(self.alloc, refusal),
+        };
+        match step {
+            Step::Watch(_) => self.open(caller, desk, step),
+            Step::Compact(_) => {
+                // A watch that waits is to stand at the newest revision, or it would be canceled for what it
+                // has only not been asked about.
+                let _ = take_each(caller, desk, None);
+                self.call(caller, desk, step)
+            }
+            _ => self.call(caller, desk, step),
+        }
+    }
+
+    fn call<G: Gate>(
+        &self,
+        caller: &mut Caller<'_, R, G>,
+        desk: &Desk<R>,
+        step: Step,
+    ) -> Answer<R> {
+        match caller.call(desk.name.as_slice(), step) {
+            Ok(receipt) => Answer::text(receipt.status(), receipt.into_body()),
+            Err(refusal) => Answer::refused(self.alloc, refusal),
+        }
+    }
+
+    /// Creates a watch that stays open. Its memory is taken before.
+    fn open<G: Gate>(
+        &self,
+        caller: &mut Caller<'_, R, G>,
+        desk: &mut Desk<R>,
+        step: Step,
+    ) -> Answer<R> {
+        let Ok((outlet, feed)) = Outlet::new(self.rt, self.alloc, self.rota, self.place) else {
+            return Answer::no_memory();
+        };
+        if desk.watches.reserve(1).is_err() {
+            return Answer::no_memory();
+        }
+        let receipt = match caller.call(desk.name.as_slice(), step) {
+            Ok(receipt) => receipt,
+            Err(refusal) => return Answer::refused(self.alloc, refusal),
+        };
+        let status = receipt.status();
+        let Some(slot) = receipt.slot() else {
+            return Answer::text(status, receipt.into_body());
+        };
+        if desk.watches.push(OpenWatch { slot, outlet }).is_err() {
+            let _ = caller.call(desk.name.as_slice(), Step::DropWatch(slot));
+            return Answer::no_memory();
+        }
+        Answer {
+            status,
+            body: AnswerBody::Watch {
+                created: Some(receipt.into_body()),
+                feed,
+            },
+        }
+    }
+}
+
+/// A call after which a watch may have something to give.
+fn may_tell(call: Call) -> bool {
+    match call {
+        Call::Put | Call::DeleteRange | Call::Txn | Call::Compaction | Call::Watch | Call::Revoke =>
+            true,
+        Call::Range
+        | Call::Grant
+        | Call::KeepAlive
+        | Call::TimeToLive
+        | Call::Leases
+        | Call::Alarm
+        | Call::Status
+        | Call::Defragment => false,
+    }
+}

@@ -1,0 +1,86 @@
+//! A stream in memory that fails when it is told to.
+ghost use Rattle.std.specs.Prelude.{⊤};
+
+use futures::task::{Context, Poll};
+use std::io;
+use std::sync::Arc;
+use std::sync::atomic::{AtomicBool, AtomicU64, Ordering};
+use tokio::io::{AsyncRead, AsyncWrite};
+
+/// How much is read or written at a time, at most.
+const PIECE: usize = 16;
+
+/// What a peer has seen, for the test that made it.
+#[derive(Drop)]
+pub(crate) struct Seen {
+    /// A read or a write failed.
+    pub(crate) fault: AtomicBool,
+    /// How many bytes were written to it.
+    pub(crate) written: AtomicU64,
+}
+
+/// Says its piece, waits until enough was written, and is then at its end. Once its reads or writes are used
+/// up, the next one fails.
+#[derive(Drop)]
+pub(crate) struct Peer {
+    pub(crate) says: &'static [u8],
+    pub(crate) enough: u64,
+    pub(crate) reads_left: u32,
+    pub(crate) writes_left: u32,
+    pub(crate) seen: Arc<Seen>,
+}
+
+impl AsyncRead for Peer {
+    ghost reads = { λ _ _ _. ⊤ };
+
+    ghost is_at_end = { λ _. ⊤ };
+
+    ghost reads_nothing = { λ _. tt };
+
+    ghost reads_in_order = { λ _ _ _ _ _ _ _. tt };
+
+    fn poll_read(&mut self, cx: &mut Context<'_>, buf: &mut [u8]) -> Poll<io::Result<usize>> {
+        if self.says.is_empty() {
+            if self.seen.written.load(Ordering::SeqCst) < self.enough {
+                return cx.yield_now();
+            }
+            return Poll::Ready(Ok(0));
+        }
+        if self.reads_left == 0 {
+            self.seen.fault.store(true, Ordering::SeqCst);
+            return Poll::Ready(Err(io::ErrorKind::ConnectionReset.into()));
+        }
+        self.reads_left -= 1;
+        let count = self.says.len().min(buf.len()).min(PIECE);
+        buf[..count].copy_from_slice(&self.says[..count]);
+        self.says = &self.says[count..];
+        Poll::Ready(Ok(count))
+    }
+}
+
+impl AsyncWrite for Peer {
+    ghost writes = { λ _ _ _. ⊤ };
+
+    ghost writes_nothing = { λ _. tt };
+
+    ghost writes_in_order = { λ _ _ _ _ _ _ _. tt };
+
+    fn poll_write(&mut self, _cx: &mut Context<'_>, buf: &[u8]) -> Poll<io::Result<usize>> {
+        if self.writes_left == 0 {
+            self.seen.fault.store(true, Ordering::SeqCst);
+            return Poll::Ready(Err(io::ErrorKind::BrokenPipe.into()));
+        }
+        self.writes_left -= 1;
+        let count = buf.len().min(PIECE);
+        self.seen.written.fetch_add(count as u64, Ordering::SeqCst);
+        Poll::Ready(Ok(count))
+    }
+
+    fn poll_flush(&mut self, _cx: &mut Context<'_>) -> Poll<io::Result<()>> {
+        Poll::Ready(Ok(()))
+    }
+
+    fn poll_shutdown(&mut self, _cx: &mut Context<'_>) -> Poll<io::Result<()>> {
+        Poll::Ready(Ok(()))
+    }
+}
