@@ -1,7 +1,9 @@
 //! A stream in memory that fails when it is told to.
 ghost use Rattle.std.specs.Prelude.{⊤};
 
+use etcd_types::Mem;
 use futures::task::{Context, Poll};
+use std::alloc::Global;
 use std::io;
 use std::sync::Arc;
 use std::sync::atomic::{AtomicBool, AtomicU64, Ordering};
@@ -28,6 +30,34 @@ pub(crate) struct Peer {
     pub(crate) reads_left: u32,
     pub(crate) writes_left: u32,
     pub(crate) seen: Arc<Seen>,
+}
+
+impl Peer {
+    /// A peer that never fails, and leaves once its answer begins.
+    pub(crate) fn new(alloc: Global, says: &'static [u8]) -> Mem<Peer> {
+        Peer::failing(alloc, says, 1, u32::MAX, u32::MAX)
+    }
+
+    /// A peer that waits for so many bytes, and fails after so many reads and writes.
+    pub(crate) fn failing(
+        alloc: Global,
+        says: &'static [u8],
+        enough: u64,
+        reads_left: u32,
+        writes_left: u32,
+    ) -> Mem<Peer> {
+        let seen = Seen {
+            fault: AtomicBool::new(false),
+            written: AtomicU64::new(0),
+        };
+        Ok(Peer {
+            says,
+            enough,
+            reads_left,
+            writes_left,
+            seen: Arc::new(alloc, seen)?,
+        })
+    }
 }
 
 impl AsyncRead for Peer {

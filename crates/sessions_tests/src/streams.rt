@@ -1,25 +1,25 @@
 //! Streams that fail at each of their reads and writes.
-use crate::peer::{Peer, Seen};
-use crate::tenants::{ask, seats, two_tenants};
+use crate::peer::Peer;
+use crate::tenants::{PUT_REQUEST, ask, seats, two_tenants};
 use etcd_types::Call;
 use host_sessions::{End, Sessions};
 use std::alloc::AllocGlobal;
 use std::random::RandomSource;
-use std::sync::atomic::{AtomicBool, AtomicU64, Ordering};
+use std::sync::atomic::{AtomicBool, Ordering};
 use std::sync::{Arc, Wait};
 use std::test::Fail;
 use std::thread::Threads;
 use std::time::Clock;
 use tenant_registry::OpenGate;
 
-const PUT: &'static [u8] = b"POST /t/one/v3/kv/put HTTP/1.1\r\nhost: h\r\ncontent-length: 29\r\nconnection: close\r\n\r\n{\"key\":\"Zm9v\",\"value\":\"YmFy\"}";
-
-const WATCH: &'static [u8] = b"POST /t/one/v3/watch HTTP/1.1\r\nhost: h\r\ncontent-length: 33\r\n\r\n{\"create_request\":{\"key\":\"Zm9v\"}}";
+const WATCH: &'static [u8] =
+    b"POST /t/one/v3/watch HTTP/1.1\r\nhost: h\r\ncontent-length: 33\r\n\r\n{\"create_request\":{\"key\":\"Zm9v\"}}";
 
 /// More reads and writes than a connection of these tests makes.
 const ENOUGH: u32 = 1000;
 
 /// What a connection left.
+#[derive(Drop)]
 struct Left {
     had_fault: bool,
     is_finished: bool,
@@ -44,20 +44,8 @@ where
     let mut registry = two_tenants(alloc)?;
     let seats = seats(alloc, &mut registry)?;
     let mut seat = registry.seat()?;
-    let seen = Arc::new(
-        alloc,
-        Seen {
-            fault: AtomicBool::new(false),
-            written: AtomicU64::new(0),
-        },
-    )?;
-    let peer = Peer {
-        says,
-        enough,
-        reads_left,
-        writes_left,
-        seen: Arc::try_clone(&seen)?,
-    };
+    let peer = Peer::failing(alloc, says, enough, reads_left, writes_left)?;
+    let seen = Arc::try_clone(&peer.seen)?;
     let is_finished = AtomicBool::new(false);
     let told = &is_finished;
     let _ = Sessions::serve_with(rt, &registry, seats, &OpenGate, |jobs| {
@@ -66,25 +54,28 @@ where
         Ok(())
     })?;
     let status = ask(&rt, alloc, &registry, &mut seat, Call::Status, "{}")?;
-    let watch = ask(&rt, alloc, &registry, &mut seat, Call::Watch, "{\"create_request\":{\"key\":\"Zm9v\"}}")?;
+    let watch = ask(
+        &rt,
+        alloc,
+        &registry,
+        &mut seat,
+        Call::Watch,
+        "{\"create_request\":{\"key\":\"Zm9v\"}}",
+    )?;
     Ok(Left {
         had_fault: seen.fault.load(Ordering::SeqCst),
         is_finished: is_finished.load(Ordering::SeqCst),
         slot: watch.slot(),
-        is_put: contains(status.body(), b"\"revision\":\"2\""),
+        is_put: status.body().ends_with(b"\"revision\":\"2\"}}"),
     })
-}
-
-fn contains(text: &[u8], part: &[u8]) -> bool {
-    text.windows(part.len()).any(|window| window == part)
 }
 
 #[test]
 fn a_put_is_made_or_not_whatever_fails(rt: HostRuntime) -> Result<(), Fail> {
-    let whole = round(rt, PUT, 1, ENOUGH, ENOUGH)?;
+    let whole = round(rt, PUT_REQUEST, 1, ENOUGH, ENOUGH)?;
     assert!(rt; whole.is_finished && whole.is_put && !whole.had_fault);
     for k in 0..ENOUGH {
-        let left = round(rt, PUT, 1, k, ENOUGH)?;
+        let left = round(rt, PUT_REQUEST, 1, k, ENOUGH)?;
         assert!(rt; left.slot == Some(0));
         if !left.had_fault {
             break;
@@ -93,7 +84,7 @@ fn a_put_is_made_or_not_whatever_fails(rt: HostRuntime) -> Result<(), Fail> {
         assert!(rt; !left.is_put && !left.is_finished);
     }
     for k in 0..ENOUGH {
-        let left = round(rt, PUT, 1, ENOUGH, k)?;
+        let left = round(rt, PUT_REQUEST, 1, ENOUGH, k)?;
         assert!(rt; left.slot == Some(0) && left.is_put);
         if !left.had_fault {
             break;

@@ -1,0 +1,136 @@
+"""A quiet tenant beside a neighbour that is flooded, and resident memory over minutes of mixed load."""
+import contextlib
+import time
+from statistics import median
+from typing import NamedTuple
+
+from replay_calls import Wrong, body_of
+from replay_process import memory
+from replay_told import spread, table
+from server_http import Connection, Watch
+from server_load import LARGE_ROWS, compacted, key, large, put, reads
+from server_watch import part
+
+FLOOD = 32
+# Reads of the quiet tenant a second; the seconds of flood before them, and those before and after them together.
+PACE, BEFORE, AROUND = 200, 0.5, 2
+# What a flood's end leaves behind may still be worked at for a while.
+AFTER = 1
+JOBS = 20
+MIXED, SAMPLE, MINUTE = 16, 10, 60
+TOLD = {
+    "": "alone",
+    "puts": f"beside puts over {FLOOD} connections",
+    "large": f"beside ranges of {LARGE_ROWS:,} rows over {FLOOD} connections",
+    "nginx": f"beside an nginx that is flooded over {FLOOD} connections",
+}
+
+
+class Reading(NamedTuple):
+    """Seconds of each quiet read, the neighbour's calls a second, and its longest compaction's seconds."""
+
+    times: list
+    flood: float
+    compaction: float
+
+
+def quiet_reads(place, seconds):
+    """The seconds that each point read takes, at a gentle rate."""
+    messages = [place.message(call, body_of(body)) for call, body in reads()]
+    times = []
+    with Connection(place) as connection:
+        first = started = time.perf_counter()
+        while started < first + seconds:
+            status, _ = connection.ask(messages[len(times) % len(messages)])
+            times.append(time.perf_counter() - started)
+            if status != 200:
+                raise Wrong(f"{place.who}: a quiet read was answered {status}")
+            time.sleep(max(0, first + len(times) / PACE - time.perf_counter()))
+            started = time.perf_counter()
+    return times
+
+
+def one_reading(bench, ours, flooded, work):
+    """Quiet reads of ours while a place is flooded, or none."""
+    if flooded is None:
+        return Reading(quiet_reads(ours.place, bench.seconds), 0, 0)
+    with contextlib.ExitStack() as stack:
+        told = stack.enter_context(compacted(flooded)) if flooded is ours.beside else [0, 0]
+        child = stack.enter_context(bench.wrk.running(flooded, work, FLOOD, bench.seconds + AROUND))
+        time.sleep(BEFORE)
+        times = quiet_reads(ours.place, bench.seconds)
+        load = bench.wrk.finish(child, f"{flooded.who}, a flood of {work}")
+        time.sleep(AFTER)
+        ours.look()
+        return Reading(times, load.rate(), told[1])
+
+
+def job_times(place, message):
+    """The seconds of one call at a time, on a server with nothing else to do."""
+    times = []
+    with Connection(place) as connection:
+        for _ in range(JOBS):
+            started = time.perf_counter()
+            connection.ask(message)
+            times.append(time.perf_counter() - started)
+    return times
+
+
+def measure(bench, ours, nginx):
+    """The readings beside each flood, in the order of the rounds, and the times of a flood's single jobs."""
+    floods = {"": (None, ""), "puts": (ours.beside, "puts"), "large": (ours.beside, "large")}
+    if nginx:
+        floods["nginx"] = (nginx.place, "puts")
+    readings = {name: [] for name in floods}
+    jobs = {"puts": [], "large": []}
+    for turn in range(bench.rounds):
+        for name, (call, body) in [("puts", put(b"one")), ("large", large()[0])]:
+            jobs[name] += job_times(ours.beside, ours.beside.message(call, body_of(body)))
+        names = list(floods)
+        for name in names[turn % len(names) :] + names[: turn % len(names)]:
+            readings[name].append(one_reading(bench, ours, *floods[name]))
+    return readings, jobs
+
+
+def tell(readings, jobs):
+    rows = []
+    for name, found in readings.items():
+        middle, late = ([part(one.times, hundredth) for one in found] for hundredth in [50, 99])
+        alone, most = [part(one.times, 99) for one in readings[""]], max(max(one.times) for one in found)
+        row = [TOLD[name], *(f"{one * 1e6:,.0f}" for one in [median(middle), median(late), most])]
+        row.append(spread([one / other for one, other in zip(late, alone)], ".2f") if name else "")
+        row.append(f"{median(one.flood for one in found):,.0f}" if name else "")
+        rows.append(row)
+    heads = ["a quiet tenant's point reads, microseconds", "middle", "99th", "longest"]
+    table([*heads, "99th by that alone", "flood a second"], rows)
+    for name, label in [("puts", "one put"), ("large", f"one range of {LARGE_ROWS:,} rows")]:
+        middle, most = median(jobs[name]) * 1e6, max(jobs[name]) * 1e6
+        print(f"{label} on an idle server, microseconds: middle {middle:,.0f}, longest {most:,.0f}")
+    most = max(one.compaction for one in readings["puts"]) * 1e6
+    print(f"the flood of puts was compacted meanwhile; the longest compaction, microseconds: {most:,.0f}\n")
+
+
+def measure_memory(bench, ours, minutes):
+    """Resident bytes, each ten seconds of mixed load, which have new connections, and each second a new watch."""
+    found, refused = [], 0
+    with compacted(ours.place):
+        for _ in range(minutes * MINUTE // SAMPLE):
+            with bench.wrk.running(ours.place, "mixed", MIXED, SAMPLE) as child:
+                for second in range(1, SAMPLE):
+                    with Watch(ours.place, key(second)) as watch:
+                        refused += watch.status != 200
+                        time.sleep(1)
+                found.append(memory(ours.child.pid)["now"])
+                bench.wrk.finish(child, "ours, mixed load")
+            ours.look()
+    if refused:
+        bench.wrk.faults.append(f"ours, mixed load: {refused} watches were refused")
+    return found
+
+
+def tell_memory(found, minutes):
+    some = MINUTE // SAMPLE
+    first, last = median(found[:some]), median(found[-some:])
+    print(f"resident bytes over {minutes} minutes of mixed load over {MIXED} connections, each {SAMPLE} seconds:")
+    print(f"  the first minute's middle {first:,.0f}, the last minute's {last:,.0f}, {last / first:.3f} times that")
+    print(f"  least {min(found):,}, greatest {max(found):,}\n")

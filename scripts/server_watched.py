@@ -1,0 +1,314 @@
+"""Tests of check-server: watches.
+
+Each test is given the host, and raises `Wrong` where something is not as it is wanted.
+"""
+import socket
+import struct
+import time
+from concurrent.futures import ThreadPoolExecutor
+
+from server_asked import ACTIVATE
+from server_client import (ALL, KEY, PUT, READ, REFUSALS, SECONDS, WATCHES, Connection, Server, Wrong, alarmed, answer_of,
+                           cancel_line, chunk, configuration, created_line, delete_event, done, events_line, head, header,
+                           path, put_event, request, row, shown, tenant_of, text, want)
+
+OTHER = '{"key":"Yg==","value":"MQ=="}'
+EVERY = f"{{{ALL}}}"
+
+
+def put_number(number):
+    """The body of a put of the key `a`, whose value is a number."""
+    return f'{{"key":"YQ==","value":"{text(b"%d" % number)}"}}'
+
+
+def a_watch_is_told_of_puts_and_deletes(host):
+    """Ten events in five seconds, so at once and not by a clock of seconds, and nothing else."""
+    tenant = host.tenant()
+    with host.connect() as client, host.watch(tenant, KEY) as watch:
+        watch.expect_line(created_line(1))
+        started = time.monotonic()
+        for number in range(1, 6):
+            created = 2 * number
+            client.expect(tenant, "kv/put", PUT, done(created))
+            watch.expect_line(events_line([put_event("YQ==", created, created, "MQ==", 1)], created))
+            client.expect(tenant, "kv/deleterange", KEY, answer_of(f'{{"deleted":"1",{header(created + 1)}}}'))
+            watch.expect_line(events_line([delete_event("YQ==", created + 1)], created + 1))
+        took = time.monotonic() - started
+        want(took < 5, f"ten events took {took:.1f} seconds")
+        client.expect(tenant, "kv/put", OTHER, done(12))
+        watch.expect_quiet(1.5)
+
+
+def a_watch_with_all_members(host):
+    tenant = host.tenant()
+    create = '{"key":"YQ==","range_end":"Yw==","filters":["NOPUT"],"prev_kv":true,"watch_id":"5","progress_notify":true}'
+    with host.connect() as client, host.watch(tenant, create) as watch:
+        watch.expect_line(f'{{"result":{{"created":true,{header(1)},"watch_id":"5"}}}}\n'.encode())
+        client.expect(tenant, "kv/put", OTHER, done(2))
+        client.expect(tenant, "kv/deleterange", EVERY, answer_of(f'{{"deleted":"1",{header(3)}}}'))
+        event = f'{{"kv":{{"key":"Yg==","mod_revision":"3"}},"prev_kv":{row("Yg==", 2, 2, "MQ==", 1)},"type":"DELETE"}}'
+        watch.expect_line(f'{{"result":{{"events":[{event}],{header(3)},"watch_id":"5"}}}}\n'.encode())
+
+
+def a_watch_from_the_past_is_told_at_once(host):
+    """Ten watches in five seconds."""
+    tenant = host.tenant()
+    with host.connect() as client:
+        for revision in range(2, 22):
+            client.expect(tenant, "kv/put", PUT, done(revision))
+        events = [put_event("YQ==", 2, revision, "MQ==", revision - 1) for revision in range(2, 22)]
+        started = time.monotonic()
+        for _ in range(10):
+            with host.watch(tenant, '{"key":"YQ==","start_revision":"2"}') as watch:
+                watch.expect_line(created_line(21))
+                watch.expect_line(events_line(events[:16], 21))
+                watch.expect_line(events_line(events[16:], 21))
+        took = time.monotonic() - started
+        want(took < 5, f"ten histories took {took:.1f} seconds")
+        with host.watch(tenant, '{"key":"YQ==","start_revision":"21"}') as watch:
+            watch.expect_line(created_line(21))
+            watch.expect_line(events_line(events[19:], 21))
+            client.expect(tenant, "kv/put", PUT, done(22))
+            watch.expect_line(events_line([put_event("YQ==", 2, 22, "MQ==", 21)], 22))
+
+
+def a_watch_from_the_future_waits(host):
+    tenant = host.tenant()
+    with host.connect() as client, host.watch(tenant, '{"key":"YQ==","start_revision":"4"}') as watch:
+        watch.expect_line(created_line(1))
+        for revision in [2, 3, 4]:
+            client.expect(tenant, "kv/put", PUT, done(revision))
+        watch.expect_line(events_line([put_event("YQ==", 2, 4, "MQ==", 3)], 4))
+
+
+def a_compaction_ends_a_watch_from_before_it(host):
+    tenant = host.tenant()
+    with host.connect() as client:
+        for revision in range(2, 6):
+            client.expect(tenant, "kv/put", PUT, done(revision))
+        client.expect(tenant, "kv/compaction", '{"revision":"5"}', done(5))
+        with host.watch(tenant, '{"key":"YQ==","start_revision":"3"}') as watch:
+            watch.expect_line(created_line(5))
+            watch.expect_last(cancel_line(5, 5))
+            watch.send(request(path(tenant, "kv/range"), READ))
+            watch.answer().check(done(5))
+
+
+def an_idle_watch_stands_compactions(host):
+    """Other keys are put, and compacted at the newest revision at once, again and again."""
+    tenant, revision = host.tenant(), 1
+    with host.connect() as client, host.watch(tenant, KEY) as watch:
+        watch.expect_line(created_line(1))
+        for _ in range(30):
+            for _ in range(20):
+                revision += 1
+                client.expect(tenant, "kv/put", OTHER, done(revision))
+            client.expect(tenant, "kv/compaction", f'{{"revision":"{revision}"}}', done(revision))
+        client.expect(tenant, "kv/put", PUT, done(revision + 1))
+        watch.expect_line(events_line([put_event("YQ==", revision + 1, revision + 1, "MQ==", 1)], revision + 1))
+
+
+def an_idle_watch_stands_compactions_in_one_write(host):
+    tenant, last = host.tenant(), 101
+    with host.connect() as client, host.watch(tenant, KEY) as watch:
+        watch.expect_line(created_line(1))
+        compaction = request(path(tenant, "kv/compaction"), f'{{"revision":"{last}"}}')
+        client.send(request(path(tenant, "kv/put"), OTHER) * (last - 1) + compaction)
+        for revision in [*range(2, last + 1), last]:
+            client.answer().check(done(revision))
+        client.expect(tenant, "kv/put", PUT, done(last + 1))
+        watch.expect_line(events_line([put_event("YQ==", last + 1, last + 1, "MQ==", 1)], last + 1))
+
+
+def opened(host, tenant, last):
+    """A watch, tried until a moment where no place is free."""
+    while True:
+        watch = host.watch(tenant, KEY)
+        if not watch.refused:
+            return watch
+        watch.close()
+        want(time.monotonic() < last, "no place is free")
+        time.sleep(0.02)
+
+
+def open_all(host, tenant, seconds=0.0):
+    """As many watches as a tenant may have."""
+    last, watches = time.monotonic() + seconds, []
+    try:
+        while len(watches) < WATCHES:
+            watches.append(opened(host, tenant, last))
+    except Wrong as wrong:
+        close_all(watches)
+        raise Wrong(f"after {len(watches)} watches: {wrong}") from None
+    return watches
+
+
+def close_all(watches):
+    for watch in watches:
+        watch.close()
+
+
+def reset(connection):
+    """Closes a connection so that the other end meets a reset."""
+    connection.socket.setsockopt(socket.SOL_SOCKET, socket.SO_LINGER, struct.pack("ii", 1, 0))
+    connection.close()
+
+
+def sixty_four_watches_and_no_more(host):
+    tenant = host.tenant()
+    watches = open_all(host, tenant)
+    with host.watch(tenant, KEY) as more:
+        want(more.refused, "a watch more is opened")
+        more.refused.check(REFUSALS["TooManyWatches"])
+        more.send(request(path(tenant, "kv/put"), PUT))
+        more.answer().check(done(2))
+    for watch in watches:
+        watch.expect_line(created_line(1))
+        watch.expect_line(events_line([put_event("YQ==", 2, 2, "MQ==", 1)], 2), 1)
+    watches.pop().close()
+    watches.append(opened(host, tenant, time.monotonic() + SECONDS))
+    close_all(watches)
+
+
+def places_are_free_after_clients_go(host):
+    """Whether they close, end their sending, or reset; in one of three rounds at least within a second."""
+    tenant = host.tenant()
+    for leave in [Connection.close, Connection.end_sending, reset]:
+        took = []
+        for _ in range(3):
+            for watch in open_all(host, tenant, SECONDS):
+                leave(watch)
+            started = time.monotonic()
+            close_all(open_all(host, tenant, SECONDS))
+            took.append(time.monotonic() - started)
+        want(min(took) < 1, f"the places are free after {min(took):.1f} seconds")
+
+
+def places_are_free_after_a_half_sent_request(host):
+    """The clients send more behind the watch, and then go."""
+    tenant = host.tenant()
+    for more in [b"P", request(path(tenant, "kv/put"), PUT)]:
+        watches = open_all(host, tenant, 3)
+        for watch in watches:
+            watch.send(more)
+        time.sleep(0.1)
+        close_all(watches)
+    close_all(open_all(host, tenant, 3))
+    with host.connect() as client:
+        client.expect(tenant, "kv/range", READ, done(1))
+
+
+def places_are_free_after_cancels(host):
+    tenant = host.tenant()
+    with host.connect() as client:
+        for revision in [2, 3]:
+            client.expect(tenant, "kv/put", PUT, done(revision))
+        client.expect(tenant, "kv/compaction", '{"revision":"3"}', done(3))
+        for _ in range(2 * WATCHES):
+            with host.watch(tenant, '{"key":"YQ==","start_revision":"1"}') as watch:
+                watch.expect_line(created_line(3))
+                watch.expect_last(cancel_line(3, 3))
+    close_all(open_all(host, tenant))
+
+
+def a_slow_reader_loses_nothing(host):
+    """It reads nothing while 2,000 puts are made, which fill what lies between it and the server."""
+    tenant, count, value = host.large(), 2_000, text(b"v" * 1_000)
+    put = request(path(tenant, "kv/put"), f'{{"key":"YQ==","value":"{value}"}}')
+    wanted = [put_event("YQ==", 2, revision, value, revision - 1) for revision in range(2, count + 2)]
+    with (host.connect() as client, host.watch(tenant, KEY, 4_096) as slow, host.watch(tenant, KEY) as quick,
+          ThreadPoolExecutor(1) as thread):
+        started, told = time.monotonic(), thread.submit(check_events, quick, wanted)
+        for first in range(2, count + 2, 50):
+            client.send(put * 50)
+            for revision in range(first, first + 50):
+                client.answer().check(done(revision))
+        told.result()
+        took = time.monotonic() - started
+        want(took < SECONDS, f"the puts, and telling of them, took {took:.1f} seconds")
+        check_events(slow, wanted)
+
+
+def check_events(watch, wanted):
+    """The events, byte by byte, in lines of 16 revisions at most."""
+    told, count = b"", 0
+    watch.expect_line(created_line(1))
+    while count < len(wanted):
+        line = watch.told()
+        front, _, rest = line.partition(b'"events":[')
+        number = line.count(b'{"kv":')
+        want(front == b'{"result":{' and 0 < number <= 16, f"told {shown(line)}")
+        told, count = told + rest.rpartition(b'],"header"')[0] + b",", count + number
+    want(told == "".join(event + "," for event in wanted).encode(), "other events")
+
+
+def many_watches_are_told_alike(host):
+    """Every one is told all puts of several clients in order."""
+    tenant, clients, rounds = host.tenant(), [host.connect() for _ in range(8)], 12
+    watches = open_all(host, tenant)
+    for number in range(rounds):
+        for client in clients:
+            client.send(request(path(tenant, "kv/put"), put_number(number)))
+        for client in clients:
+            want(client.answer().status == 200, "a put is refused")
+    count = len(clients) * rounds
+    told = []
+    for watch in watches:
+        watch.expect_line(created_line(1))
+        told.append(watch.events(count))
+    revisions = [event["kv"]["mod_revision"] for event in told[0]]
+    want(revisions == [str(at) for at in range(2, count + 2)], "other revisions")
+    want(all(one == told[0] for one in told), "the watches are told otherwise")
+    close_all(watches + clients)
+
+
+def a_watch_of_http_1_0(host):
+    """Its body has no chunks, and goes on until the connection ends."""
+    tenant = host.tenant()
+    with host.connect() as client, host.connect() as watch:
+        watch.send(request(path(tenant, "watch"), f'{{"create_request":{KEY}}}', version="HTTP/1.0"))
+        last = time.monotonic() + SECONDS
+        told = watch.head(last)
+        want(told.status == 200 and not told.values("transfer-encoding") + told.values("content-length"), f"{told}")
+        created = created_line(1)
+        want(watch.take(len(created), last) == created, "no created line")
+        client.expect(tenant, "kv/put", PUT, done(2))
+        event = events_line([put_event("YQ==", 2, 2, "MQ==", 1)], 2)
+        want(watch.take(len(event), last) == event, "no event")
+
+
+def a_watch_asked_for_in_chunks(host):
+    tenant, body = host.tenant(), f'{{"create_request":{KEY}}}'.encode()
+    with host.connect() as client, host.connect() as watch:
+        watch.send(head(path(tenant, "watch"), ["transfer-encoding: chunked"]) + chunk(body[:9]))
+        watch.send(chunk(body[9:]) + b"0\r\n\r\n")
+        last = time.monotonic() + SECONDS
+        want(watch.head(last).status == 200, "the watch is refused")
+        want(watch.chunk(last) == created_line(1), "no created line")
+        client.expect(tenant, "kv/put", PUT, done(2))
+        want(watch.chunk(last) == events_line([put_event("YQ==", 2, 2, "MQ==", 1)], 2), "no event")
+
+
+def watches_keep_no_worker(host):
+    """One worker serves calls beside as many watches as there may be, and each tenant has its own."""
+    config = configuration([tenant_of("one"), tenant_of("two")], workers=1)
+    with Server(host.program, config) as server:
+        watches = open_all(server, "one") + open_all(server, "two")
+        with server.connect() as client:
+            for revision in range(2, 22):
+                client.expect("one", "kv/put", put_number(revision), done(revision))
+            client.expect("two", "maintenance/alarm", ACTIVATE, alarmed(1))
+        for watch in watches[:WATCHES]:
+            watch.expect_line(created_line(1))
+            watch.events(20)
+        for watch in watches[WATCHES:]:
+            watch.expect_line(created_line(1))
+        watches[WATCHES].expect_quiet(0.2)
+        close_all(watches)
+
+
+TESTS = [a_watch_is_told_of_puts_and_deletes, a_watch_with_all_members, a_watch_from_the_past_is_told_at_once,
+         a_watch_from_the_future_waits, a_compaction_ends_a_watch_from_before_it, an_idle_watch_stands_compactions,
+         an_idle_watch_stands_compactions_in_one_write, sixty_four_watches_and_no_more, places_are_free_after_clients_go,
+         places_are_free_after_a_half_sent_request, places_are_free_after_cancels, a_slow_reader_loses_nothing,
+         many_watches_are_told_alike, a_watch_of_http_1_0, a_watch_asked_for_in_chunks, watches_keep_no_worker]
