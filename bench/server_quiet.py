@@ -1,5 +1,6 @@
 """A quiet tenant beside a neighbour that is flooded, and resident memory over minutes of mixed load."""
 import contextlib
+import itertools
 import time
 from statistics import median
 from typing import NamedTuple
@@ -27,42 +28,48 @@ TOLD = {
 
 
 class Reading(NamedTuple):
-    """Seconds of each quiet read, the neighbour's calls a second, and its longest compaction's seconds."""
+    """Seconds of each quiet read and of each of an idle nginx beside it, the flood's calls a second, and its longest
+    compaction's seconds.
+    """
 
     times: list
+    beside: list
     flood: float
     compaction: float
 
 
-def quiet_reads(place, seconds):
-    """The seconds that each point read takes, at a gentle rate."""
-    messages = [place.message(call, body_of(body)) for call, body in reads()]
-    times = []
-    with Connection(place) as connection:
-        first = started = time.perf_counter()
-        while started < first + seconds:
-            status, _ = connection.ask(messages[len(times) % len(messages)])
-            times.append(time.perf_counter() - started)
-            if status != 200:
-                raise Wrong(f"{place.who}: a quiet read was answered {status}")
-            time.sleep(max(0, first + len(times) / PACE - time.perf_counter()))
-            started = time.perf_counter()
-    return times
-
-
-def one_reading(bench, ours, flooded, work):
-    """Quiet reads of ours while a place is flooded, or none."""
-    if flooded is None:
-        return Reading(quiet_reads(ours.place, bench.seconds), 0, 0)
+def quiet_reads(places, seconds):
+    """The seconds of each point read, at a gentle rate. The places are asked one after another."""
+    calls = [(call, body_of(body)) for call, body in reads()]
+    times = [[] for _ in places]
     with contextlib.ExitStack() as stack:
-        told = stack.enter_context(compacted(flooded)) if flooded is ours.beside else [0, 0]
+        connections = [stack.enter_context(Connection(place)) for place in places]
+        first = time.perf_counter()
+        for number in itertools.count(1):
+            for connection, found in zip(connections, times):
+                message = connection.place.message(*calls[number % len(calls)])
+                started = time.perf_counter()
+                status, _ = connection.ask(message)
+                found.append(time.perf_counter() - started)
+                if status != 200:
+                    raise Wrong(f"{connection.place.who}: a quiet read was answered {status}")
+            if (now := time.perf_counter()) > first + seconds:
+                return times
+            time.sleep(max(0, first + number / PACE - now))
+
+
+def one_reading(bench, quiet, flooded, work):
+    """Reads of quiet places while another is flooded, or none."""
+    if flooded is None:
+        return Reading(*(quiet_reads(quiet, bench.seconds) + [[]])[:2], 0, 0)
+    with contextlib.ExitStack() as stack:
+        told = stack.enter_context(compacted(flooded)) if flooded.who == "ours" else [0, 0]
         child = stack.enter_context(bench.wrk.running(flooded, work, FLOOD, bench.seconds + AROUND))
         time.sleep(BEFORE)
-        times = quiet_reads(ours.place, bench.seconds)
+        times = quiet_reads([place for place in quiet if place.who == "ours" or place != flooded], bench.seconds)
         load = bench.wrk.finish(child, f"{flooded.who}, a flood of {work}")
         time.sleep(AFTER)
-        ours.look()
-        return Reading(times, load.rate(), told[1])
+        return Reading(*(times + [[]])[:2], load.rate(), told[1])
 
 
 def job_times(place, message):
@@ -83,12 +90,14 @@ def measure(bench, ours, nginx):
         floods["nginx"] = (nginx.place, "puts")
     readings = {name: [] for name in floods}
     jobs = {"puts": [], "large": []}
+    quiet = [ours.place, nginx.place] if nginx else [ours.place]
     for turn in range(bench.rounds):
         for name, (call, body) in [("puts", put(b"one")), ("large", large()[0])]:
             jobs[name] += job_times(ours.beside, ours.beside.message(call, body_of(body)))
         names = list(floods)
         for name in names[turn % len(names) :] + names[: turn % len(names)]:
-            readings[name].append(one_reading(bench, ours, *floods[name]))
+            readings[name].append(one_reading(bench, quiet, *floods[name]))
+            ours.look()
     return readings, jobs
 
 
@@ -99,10 +108,12 @@ def tell(readings, jobs):
         alone, most = [part(one.times, 99) for one in readings[""]], max(max(one.times) for one in found)
         row = [TOLD[name], *(f"{one * 1e6:,.0f}" for one in [median(middle), median(late), most])]
         row.append(spread([one / other for one, other in zip(late, alone)], ".2f") if name else "")
+        idle = [part(one.beside, 99) for one in found if one.beside]
+        row.append(f"{median(idle) * 1e6:,.0f}" if idle else "-")
         row.append(f"{median(one.flood for one in found):,.0f}" if name else "")
         rows.append(row)
     heads = ["a quiet tenant's point reads, microseconds", "middle", "99th", "longest"]
-    table([*heads, "99th by that alone", "flood a second"], rows)
+    table([*heads, "99th by that alone", "99th of a quiet nginx", "flood a second"], rows)
     for name, label in [("puts", "one put"), ("large", f"one range of {LARGE_ROWS:,} rows")]:
         middle, most = median(jobs[name]) * 1e6, max(jobs[name]) * 1e6
         print(f"{label} on an idle server, microseconds: middle {middle:,.0f}, longest {most:,.0f}")

@@ -17,7 +17,7 @@ from typing import NamedTuple
 TOP = os.path.dirname(os.path.dirname(os.path.abspath(__file__)))
 PROGRAM = os.path.join(TOP, "crates", "etcd_host", "out", "etcd_host")
 FORMATS = os.path.join(TOP, "docs", "FORMATS.md")
-SECONDS = 10
+SECONDS = 60
 LARGEST_BODY = 2_097_152
 WATCHES = 64
 ALL = '"key":"AA==","range_end":"AA=="'

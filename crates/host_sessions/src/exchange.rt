@@ -12,6 +12,7 @@ use futures::task::{Context, Poll};
 use futures::{Future, ready};
 use http_body_util::{Limited, LimitedError};
 use hyper::body::{Body, Incoming};
+use hyper::header::{self, HeaderMap};
 use hyper::service::Service;
 use hyper::{Request, Response};
 use std::alloc::{AllocError, Global};
@@ -88,6 +89,11 @@ impl<I: Drop, R: Wait + Copy + Drop> Service<Request<Incoming<I>>> for Gateway<R
             ),
             None => Err(Refusal::Memory),
         };
+        let lost = if is_coded(req.headers()) {
+            Some(Refusal::NotOffered)
+        } else {
+            None
+        };
         Exchange {
             rt: self.rt,
             alloc: self.alloc,
@@ -96,10 +102,18 @@ impl<I: Drop, R: Wait + Copy + Drop> Service<Request<Incoming<I>>> for Gateway<R
                 route,
                 body: Limited::new(req.into_body(), MAX_BODY),
                 read: Vec::new(self.alloc),
-                lost: None,
+                lost,
                 passed: 0,
             }),
         }
+    }
+}
+
+/// A body comes with a length or in chunks; no other coding is offered.
+fn is_coded(headers: &HeaderMap) -> bool {
+    match headers.get(header::TRANSFER_ENCODING) {
+        Some(coding) => !coding.as_bytes().eq_ignore_ascii_case(b"chunked"),
+        None => false,
     }
 }
 

@@ -1,7 +1,8 @@
 //! From a watch to its client: one text at a time.
 //!
-//! The channel holds one text. The next one is taken only when the client has taken that, so a client that is
-//! slow holds one text and no more, and one that stops reading holds up nobody.
+//! The next text is taken only when the client has taken the last one, so a client that is slow holds one text,
+//! and one that stops reading holds up nobody. A second place is for the text that is taken right before a
+//! compaction.
 ghost use Rattle.futures.specs.Task.{IsArmed, Keeps};
 ghost use Rattle.futures.specs.Poll.{OnPending};
 
@@ -13,6 +14,9 @@ use std::alloc::{AllocError, Global};
 use std::sync::atomic::{AtomicBool, Ordering};
 use std::sync::{Arc, Wait};
 use tokio::sync::mpsc;
+
+/// How many texts a watch has room for.
+const PLACES: usize = 2;
 
 /// Where the texts of an open watch are put in.
 #[derive(Drop)]
@@ -38,7 +42,7 @@ impl Outlet {
         rota: &Arc<Rota>,
         place: usize,
     ) -> Mem<(Outlet, Feed<R>)> {
-        let (to, texts) = mpsc::channel(alloc, 1)?;
+        let (to, texts) = mpsc::channel(alloc, PLACES)?;
         let is_owed = Arc::new(alloc, AtomicBool::new(false))?;
         let outlet = Outlet {
             texts: to,
@@ -54,7 +58,12 @@ impl Outlet {
         Ok((outlet, feed))
     }
 
-    /// A right to put one text in, unless the last one is still there.
+    /// The client has taken all that it was told.
+    pub(crate) fn is_awaited(&self) -> bool {
+        self.texts.capacity() >= PLACES
+    }
+
+    /// A right to put one text in, if there is a place.
     pub(crate) fn permit(&self) -> Option<mpsc::Permit<'_, Vec<u8>>> {
         self.texts.try_reserve().ok()
     }
@@ -68,7 +77,7 @@ impl Outlet {
     /// that is told, since it did not call.
     pub(crate) fn owe(&self) -> bool {
         self.is_owed.store(true, Ordering::SeqCst);
-        self.texts.capacity() > 0
+        self.is_awaited()
     }
 }
 

@@ -66,8 +66,8 @@ fn take_turn<R: Wait + Clock + Drop, G: Gate>(
     }
 }
 
-/// Takes once for each watch, or for those that a hint tells, whose client waits for a text. It is `false`
-/// where a take found no memory.
+/// Takes once for each watch that a hint tells and whose client waits for a text; without a hint, for each that
+/// has a place for one. It is `false` where a take found no memory.
 pub(crate) fn take_each<R: Wait + Clock + Drop, G: Gate>(
     caller: &mut Caller<'_, R, G>,
     desk: &mut Desk<R>,
@@ -81,7 +81,7 @@ pub(crate) fn take_each<R: Wait + Clock + Drop, G: Gate>(
         if at >= watches.len() {
             break;
         }
-        let taken = if is_told(hint, watches[at].slot) {
+        let taken = if is_meant(hint, &watches[at]) {
             take(caller, name, &watches[at])
         } else {
             Taken::Open
@@ -100,9 +100,9 @@ pub(crate) fn take_each<R: Wait + Clock + Drop, G: Gate>(
     all_answered
 }
 
-fn is_told(hint: Option<&Hint>, slot: u8) -> bool {
+fn is_meant(hint: Option<&Hint>, watch: &OpenWatch) -> bool {
     match hint {
-        Some(hint) => hint.has(slot),
+        Some(hint) => hint.has(watch.slot) && watch.outlet.is_awaited(),
         None => true,
     }
 }
@@ -116,7 +116,7 @@ enum Taken {
     NoMemory,
 }
 
-/// Takes once, if the client waits for a text.
+/// Takes once, if there is a place for a text.
 fn take<R: Wait + Clock + Drop, G: Gate>(
     caller: &mut Caller<'_, R, G>,
     tenant: &[u8],
