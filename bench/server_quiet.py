@@ -28,8 +28,8 @@ TOLD = {
 
 
 class Reading(NamedTuple):
-    """Seconds of each quiet read and of each of an idle nginx beside it, the flood's calls a second, and its longest
-    compaction's seconds.
+    """Seconds of each quiet read, and of those of an idle nginx if there is one; the flood's calls a second, and the
+    seconds of the longest compaction in it.
     """
 
     times: list
@@ -61,15 +61,16 @@ def quiet_reads(places, seconds):
 def one_reading(bench, quiet, flooded, work):
     """Reads of quiet places while another is flooded, or none."""
     if flooded is None:
-        return Reading(*(quiet_reads(quiet, bench.seconds) + [[]])[:2], 0, 0)
+        times, *beside = quiet_reads(quiet, bench.seconds)
+        return Reading(times, beside, 0, 0)
     with contextlib.ExitStack() as stack:
         told = stack.enter_context(compacted(flooded)) if flooded.who == "ours" else [0, 0]
         child = stack.enter_context(bench.wrk.running(flooded, work, FLOOD, bench.seconds + AROUND))
         time.sleep(BEFORE)
-        times = quiet_reads([place for place in quiet if place.who == "ours" or place != flooded], bench.seconds)
+        times, *beside = quiet_reads([place for place in quiet if place != flooded], bench.seconds)
         load = bench.wrk.finish(child, f"{flooded.who}, a flood of {work}")
         time.sleep(AFTER)
-        return Reading(*(times + [[]])[:2], load.rate(), told[1])
+        return Reading(times, beside, load.rate(), told[1])
 
 
 def job_times(place, message):
@@ -108,7 +109,7 @@ def tell(readings, jobs):
         alone, most = [part(one.times, 99) for one in readings[""]], max(max(one.times) for one in found)
         row = [TOLD[name], *(f"{one * 1e6:,.0f}" for one in [median(middle), median(late), most])]
         row.append(spread([one / other for one, other in zip(late, alone)], ".2f") if name else "")
-        idle = [part(one.beside, 99) for one in found if one.beside]
+        idle = [part(times, 99) for one in found for times in one.beside]
         row.append(f"{median(idle) * 1e6:,.0f}" if idle else "-")
         row.append(f"{median(one.flood for one in found):,.0f}" if name else "")
         rows.append(row)

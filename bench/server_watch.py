@@ -67,8 +67,9 @@ class Watchers:
 def one_slice(bench, place, asking, watchers):
     """Puts for a second, all of whose events are waited for. Gives back the puts and the seconds."""
     begin = asking.revision()
+    watchers.until(begin)
     asking.compact(begin)
-    counts = [watch.events for watch in watchers.all]
+    before = [(watch.events, watch.last) for watch in watchers.all]
     started = time.perf_counter()
     with bench.wrk.running(place, "watched", WRITERS, SLICE) as child:
         while child.poll() is None:
@@ -77,9 +78,9 @@ def one_slice(bench, place, asking, watchers):
         bench.wrk.finish(child, f"{place.who}, puts before {len(watchers.all)} watchers")
     watchers.until(asking.revision())
     took = time.perf_counter() - started
-    for watch, count in zip(watchers.all, counts):
-        if watch.events - count != watch.last - begin:
-            told = f"{watch.events - count:,} events of {watch.last - begin:,} revisions"
+    for watch, (events, last) in zip(watchers.all, before):
+        if watch.events - events != watch.last - last:
+            told = f"{watch.events - events:,} events of {watch.last - last:,} revisions"
             raise Wrong(f"{place.who}: a watch was told {told}")
     return watchers.all[0].last - begin, took
 
