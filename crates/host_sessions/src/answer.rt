@@ -54,6 +54,14 @@ impl<R: Wait + Drop> Answer<R> {
         }
     }
 
+    /// How many bytes its text has.
+    pub(crate) fn len(&self) -> usize {
+        match &self.body {
+            AnswerBody::Text(Some(text)) => text.len(),
+            _ => 0,
+        }
+    }
+
     /// The response of HTTP, with its kind of text.
     pub(crate) fn into_response(
         self,

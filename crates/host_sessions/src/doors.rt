@@ -100,9 +100,7 @@ impl<R: Wait + Drop> Jobs<R> {
     pub(crate) fn call_for(&self, rt: &R, place: usize) {
         self.doors.rota.call_for(rt, place, Duty::Jobs);
     }
-}
 
-impl<R: Wait + Drop> Jobs<R> {
     /// The same queues for another connection.
     pub fn share(&self) -> Option<Jobs<R>> {
         match Arc::try_clone(&self.doors) {

@@ -40,6 +40,15 @@ pub enum ListenFault {
     Memory,
 }
 
+impl ListenFault {
+    fn of(error: &io::Error) -> ListenFault {
+        match error.kind() {
+            io::ErrorKind::OutOfMemory => ListenFault::Memory,
+            _ => ListenFault::Socket,
+        }
+    }
+}
+
 /// Why nothing was served, or why it ended before its time.
 #[derive(Clone, Copy, Debug, PartialEq, Eq)]
 pub enum ServeFault {
@@ -86,8 +95,9 @@ impl Sessions {
             Ok(processors) => processors.get().min(MAX_SOCKET_THREADS),
             Err(_) => MAX_SOCKET_THREADS,
         };
-        let Ok(runtime) = Runtime::with_worker_threads(rt, threads) else {
-            return Err(ListenFault::Socket);
+        let runtime = match Runtime::with_worker_threads(rt, threads) {
+            Ok(runtime) => runtime,
+            Err(error) => return Err(ListenFault::of(&error)),
         };
         match TcpListener::bind(rt, address, runtime.handle().reactor()) {
             Ok(listener) => Ok(Listening {
@@ -95,7 +105,7 @@ impl Sessions {
                 listener,
                 connections: config.connections,
             }),
-            Err(_) => Err(ListenFault::Socket),
+            Err(error) => Err(ListenFault::of(&error)),
         }
     }
 

@@ -16,6 +16,9 @@ use tenant_registry::{Gate, Seat};
 /// How many jobs of a tenant are served in one turn.
 const JOBS_A_TURN: usize = 8;
 
+/// How many bytes of answers end a turn: a few large answers take as long as many small ones.
+const BYTES_A_TURN: usize = 65_536;
+
 /// Serves a few jobs of each tenant whose turn it is, until there are no more turns.
 pub(crate) fn work<R: Wait + Clock + Copy + Drop, G: Gate>(
     alloc: Global,
@@ -57,12 +60,17 @@ struct Bench<'a, R> {
 impl<R: Wait + Clock + Copy + Drop> Bench<'_, R> {
     /// Serves a few of a tenant's jobs. If there may be more, the tenant comes again behind the others.
     fn serve_jobs<G: Gate>(&self, caller: &mut Caller<'_, R, G>, desk: &mut Desk<R>) {
+        let mut told = 0usize;
         for _ in 0..JOBS_A_TURN {
+            if told > BYTES_A_TURN {
+                break;
+            }
             let Ok(job) = desk.jobs.try_recv() else {
                 return;
             };
             let Job { call, body, reply } = job;
             let answer = self.answer(caller, desk, call, body.as_slice());
+            told = told.saturating_add(answer.len());
             // Where the client has gone, the call stays made.
             drop(reply.send(answer));
             if may_tell(call) && !desk.watches.is_empty() {
