@@ -9,11 +9,11 @@ from server_client import (KEY, PUT, READ, REFUSALS, Wrong, answer_of, created_l
 
 
 def a_lease_ends_by_the_clock(host):
-    """A key of a lease of 2 seconds goes, and not at once; a watch is told."""
+    """A key of a lease of 4 seconds goes, and not at once; a watch is told."""
     tenant = host.tenant()
     with host.connect() as client, host.watch(tenant, KEY) as watch:
         watch.expect_line(created_line(1))
-        client.expect(tenant, "lease/grant", '{"TTL":"2"}', granted(1, 2, 1))
+        client.expect(tenant, "lease/grant", '{"TTL":"4"}', granted(1, 4, 1))
         started = time.monotonic()
         client.expect(tenant, "kv/put", '{"key":"YQ==","value":"MQ==","lease":"1"}', done(2))
         watch.expect_line(events_line([put_event("YQ==", 2, 2, "MQ==", 1, 1)], 2))
