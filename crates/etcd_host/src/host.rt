@@ -38,7 +38,11 @@ where
     let mut config = configured(&rt, alloc)?;
     let tenants = mem::replace(&mut config.tenants, Vec::new(alloc));
     let mut registry = Registry::new(alloc, tenants, config.segments).map_err(refused)?;
-    let seats = seats(alloc, &mut registry, config.workers.saturating_add(SEATS_BESIDE_WORKERS))?;
+    let seats = seats(
+        alloc,
+        &mut registry,
+        config.workers.saturating_add(SEATS_BESIDE_WORKERS),
+    )?;
     let listening = Sessions::listen(&rt, &config)?;
     let Ok(address) = listening.address() else {
         return Err(HostFault::Io);
