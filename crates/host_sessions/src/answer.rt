@@ -17,26 +17,51 @@ pub(crate) struct Answer<R: Wait + Drop> {
     pub(crate) body: AnswerBody<R>,
 }
 
+/// The text of an answer: made for it, or always the same.
+#[derive(Drop)]
+pub(crate) enum Text {
+    Made(Vec<u8>),
+    Fixed(Bytes),
+}
+
+impl Text {
+    fn len(&self) -> usize {
+        match self {
+            Text::Made(text) => text.len(),
+            Text::Fixed(text) => text.len(),
+        }
+    }
+
+    /// The text as it is sent. One that can't be shared ends the connection: its call stays made, and what was
+    /// taken of a watch is not given again.
+    fn into_frame(self) -> Result<Frame<Bytes>, AllocError> {
+        match self {
+            Text::Made(text) => match Bytes::from_vec(text) {
+                Ok(text) => Ok(Frame::data(text)),
+                Err(_) => Err(AllocError),
+            },
+            Text::Fixed(text) => Ok(Frame::data(text)),
+        }
+    }
+}
+
 /// A text, or the texts of a watch as they come.
 #[derive(Drop)]
 pub(crate) enum AnswerBody<R: Wait + Drop> {
-    Text(Option<Bytes>),
+    Text(Option<Text>),
     Watch {
         /// What its create was answered.
-        created: Option<Vec<u8>>,
+        created: Option<Text>,
         feed: Feed<R>,
     },
 }
 
 impl<R: Wait + Drop> Answer<R> {
-    /// A status and a text; or want of memory, where the text can't be shared.
+    /// A status and a text of its own.
     pub(crate) fn text(status: u16, text: Vec<u8>) -> Answer<R> {
-        match Bytes::from_vec(text) {
-            Ok(text) => Answer {
-                status,
-                body: AnswerBody::Text(Some(text)),
-            },
-            Err(_) => Answer::no_memory(),
+        Answer {
+            status,
+            body: AnswerBody::Text(Some(Text::Made(text))),
         }
     }
 
@@ -50,7 +75,7 @@ impl<R: Wait + Drop> Answer<R> {
     pub(crate) fn no_memory() -> Answer<R> {
         Answer {
             status: Refusal::Memory.status(),
-            body: AnswerBody::Text(Some(Bytes::from_static(memory_text()))),
+            body: AnswerBody::Text(Some(Text::Fixed(Bytes::from_static(memory_text())))),
         }
     }
 
@@ -91,15 +116,15 @@ impl<R: Wait + Drop> Body for AnswerBody<R> {
     ) -> Poll<Option<Result<Frame<Bytes>, AllocError>>> {
         match self {
             AnswerBody::Text(text) => match text.take() {
-                Some(text) => Poll::Ready(Some(Ok(Frame::data(text)))),
+                Some(text) => Poll::Ready(Some(text.into_frame())),
                 None => Poll::Ready(None),
             },
             AnswerBody::Watch { created, feed } => {
                 if let Some(text) = created.take() {
-                    return Poll::Ready(Some(frame_of(text)));
+                    return Poll::Ready(Some(text.into_frame()));
                 }
                 match ready!(feed.poll_text(cx)) {
-                    Some(text) => Poll::Ready(Some(frame_of(text))),
+                    Some(text) => Poll::Ready(Some(Text::Made(text).into_frame())),
                     None => Poll::Ready(None),
                 }
             }
@@ -116,13 +141,5 @@ impl<R: Wait + Drop> Body for AnswerBody<R> {
             AnswerBody::Text(None) => SizeHint::with_exact(0),
             AnswerBody::Watch { .. } => SizeHint::new(),
         }
-    }
-}
-
-/// A text that can't be shared ends the connection: what was taken is not given again.
-fn frame_of(text: Vec<u8>) -> Result<Frame<Bytes>, AllocError> {
-    match Bytes::from_vec(text) {
-        Ok(text) => Ok(Frame::data(text)),
-        Err(_) => Err(AllocError),
     }
 }

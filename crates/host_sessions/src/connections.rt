@@ -129,6 +129,6 @@ where
     };
     match runtime.run_all(&rt, arrivals) {
         Ok(()) => Ok(()),
-        Err(_) => Err(ServeFault::Socket),
+        Err(error) => Err(ServeFault::of(&error)),
     }
 }

@@ -110,12 +110,12 @@ impl<R: Wait + Drop> Jobs<R> {
     }
 }
 
-/// Empty queues for each tenant of a registry: where jobs go in, and what so many workers and the others who
-/// serve them share.
+/// Empty queues for each tenant of a registry: where jobs go in, and what the threads share that serve them,
+/// one a seat.
 pub(crate) fn open_doors<R: Wait + Drop>(
     alloc: Global,
     registry: &Registry,
-    workers: usize,
+    seats: usize,
 ) -> Mem<(Jobs<R>, Arc<Floor<R>>)> {
     let mut queues = IndexMap::new(alloc);
     let mut desks = Vec::new(alloc);
@@ -131,7 +131,7 @@ pub(crate) fn open_doors<R: Wait + Drop>(
             watches: Vec::new(alloc),
         }))?;
     }
-    let (rota, turns) = Rota::new(alloc, desks.len(), workers)?;
+    let (rota, turns) = Rota::new(alloc, desks.len(), seats)?;
     let rota = Arc::new(alloc, rota)?;
     let floor = Floor {
         rota: Arc::try_clone(&rota)?,

@@ -170,8 +170,10 @@ impl<I: Drop, R: Wait + Copy + Drop> Future for Exchange<I, R> {
                 return Poll::Ready(answer.into_response(self.alloc));
             }
         }
-        if let Stage::Queueing(_) = &self.stage {
-            ready!(self.poll_room(cx));
+        if let Stage::Queueing(_) = &self.stage
+            && !ready!(self.poll_room(cx))
+        {
+            return Poll::Ready(Answer::no_memory().into_response(self.alloc));
         }
         let Stage::Waiting(answer) = &mut self.stage else {
             return Poll::Ready(Err(hyper::Error::from(AllocError)));
@@ -230,13 +232,13 @@ impl<I: Drop, R: Wait + Copy + Drop> Exchange<I, R> {
         None
     }
 
-    /// Leaves the job in the queue once there is room.
-    fn poll_room(&mut self, cx: &mut Context<'_>) -> Poll<()>
+    /// Leaves the job in the queue once there is room; `false` where there is no memory for it.
+    fn poll_room(&mut self, cx: &mut Context<'_>) -> Poll<bool>
         ensures registered { OnPending result (IsArmed cx.new) }
         ensures kept { Keeps cx.old cx.new }
     {
         let Stage::Queueing(queueing) = mem::replace(&mut self.stage, Stage::Failed) else {
-            return Poll::Ready(());
+            return Poll::Ready(false);
         };
         let Queueing {
             held,
@@ -260,9 +262,9 @@ impl<I: Drop, R: Wait + Copy + Drop> Exchange<I, R> {
                     jobs.call_for(&self.rt, place);
                 }
                 self.stage = Stage::Waiting(answer);
-                Poll::Ready(())
+                Poll::Ready(true)
             }
-            Poll::Ready(Err(_)) => Poll::Ready(()),
+            Poll::Ready(Err(_)) => Poll::Ready(false),
         }
     }
 }

@@ -1,8 +1,8 @@
 //! From a watch to its client: one text at a time.
 //!
-//! The next text is taken only when the client has taken the last one, so a client that is slow holds one text,
-//! and one that stops reading holds up nobody. A second place is for the text that is taken right before a
-//! compaction.
+//! The next text is taken from the registry only when the client has read the last one, so a client that is slow
+//! holds one text, and one that stops reading holds up nobody. A second place is for the text that is taken right
+//! before a compaction.
 ghost use Rattle.futures.specs.Task.{IsArmed, Keeps};
 ghost use Rattle.futures.specs.Poll.{OnPending};
 
@@ -14,9 +14,18 @@ use std::alloc::{AllocError, Global};
 use std::sync::atomic::{AtomicBool, Ordering};
 use std::sync::{Arc, Wait};
 use tokio::sync::mpsc;
+use tokio::sync::mpsc::error::TrySendError;
 
 /// How many texts a watch has room for.
 const PLACES: usize = 2;
+
+/// Why no text can be put in.
+#[derive(Clone, Copy, Debug, PartialEq, Eq)]
+pub(crate) enum NoPlace {
+    /// The client has not read what it was told, or has gone.
+    Taken,
+    Memory,
+}
 
 /// Where the texts of an open watch are put in.
 #[derive(Drop)]
@@ -58,14 +67,18 @@ impl Outlet {
         Ok((outlet, feed))
     }
 
-    /// The client has taken all that it was told.
+    /// The client has read all that it was told.
     pub(crate) fn is_awaited(&self) -> bool {
         self.texts.capacity() >= PLACES
     }
 
-    /// A right to put one text in, if there is a place.
-    pub(crate) fn permit(&self) -> Option<mpsc::Permit<'_, Vec<u8>>> {
-        self.texts.try_reserve().ok()
+    /// A right to put one text in.
+    pub(crate) fn permit(&self) -> Result<mpsc::Permit<'_, Vec<u8>>, NoPlace> {
+        match self.texts.try_reserve() {
+            Ok(permit) => Ok(permit),
+            Err(TrySendError::OutOfMemory(())) => Err(NoPlace::Memory),
+            Err(_) => Err(NoPlace::Taken),
+        }
     }
 
     /// The client has gone.

@@ -2,6 +2,7 @@
 use crate::caller::Caller;
 use crate::crew::Station;
 use crate::desk::{Desk, OpenWatch};
+use crate::feed::NoPlace;
 use crate::rota::{Duty, Rota, Turn};
 use etcd_types::Step;
 use std::rt::Clock;
@@ -45,23 +46,21 @@ fn take_turn<R: Wait + Clock + Drop, G: Gate>(
     let Some(told) = caller.hint(desk.name.as_slice()) else {
         return;
     };
-    if !take_each(caller, desk, Some(&told)) {
-        // There is no memory now; the clock calls for the next turn.
-        return;
-    }
+    let all_answered = take_each(caller, desk, Some(&told));
     let Some(left) = caller.hint(desk.name.as_slice()) else {
         return;
     };
-    let mut is_behind = false;
+    let mut has_more = false;
     for watch in desk.watches.as_slice() {
         if left.has(watch.slot) {
-            is_behind = true;
-            if watch.outlet.owe() {
+            has_more = true;
+            // Where a take found no memory, the clock calls for the next turn.
+            if watch.outlet.owe() && all_answered {
                 rota.call_for(rt, place, Duty::Takes);
             }
         }
     }
-    if is_behind {
+    if has_more && all_answered {
         rota.call_for(rt, place, Duty::CatchUp);
     }
 }
@@ -122,8 +121,10 @@ fn take<R: Wait + Clock + Drop, G: Gate>(
     tenant: &[u8],
     watch: &OpenWatch,
 ) -> Taken {
-    let Some(permit) = watch.outlet.permit() else {
-        return Taken::Open;
+    let permit = match watch.outlet.permit() {
+        Ok(permit) => permit,
+        Err(NoPlace::Taken) => return Taken::Open,
+        Err(NoPlace::Memory) => return Taken::NoMemory,
     };
     let Ok(receipt) = caller.call(tenant, Step::Take(watch.slot)) else {
         return Taken::NoMemory;

@@ -105,14 +105,14 @@ pub(crate) struct Turns {
 }
 
 impl Rota {
-    /// A rota of so many tenants and workers, with nothing due.
-    pub(crate) fn new(alloc: Global, tenants: usize, workers: usize) -> Mem<(Rota, Turns)> {
+    /// A rota of so many tenants and seats, with nothing due.
+    pub(crate) fn new(alloc: Global, tenants: usize, seats: usize) -> Mem<(Rota, Turns)> {
         let mut lanes = Vec::with_capacity(alloc, tenants)?;
         for _ in 0..tenants {
             lanes.push(Mutex::new(Lane::IDLE))?;
         }
         // A tenant is in one channel at most, and each thread is told once that there are no more turns.
-        let room = tenants.saturating_add(workers).saturating_add(1);
+        let room = tenants.saturating_add(seats);
         let (clock, clock_turns) = bounded(alloc, room)?;
         let (pump, pump_turns) = bounded(alloc, room)?;
         let (catch_up, catch_up_turns) = bounded(alloc, room)?;
@@ -131,11 +131,6 @@ impl Rota {
             workers: worker_turns,
         };
         Ok((rota, turns))
-    }
-
-    /// How many tenants there are.
-    pub(crate) fn tenants(&self) -> usize {
-        self.lanes.len()
     }
 
     /// Something is due on a tenant. Where nobody has the turn, it is given now.
@@ -189,11 +184,11 @@ impl Rota {
     }
 
     /// Tells all threads that there are no more turns.
-    pub(crate) fn end<R: Wait>(&self, rt: &R, workers: usize) {
+    pub(crate) fn end<R: Wait>(&self, rt: &R, seats: usize) {
         let _ = self.clock.send(rt, Turn::Over);
         let _ = self.pump.send(rt, Turn::Over);
         let _ = self.catch_up.send(rt, Turn::Over);
-        for _ in 0..workers {
+        for _ in 0..seats {
             let _ = self.workers.send(rt, Turn::Over);
         }
     }

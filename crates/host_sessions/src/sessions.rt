@@ -56,6 +56,15 @@ pub enum ServeFault {
     Memory,
 }
 
+impl ServeFault {
+    pub(crate) fn of(error: &io::Error) -> ServeFault {
+        match error.kind() {
+            io::ErrorKind::OutOfMemory => ServeFault::Memory,
+            _ => ServeFault::Socket,
+        }
+    }
+}
+
 /// What is left when the last connection has ended.
 #[derive(Drop)]
 pub struct Ended {
@@ -138,8 +147,8 @@ impl Sessions {
         Ok(Ended { connections, seats })
     }
 
-    /// Serves what a function brings, over streams of any kind by `serve_one`, until it returns. The seats are
-    /// as for `serve`.
+    /// Serves what a function brings, over streams of any kind by `serve_one`, until it returns; all connections
+    /// have to have ended by then. The seats are as for `serve`.
     pub fn serve_with<'x, R, G, B>(
         rt: R,
         registry: &'x Registry,

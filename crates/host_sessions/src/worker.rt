@@ -1,5 +1,5 @@
 //! The workers: the calls of clients.
-use crate::answer::{Answer, AnswerBody};
+use crate::answer::{Answer, AnswerBody, Text};
 use crate::caller::Caller;
 use crate::crew::Station;
 use crate::desk::{Desk, Job, OpenWatch};
@@ -94,9 +94,11 @@ impl<R: Wait + Clock + Copy + Drop> Bench<'_, R> {
         match step {
             Step::Watch(_) => self.open(caller, desk, step),
             Step::Compact(_) => {
-                // A watch that waits is to stand at the newest revision, or it would be canceled for what it
+                // A watch with nothing to tell moves on by being taken; else it would be canceled for what it
                 // has only not been asked about.
-                let _ = take_each(caller, desk, None);
+                if !take_each(caller, desk, None) {
+                    return Answer::no_memory();
+                }
                 self.call(caller, desk, step)
             }
             _ => self.call(caller, desk, step),
@@ -143,7 +145,7 @@ impl<R: Wait + Clock + Copy + Drop> Bench<'_, R> {
         Answer {
             status,
             body: AnswerBody::Watch {
-                created: Some(receipt.into_body()),
+                created: Some(Text::Made(receipt.into_body())),
                 feed,
             },
         }
