@@ -1,4 +1,7 @@
 //! Why the server ends early.
+ghost use Rattle.std.specs.Prelude.{◌≡◌};
+ghost use Rattle.etcd_host.specs.Faults.{status_of};
+
 use host_sessions::{ConfigFault, ListenFault, ServeFault};
 use std::io;
 use tenant_registry::CloseFault;
@@ -22,7 +25,9 @@ pub enum HostFault {
 
 impl HostFault {
     /// The status that the program ends with.
-    pub fn status(self) -> u8 {
+    pub fn status(self) -> u8
+        ensures { result ≡ status_of self }
+    {
         match self {
             HostFault::Mismatch => 1,
             HostFault::Config => 2,

@@ -13,9 +13,6 @@ use std::time::Clock;
 use steps_core::OperatorFault;
 use tenant_registry::{OpenGate, Registry, Seat, SeatFault};
 
-/// The clock, the pump and the catch-up worker have a seat each.
-const SEATS_BESIDE_WORKERS: usize = 3;
-
 /// Reads the configuration, makes the registry and its seats, listens, serves, and closes. It ends at the first
 /// fault.
 pub(crate) fn host<R>(rt: R) -> Result<(), HostFault>
@@ -38,11 +35,7 @@ where
     let mut config = configured(&rt, alloc)?;
     let tenants = mem::replace(&mut config.tenants, Vec::new(alloc));
     let mut registry = Registry::new(alloc, tenants, config.segments).map_err(refused)?;
-    let seats = seats(
-        alloc,
-        &mut registry,
-        config.workers.saturating_add(SEATS_BESIDE_WORKERS),
-    )?;
+    let seats = seats(alloc, &mut registry, config.seats())?;
     let listening = Sessions::listen(&rt, &config)?;
     let Ok(address) = listening.address() else {
         return Err(HostFault::Io);

@@ -1,4 +1,5 @@
 //! What the server is told at its start.
+use crate::crew::Role;
 use etcd_types::limits::{DEFAULT_SEGMENTS, MAX_CONFIG, MAX_WORKERS};
 use gateway_json::read_unsigned;
 use serde_json::Value;
@@ -20,6 +21,14 @@ pub struct Config {
     /// How many connections are served before the end; without it there is none.
     pub connections: Option<u32>,
     pub tenants: Vec<TenantConfig>,
+}
+
+impl Config {
+    /// How many seats `Sessions::serve` is to be given: one for each worker, and for the clock, the pump and the
+    /// catch-up worker.
+    pub fn seats(&self) -> usize {
+        self.workers.saturating_add(Role::BESIDE_WORKERS)
+    }
 }
 
 /// Why there is no configuration.

@@ -98,7 +98,7 @@ where
 
 /// What a thread of the crew does.
 #[derive(Clone, Copy, Debug, PartialEq, Eq)]
-enum Role {
+pub(crate) enum Role {
     Clock,
     Pump,
     CatchUp,
@@ -107,7 +107,7 @@ enum Role {
 
 impl Role {
     /// How many are no workers.
-    const BESIDE_WORKERS: usize = 3;
+    pub(crate) const BESIDE_WORKERS: usize = 3;
 
     /// The role of the seat at a place.
     fn at(place: usize) -> Role {

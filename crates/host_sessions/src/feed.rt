@@ -86,8 +86,8 @@ impl Outlet {
         self.texts.is_closed()
     }
 
-    /// There may be more: the client calls for it when it has taken its text. If it has done so already,
-    /// that is told, since it did not call.
+    /// There may be more: the client calls for it when it has read its text. If it has done so already, that is
+    /// told, since it did not call.
     pub(crate) fn owe(&self) -> bool {
         self.is_owed.store(true, Ordering::SeqCst);
         self.is_awaited()
