@@ -8,6 +8,7 @@ pub mod Inserted
 pub mod Loans
 pub mod Records
 pub mod Rewriting
+pub mod Rooms
 pub mod Starting
 pub mod Storing
 pub mod Tables

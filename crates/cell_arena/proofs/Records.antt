@@ -173,12 +173,13 @@ seen_free t seen is = sym (ap (λ (h : RegionState). h.free) is)
 -- what is seen of the segments is what the table has of them
 pub seen_share : (t : Table) (seen : RegionState) → IsTable t → region_of t ≡ seen → KeepsShare (share_of t) seen.share
 seen_share t seen table is = record {
+  rooms = sym (ap (λ (h : RegionState). h.share.rooms) is);
   reserved = sym (ap (λ (h : RegionState). h.share.reserved) is);
   drawn = sym (ap (λ (h : RegionState). h.share.drawn) is) ∙ sym table.busy;
 }
 
 pub share_seen : (t : Table) → IsTable t → KeepsShare (share_of t) (region_of t).share
-share_seen t table = record { reserved = refl; drawn = sym table.busy }
+share_seen t table = record { rooms = refl; reserved = refl; drawn = sym table.busy }
 
 -- a loan is lent and settled as it is seen
 pub seen_lent : (t : Table) (seen : RegionState) (l : Loan) → IsTable t → region_of t ≡ seen → IsLent seen.share l → IsLent (share_of t) l
@@ -189,6 +190,7 @@ seen_lent t seen l table is lent = let e = seen_share t seen table is in record 
 
 pub seen_settles : (t u : Table) (seen : RegionState) (k l : Loan) → IsTable t → IsTable u → region_of t ≡ seen → Settles (share_of t) k (share_of u) l → Settles seen.share k (region_of u).share l
 seen_settles t u seen k l table after is settles = let e = seen_share t seen table is in let f = share_seen u after in record {
+  rooms = settles.rooms ∙ sym e.rooms;
   reserved = omega (arith, settles.reserved, e.reserved);
   left = omega (arith, settles.left, e.drawn, f.drawn);
   room = omega (arith, settles.room, e.drawn, f.drawn);

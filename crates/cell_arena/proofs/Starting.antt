@@ -116,9 +116,9 @@ bare_sound t table all = record {
     no_link : (i n : ℕ) → link_of (table_at t i) ≡ Some n → ⊥
     no_link i n names = let none = ap link_of (bare_cell t all i) in cc
 
-pub bare_held : (t : Table) (cells : ℕ) → IsTable t → AllBare t.slots.items → t.reserved ≡ cells / 64 → t.drawn ≡ 0 → t.used ≡ 0 → cells % 64 ≡ 0 → region_of t ≡ no_records cells
-bare_held t cells table all reserved drawn used whole =
+pub bare_held : (t : Table) (cells : ℕ) → IsTable t → AllBare t.slots.items → t.reserved ≡ cells / 64 → length t.slots.items ≡ cells / 64 → t.drawn ≡ 0 → t.used ≡ 0 → cells % 64 ≡ 0 → region_of t ≡ no_records cells
+bare_held t cells table all reserved rooms drawn used whole =
     let records : (region_of t).records ≡ empty = empty_is (region_of t).records (λ q. get_held t q ∙ ap (record_of (table_at t)) (bare_cell t all q)) in
     let free : 64 * t.reserved - t.used ≡ cells = omega (arith, reserved, used, whole) in
     let none : sum_by busy_of t.slots.items ≡ 0 = sym table.busy ∙ drawn in
-    λ i. record { records = records i; free = free i; share = record { reserved = reserved i; drawn = none i } }
+    λ i. record { records = records i; free = free i; share = record { rooms = rooms i; reserved = reserved i; drawn = none i } }

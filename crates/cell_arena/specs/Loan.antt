@@ -15,21 +15,40 @@ pub record Draws (old new : Loan) : Type 0 where
   pub room : new.room ≡ old.room + 1
   pub others : new.others ≡ old.others
 
--- what a region has of its source: how many segments are reserved, and how many of these are drawn
+-- what a region has of its source: for how many segments it has rooms, how many are reserved, and how many
+-- of these are drawn
 pub record Share : Type 0 where
+  pub rooms : ℕ
   pub reserved : ℕ
   pub drawn : ℕ
 
 abbrev pub share_code : Coded Share
 share_code =
-    code_by (ℕ × ℕ) (coded× coded_ℕ coded_ℕ)
-    (λ s. (s.reserved, s.drawn))
-    (λ p. record { reserved = p.0; drawn = p.1 })
+    code_by (ℕ × (ℕ × ℕ)) (coded× coded_ℕ (coded× coded_ℕ coded_ℕ))
+    (λ s. (s.rooms, (s.reserved, s.drawn)))
+    (λ p. record { rooms = p.0; reserved = p.1.0; drawn = p.1.1 })
     (λ _. refl)
 
--- so many are reserved, and none is drawn
+-- so many are reserved, with as many rooms, and none is drawn
 abbrev pub undrawn : ℕ → Share
-undrawn segments = record { reserved = segments; drawn = 0 }
+undrawn segments = record { rooms = segments; reserved = segments; drawn = 0 }
+
+-- with rooms for so many segments at least
+abbrev pub with_rooms : ℕ → Share → Share
+with_rooms segments share = record share { rooms = max share.rooms segments }
+
+-- with so many reserved
+abbrev pub with_reserved : ℕ → Share → Share
+with_reserved segments share = record share { reserved = segments }
+
+-- all that were drawn are given back
+abbrev pub returned : Share → Share
+returned share = record share { drawn = 0 }
+
+-- so many can be reserved: there are rooms for them, and those that are drawn are among them
+pub record CanReserve (segments : ℕ) (share : Share) : Type 0 where
+  pub rooms : segments ≤ share.rooms
+  pub drawn : share.drawn ≤ segments
 
 -- What a call asks of a loan: what is reserved and not drawn may be drawn, and what is drawn may be
 -- given back.
@@ -37,9 +56,10 @@ pub record IsLent (share : Share) (loan : Loan) : Type 0 where
   pub left : loan.left + share.drawn ≡ share.reserved
   pub room : share.drawn ≤ loan.room
 
--- What a call leaves of a loan: the reservation stays, each segment that was drawn or given back
+-- What a call leaves of a loan: rooms and reservation stay, each segment that was drawn or given back
 -- counts on both sides, and nothing else of the source changes. So what was lent is lent still.
 pub record Settles (old : Share) (from : Loan) (new : Share) (to : Loan) : Type 0 where
+  pub rooms : new.rooms ≡ old.rooms
   pub reserved : new.reserved ≡ old.reserved
   pub left : to.left + new.drawn ≡ from.left + old.drawn
   pub room : to.room + old.drawn ≡ from.room + new.drawn
@@ -47,6 +67,7 @@ pub record Settles (old : Share) (from : Loan) (new : Share) (to : Loan) : Type 
 
 -- as many segments are reserved and drawn as before
 pub record KeepsShare (old new : Share) : Type 0 where
+  pub rooms : new.rooms ≡ old.rooms
   pub reserved : new.reserved ≡ old.reserved
   pub drawn : new.drawn ≡ old.drawn
 

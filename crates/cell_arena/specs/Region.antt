@@ -11,11 +11,11 @@ use Rattle.cell_arena.specs.declared.cell.Kind.TheVariants.{Put, Delete, Lease}
 use Rattle.cell_arena.specs.declared.cell.Fields.{Fields}
 use Rattle.cell_arena.specs.declared.table.Table.{Table}
 use Rattle.cell_arena.specs.Chain.{IsLinked, record_at, Record, pieces}
-use Rattle.cell_arena.specs.Loan.{Share, share_code, undrawn}
+use Rattle.cell_arena.specs.Loan.{Share, share_code, undrawn, with_rooms, with_reserved}
 use Rattle.cell_arena.specs.Table.{IsTable, table_at, busy_of}
 
--- the records by their head cells, how many cells are free of those reserved, and how many segments
--- are reserved and drawn: the drawn ones are those with a cell in use
+-- the records by their head cells, how many cells are free of those reserved, and the region's rooms and
+-- segments: the drawn ones are those with a cell in use
 pub record RegionState : Type 0 where
   pub records : FinMap nat_cmp Record
   pub free : ℕ
@@ -87,12 +87,28 @@ abbrev pub region_of : Table → RegionState
 region_of t = record {
   records = records_of (table_at t) (64 * length t.slots.items);
   free = 64 * t.reserved - t.used;
-  share = record { reserved = t.reserved; drawn = sum_by busy_of t.slots.items };
+  share = record {
+    rooms = length t.slots.items;
+    reserved = t.reserved;
+    drawn = sum_by busy_of t.slots.items;
+  };
 }
 
 -- how many cells are in use
 abbrev pub used_cells : RegionState → ℕ
 used_cells held = 64 * held.share.reserved - held.free
+
+-- with rooms for so many segments at least
+abbrev pub roomier : ℕ → RegionState → RegionState
+roomier segments held = record held { share = with_rooms segments held.share }
+
+-- with so many cells reserved, of which those in use are not free
+abbrev pub with_cells : ℕ → RegionState → RegionState
+with_cells cells held = record {
+  records = held.records;
+  free = cells - used_cells held;
+  share = with_reserved (cells / 64) held.share;
+}
 
 pub record IsRegion (t : Table) : Type 0 where
   pub table : IsTable t

@@ -62,11 +62,23 @@ pub record IsTable (t : Table) : Type 0 where
 abbrev pub HasCells : Table → ℕ → Type 0
 HasCells t cells = t.used + cells ≤ 64 * t.reserved
 
--- how many segments are reserved and drawn
+-- its rooms, and how many segments are reserved and drawn
 abbrev pub share_of : Table → Share
-share_of t = record { reserved = t.reserved; drawn = t.drawn }
+share_of t = record { rooms = length t.slots.items; reserved = t.reserved; drawn = t.drawn }
 
 -- one more is drawn
 pub record DrawsOne (old new : Share) : Type 0 where
+  pub rooms : new.rooms ≡ old.rooms
   pub reserved : new.reserved ≡ old.reserved
   pub drawn : new.drawn ≡ old.drawn + 1
+
+-- every number stands for the cell that it stood for
+abbrev pub SameCells : Table → Table → Type 0
+SameCells old new = (n : ℕ) → table_at new n ≡ table_at old n
+
+-- one more slot, and nothing else
+pub record OpensSlot (old new : Table) : Type 0 where
+  pub slots : length new.slots.items ≡ length old.slots.items + 1
+  pub reserved : new.reserved ≡ old.reserved
+  pub drawn : new.drawn ≡ old.drawn
+  pub used : new.used ≡ old.used

@@ -9,6 +9,7 @@
 mod cell;
 mod chain;
 mod copying;
+mod growing;
 mod link;
 mod order;
 mod part;

@@ -7,14 +7,15 @@ ghost use Rattle.std.specs.FinMap as map;
 ghost use Rattle.cell_arena.specs.declared.cell.Kind.{Kind};
 ghost use Rattle.cell_arena.specs.Chain.{pieces as cells_for};
 ghost use Rattle.cell_arena.specs.Loan.{IsLent, Settles, KeepsShare, DrawsFor, DrawsNone, IsBusy};
-ghost use Rattle.cell_arena.specs.Region.{record_cost, no_records, used_cells, IsFrontOf};
+ghost use Rattle.cell_arena.specs.Loan.{CanReserve, returned};
+ghost use Rattle.cell_arena.specs.Region.{record_cost, no_records, roomier, used_cells, with_cells, IsFrontOf};
 
 use crate::cell::{Fields, Kind};
 use crate::link::Link;
 use crate::segments::Segments;
 use crate::sink::Sink;
 use crate::table::{self, Table};
-use crate::{chain, copying, reading};
+use crate::{chain, copying, growing, reading};
 use etcd_types::{CellNo, Mem};
 use std::alloc::Global;
 use std::cmp::Ordering;
@@ -133,6 +134,40 @@ impl Region {
         ensures busy { IsBusy (used_cells self.new) self.new.share }
     {
         chain::release(&mut self.table, segments, cell);
+    }
+
+    /// How many segments are drawn: those with a cell in use.
+    pub fn drawn(&self) -> u32
+        ensures { result ≡ self.now.share.drawn }
+    {
+        self.table.drawn
+    }
+
+    /// Makes rooms for so many cells, which are 64 for each segment. Where no memory is found, nothing has
+    /// changed.
+    pub fn grow_rooms(&mut self, cells: u32) -> Mem<()>
+        requires few { cells ≤ 2 ^ 20 }
+        ensures ok { OnOk result (self.new ≡ roomier (cells / 64) self.old) }
+        ensures err { OnErr result (self.new ≡ self.old) }
+    {
+        growing::grow(&mut self.table, cells / 64)
+    }
+
+    /// Reserves so many cells in the place of those that are. The records stay as they are.
+    pub fn set_cells(&mut self, cells: u32)
+        requires whole { cells % 64 ≡ 0 }
+        requires can { CanReserve (cells / 64) self.old.share }
+        ensures { self.new ≡ with_cells cells self.old }
+    {
+        self.table.reserved = cells / 64;
+    }
+
+    /// Gives all segments back, with whatever they hold.
+    pub fn give_up<S: Segments>(self, segments: &mut S)
+        requires lent { IsLent self.share (S.loan segments.old) }
+        ensures settles { Settles self.share (S.loan segments.old) (returned self.share) (S.loan segments.new) }
+    {
+        growing::give_up(self.table, segments);
     }
 
     /// Whether a record begins at the cell.

@@ -1,4 +1,4 @@
-use Rattle.std.proofs.Common.{◌≡◌, Some, arith}
+use Rattle.std.proofs.Common.{◌≡◌, Some, sym, ◌∙◌, arith}
 use Rattle.std.specs.FinMap.{insert}
 use Rattle.cell_arena.specs.Chain.{Record, record_at}
 use Rattle.cell_arena.specs.Table.{table_at}
@@ -20,6 +20,7 @@ pub returns-clause-share : goal.returns-clause-share
 returns-clause-share c =
     let e = seen_share c.self.inside.table _ c.self.invariant.table c.self.view_is in
     record {
+      rooms = c.set_older.ensures.share.rooms ∙ sym e.rooms;
       reserved = omega (arith, e.reserved, c.set_older.ensures.share.reserved);
       drawn = omega (arith, c.set_older.ensures.table.busy, e.drawn, c.set_older.ensures.share.drawn);
     }

@@ -1,0 +1,174 @@
+-- A table with more slots, and one that gives all its segments back.
+use Rattle.std.proofs.Common.{◌≡◌, ℕ, zero, suc, ◌+◌, ◌-◌, ◌*◌, ◌/◌, ◌%◌, ◌<◌, ◌≤◌, ◌^◌, List, [], ◌∷◌, ◌++◌, length, map, get_or, sum_by, refl, sym, ap, ◌∙◌, inl, inr, ◌⊎◌, arith, subst}
+use Rattle.std.proofs.lemmas.Bool.{cases_eq, cases_lt}
+use Rattle.std.proofs.lemmas.List.{length_push, get_or_push, get_or_append_left}
+use Rattle.std.proofs.lemmas.List.Sums.{sum_by-cons}
+use Rattle.std.specs.Ordering.{nat_cmp}
+use Rattle.std.specs.Cmp.{nat_cmp_total}
+use Rattle.std.specs.FinMap.{same_map, nat_cmp-IsAntisymmetric}
+use Rattle.cell_arena.specs.declared.cell.Cell.{Cell}
+use Rattle.cell_arena.specs.declared.order.Order.{Order}
+use Rattle.cell_arena.specs.declared.slot.Slot.{Slot}
+use Rattle.cell_arena.specs.declared.table.Table.{Table}
+use Rattle.cell_arena.specs.Chain.{IsBare, IsLinked, cell_at, record_at}
+use Rattle.cell_arena.specs.Loan.{Share, with_rooms}
+use Rattle.cell_arena.specs.Order.{IsOrder, count_of, place_of}
+use Rattle.cell_arena.specs.Region.{IsRegion, region_of, roomier, with_cells}
+use Rattle.cell_arena.specs.Table.{IsTable, IsSlot, OpensSlot, SameCells, slot_cells, hidden, share_of, table_at, free_of, used_of, busy_of}
+use Rattle.cell_arena.proofs.Records.{get_held}
+use Rattle.cell_arena.proofs.Tables.{none_listed}
+
+-- the next number, in the last place
+pub pushed_order : (o p : Order) → IsOrder o → p.order.items ≡ o.order.items ++ count_of o ∷ [] → p.place.items ≡ o.place.items ++ count_of o ∷ [] → IsOrder p
+pushed_order o p was order place =
+    let more : count_of p ≡ count_of o + 1 = ap length order ∙ length_push o.order.items (count_of o) in
+    let wider : length p.place.items ≡ count_of o + 1 = ap length place ∙ length_push o.place.items (count_of o) ∙ ap (λ n. n + 1) was.size in
+    record {
+      size = wider ∙ sym more;
+      at = λ i less. by_at i (omega (arith, more)) (cases_eq i (count_of o));
+      back = λ i less. by_back i (omega (arith, more)) (cases_eq i (count_of o));
+      of = λ q less. by_of q (omega (arith, more)) (cases_eq q (count_of o));
+      there = λ q less. by_there q (omega (arith, more)) (cases_eq q (count_of o));
+    }
+  where
+    more : count_of p ≡ count_of o + 1
+    more = ap length order ∙ length_push o.order.items (count_of o)
+
+    number : (i : ℕ) → i < count_of o → get_or p.order.items i 0 ≡ get_or o.order.items i 0
+    number i less = ap (λ xs. get_or xs i 0) order ∙ get_or_append_left o.order.items (count_of o ∷ []) 0 i less
+
+    last_number : get_or p.order.items (count_of o) 0 ≡ count_of o
+    last_number = ap (λ xs. get_or xs (count_of o) 0) order ∙ get_or_push o.order.items (count_of o) 0 (count_of o) refl
+
+    placed : (q : ℕ) → q < count_of o → get_or p.place.items q 0 ≡ get_or o.place.items q 0
+    placed q less = ap (λ xs. get_or xs q 0) place ∙ get_or_append_left o.place.items (count_of o ∷ []) 0 q (omega (arith, was.size))
+
+    last_place : get_or p.place.items (count_of o) 0 ≡ count_of o
+    last_place = ap (λ xs. get_or xs (count_of o) 0) place ∙ get_or_push o.place.items (count_of o) 0 (count_of o) was.size
+
+    by_at : (i : ℕ) → i < count_of o + 1 → (i ≡ count_of o) ⊎ (i ≡ count_of o → ⊥) → get_or p.order.items i 0 < count_of p
+    by_at i less (inl same) = omega (arith, ap (λ k. get_or p.order.items k 0) same, last_number, more)
+    by_at i less (inr other) = omega (arith, number i (omega arith), was.at i (omega arith), more)
+
+    by_back : (i : ℕ) → i < count_of o + 1 → (i ≡ count_of o) ⊎ (i ≡ count_of o → ⊥) → get_or p.place.items (get_or p.order.items i 0) 0 ≡ i
+    by_back i less (inl same) = ap (λ k. get_or p.place.items (get_or p.order.items k 0) 0) same ∙ ap (λ k. get_or p.place.items k 0) last_number ∙ last_place ∙ sym same
+    by_back i less (inr other) = ap (λ k. get_or p.place.items k 0) (number i (omega arith)) ∙ placed (get_or o.order.items i 0) (was.at i (omega arith)) ∙ was.back i (omega arith)
+
+    by_of : (q : ℕ) → q < count_of o + 1 → (q ≡ count_of o) ⊎ (q ≡ count_of o → ⊥) → get_or p.place.items q 0 < count_of p
+    by_of q less (inl same) = omega (arith, ap (λ k. get_or p.place.items k 0) same, last_place, more)
+    by_of q less (inr other) = omega (arith, placed q (omega arith), was.of q (omega arith), more)
+
+    by_there : (q : ℕ) → q < count_of o + 1 → (q ≡ count_of o) ⊎ (q ≡ count_of o → ⊥) → get_or p.order.items (get_or p.place.items q 0) 0 ≡ q
+    by_there q less (inl same) = ap (λ k. get_or p.order.items (get_or p.place.items k 0) 0) same ∙ ap (λ k. get_or p.order.items k 0) last_place ∙ last_number ∙ sym same
+    by_there q less (inr other) = ap (λ k. get_or p.order.items k 0) (placed q (omega arith)) ∙ number (get_or o.place.items q 0) (was.of q (omega arith)) ∙ was.there q (omega arith)
+
+pushed_cells : (slots : List Slot) (bare : Slot) → IsBare bare → (k : ℕ) → get_or (map slot_cells (slots ++ bare ∷ [])) k [] ≡ get_or (map slot_cells slots) k []
+pushed_cells [] bare is zero = is.cells
+pushed_cells [] bare is (suc k) = refl
+pushed_cells (s ∷ slots) bare is zero = refl
+pushed_cells (s ∷ slots) bare is (suc k) = pushed_cells slots bare is k
+
+-- a slot without a segment has no cell
+pub opened_cells : (t u : Table) (bare : Slot) → IsBare bare → u.slots.items ≡ t.slots.items ++ bare ∷ [] → SameCells t u
+opened_cells t u bare is slots n =
+    ap (λ (xs : List Slot). hidden (cell_at (get_or (map slot_cells xs) (n / 64) []) (n % 64))) slots
+    ∙ ap (λ cells. hidden (cell_at cells (n % 64))) (pushed_cells t.slots.items bare is (n / 64))
+
+pushed_sum : (f : Slot → ℕ) (slots : List Slot) (bare : Slot) → f bare ≡ 0 → sum_by f (slots ++ bare ∷ []) ≡ sum_by f slots
+pushed_sum f [] bare none = sum_by-cons f bare [] ∙ omega (arith, none)
+pushed_sum f (s ∷ slots) bare none = sum_by-cons f s (slots ++ bare ∷ []) ∙ ap (λ n. f s + n) (pushed_sum f slots bare none) ∙ sym (sum_by-cons f s slots)
+
+-- a table with one more slot
+pub opened_table : (t u : Table) (bare : Slot) → IsTable t → IsBare bare → length t.slots.items < 2 ^ 14 → u.slots.items ≡ t.slots.items ++ bare ∷ [] → IsOrder u.order → count_of u.order ≡ count_of t.order + 1 → place_of u.order (count_of t.order) ≡ count_of t.order → ((q : ℕ) → q < count_of t.order → place_of u.order q ≡ place_of t.order q) → u.ready ≡ t.ready → u.drawn ≡ t.drawn → u.reserved ≡ t.reserved → u.used ≡ t.used → IsTable u
+opened_table t u bare was is few slots order count last places ready drawn reserved used =
+    record {
+      few = omega (arith, long);
+      order = order;
+      size = omega (arith, count, was.size, long);
+      ready = omega (arith, ready, drawn, was.ready);
+      drawn = omega (arith, drawn, reserved, was.drawn);
+      reserved = omega (arith, reserved, long, was.reserved);
+      slots = λ s slot less read. by_slot s slot (omega (arith, long)) (sym (ap (λ (xs : List Slot). get_or xs s slot) slots) ∙ read) (cases_eq s (length t.slots.items));
+      busy = drawn ∙ was.busy ∙ sym (ap (sum_by busy_of) slots ∙ pushed_sum busy_of t.slots.items bare (omega (arith, none_in)));
+      held = used ∙ was.held ∙ sym (ap (sum_by used_of) slots ∙ pushed_sum used_of t.slots.items bare none_in);
+      used = omega (arith, used, drawn, was.used, ap (sum_by free_of) slots ∙ pushed_sum free_of t.slots.items bare is.free);
+    }
+  where
+    long : length u.slots.items ≡ length t.slots.items + 1
+    long = ap length slots ∙ length_push t.slots.items bare
+
+    none_in : used_of bare ≡ 0
+    none_in = omega (arith, ap length is.cells)
+
+    by_slot : (s : ℕ) (slot : Slot) → s < length t.slots.items + 1 → get_or (t.slots.items ++ bare ∷ []) s slot ≡ slot → (s ≡ length t.slots.items) ⊎ (s ≡ length t.slots.items → ⊥) → IsSlot u.ready u.drawn (place_of u.order s) slot
+    by_slot s slot less read (inl same) =
+        let it : slot ≡ bare = sym read ∙ get_or_push t.slots.items bare slot s (sym same) in
+        let place : place_of u.order s ≡ length t.slots.items = ap (place_of u.order) (same ∙ sym was.size) ∙ last ∙ was.size in
+        subst (IsSlot u.ready u.drawn (place_of u.order s)) (sym it) (record {
+          listed = none_listed bare is.cells is.first is.free;
+          empty = λ h. ap length is.cells;
+          whole = λ h. absurd (omega (arith, place, drawn, was.drawn, was.reserved));
+          used = λ h. absurd (omega (arith, place, drawn, was.drawn, was.reserved));
+          spare = λ h. absurd (omega (arith, place, ready, was.ready, was.drawn, was.reserved));
+          full = λ h. is.free;
+        })
+    by_slot s slot less read (inr other) =
+        let old = was.slots s slot (omega arith) (sym (get_or_append_left t.slots.items (bare ∷ []) slot s (omega arith)) ∙ read) in
+        let place : place_of u.order s ≡ place_of t.order s = places s (omega (arith, was.size)) in
+        record {
+          listed = old.listed;
+          empty = λ h. old.empty (omega (arith, place, drawn));
+          whole = λ h. old.whole (omega (arith, place, drawn));
+          used = λ h. old.used (omega (arith, place, drawn));
+          spare = λ h. old.spare (omega (arith, place, ready));
+          full = λ h. old.full (omega (arith, place, ready));
+        }
+
+-- ---- a region
+
+-- the same cells are the same records
+pub grown_region : (t u : Table) → IsRegion t → IsTable u → SameCells t u → IsRegion u
+grown_region t u was table same = record {
+  table = table;
+  linked = subst IsLinked (sym all) was.linked;
+}
+  where
+    all : table_at u ≡ table_at t
+    all = λ i n. same n i
+
+same_records : (t u : Table) → SameCells t u → (region_of u).records ≡ (region_of t).records
+same_records t u same =
+    same_map nat_cmp_total nat_cmp-IsAntisymmetric (region_of u).records (region_of t).records (λ q. get_held u q ∙ ap (λ at. record_at at q) all ∙ sym (get_held t q))
+  where
+    all : table_at u ≡ table_at t
+    all = λ i n. same n i
+
+-- with more rooms, and the same cells
+pub grown_held : (t u : Table) (slots : ℕ) → IsTable t → IsTable u → SameCells t u → u.used ≡ t.used → share_of u ≡ with_rooms slots (share_of t) → region_of u ≡ roomier slots (region_of t)
+grown_held t u slots was table same used share =
+    let records = same_records t u same in
+    let rooms : length u.slots.items ≡ (with_rooms slots (region_of t).share).rooms = ap (λ (s : Share). s.rooms) share in
+    let reserved : u.reserved ≡ t.reserved = ap (λ (s : Share). s.reserved) share in
+    let drawn : sum_by busy_of u.slots.items ≡ sum_by busy_of t.slots.items = sym table.busy ∙ ap (λ (s : Share). s.drawn) share ∙ was.busy in
+    let free : 64 * u.reserved - u.used ≡ 64 * t.reserved - t.used = omega (arith, reserved, used) in
+    λ i. record { records = records i; free = free i; share = record { rooms = rooms i; reserved = reserved i; drawn = drawn i } }
+
+pub kept_held : (t u : Table) → IsTable t → IsTable u → SameCells t u → u.used ≡ t.used → share_of u ≡ share_of t → region_of u ≡ region_of t
+kept_held t u was table same used share =
+    let records = same_records t u same in
+    let rooms : length u.slots.items ≡ length t.slots.items = ap (λ (s : Share). s.rooms) share in
+    let reserved : u.reserved ≡ t.reserved = ap (λ (s : Share). s.reserved) share in
+    let drawn : sum_by busy_of u.slots.items ≡ sum_by busy_of t.slots.items = sym table.busy ∙ ap (λ (s : Share). s.drawn) share ∙ was.busy in
+    let free : 64 * u.reserved - u.used ≡ 64 * t.reserved - t.used = omega (arith, reserved, used) in
+    λ i. record { records = records i; free = free i; share = record { rooms = rooms i; reserved = reserved i; drawn = drawn i } }
+
+-- ---- all segments are given back
+
+-- a slot with cells has all of a segment, and counts as drawn
+pub full_slot : (t : Table) (s : ℕ) (slot : Slot) → IsTable t → s < length t.slots.items → get_or t.slots.items s slot ≡ slot → 0 < length slot.cells.items → (length slot.cells.items ≡ 64) × (busy_of slot ≡ 1)
+full_slot t s slot was less read some =
+    let is = was.slots s slot less read in
+    elim (cases_lt (place_of t.order s) t.drawn) [
+      | inl below ↦ (is.whole below, omega (arith, is.whole below, is.used below))
+      | inr above ↦ absurd (omega (arith, is.empty above))
+    ]
