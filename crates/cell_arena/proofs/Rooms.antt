@@ -1,20 +1,18 @@
 -- A table with more slots, and one that gives all its segments back.
-use Rattle.std.proofs.Common.{◌≡◌, ℕ, zero, suc, ◌+◌, ◌-◌, ◌*◌, ◌/◌, ◌%◌, ◌<◌, ◌≤◌, ◌^◌, List, [], ◌∷◌, ◌++◌, length, map, get_or, sum_by, refl, sym, ap, ◌∙◌, inl, inr, ◌⊎◌, arith, subst}
+use Rattle.std.proofs.Common.{◌≡◌, ℕ, zero, suc, ◌+◌, ◌-◌, ◌*◌, ◌/◌, ◌%◌, ◌<◌, ◌^◌, List, [], ◌∷◌, ◌++◌, length, map, get_or, sum_by, refl, sym, ap, ◌∙◌, inl, inr, ◌⊎◌, arith, subst}
 use Rattle.std.proofs.lemmas.Bool.{cases_eq, cases_lt}
 use Rattle.std.proofs.lemmas.List.{length_push, get_or_push, get_or_append_left}
 use Rattle.std.proofs.lemmas.List.Sums.{sum_by-cons}
-use Rattle.std.specs.Ordering.{nat_cmp}
 use Rattle.std.specs.Cmp.{nat_cmp_total}
 use Rattle.std.specs.FinMap.{same_map, nat_cmp-IsAntisymmetric}
-use Rattle.cell_arena.specs.declared.cell.Cell.{Cell}
 use Rattle.cell_arena.specs.declared.order.Order.{Order}
 use Rattle.cell_arena.specs.declared.slot.Slot.{Slot}
 use Rattle.cell_arena.specs.declared.table.Table.{Table}
 use Rattle.cell_arena.specs.Chain.{IsBare, IsLinked, cell_at, record_at}
 use Rattle.cell_arena.specs.Loan.{Share, with_rooms}
 use Rattle.cell_arena.specs.Order.{IsOrder, count_of, place_of}
-use Rattle.cell_arena.specs.Region.{IsRegion, region_of, roomier, with_cells}
-use Rattle.cell_arena.specs.Table.{IsTable, IsSlot, OpensSlot, SameCells, slot_cells, hidden, share_of, table_at, free_of, used_of, busy_of}
+use Rattle.cell_arena.specs.Region.{IsRegion, region_of, roomier}
+use Rattle.cell_arena.specs.Table.{IsTable, IsSlot, SameCells, slot_cells, hidden, share_of, table_at, free_of, used_of, busy_of}
 use Rattle.cell_arena.proofs.Records.{get_held}
 use Rattle.cell_arena.proofs.Tables.{none_listed}
 

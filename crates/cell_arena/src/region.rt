@@ -157,7 +157,8 @@ impl Region {
     pub fn set_cells(&mut self, cells: u32)
         requires whole { cells % 64 ≡ 0 }
         requires can { CanReserve (cells / 64) self.old.share }
-        ensures { self.new ≡ with_cells cells self.old }
+        ensures cells { self.new ≡ with_cells cells self.old }
+        ensures fits { used_cells self.old ≤ cells }
     {
         self.table.reserved = cells / 64;
     }

@@ -1,4 +1,4 @@
-use Rattle.std.proofs.Common.{ap, ◌≡◌, ◌+◌, ◌-◌, ◌∙◌, subst, arith}
+use Rattle.std.proofs.Common.{◌≡◌, ◌+◌, ◌-◌, ◌∙◌, subst, arith}
 use Rattle.cell_arena.specs.Order.{HasRoom}
 use Rattle.cell_arena.proofs.growing.grow.Goals as goal
 
