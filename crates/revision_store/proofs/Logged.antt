@@ -1,5 +1,6 @@
 -- A log with nothing, with one change more, and with one lease more or fewer.
 use Rattle.std.proofs.Common.{◌≡◌, ℕ, ◌+◌, ◌%◌, ◌^◌, ◌<◌, ◌≤◌, List, [], ◌∷◌, ◌++◌, length, Option, Some, None, IsSome, sym, ap, ◌∙◌, refl, subst, arith, inl, inr}
+use Rattle.std.proofs.Math.Nat.{le_refl}
 use Rattle.std.specs.Prelude.{option_and_then, option_map}
 use Rattle.std.specs.Ordering.{nat_cmp}
 use Rattle.std.specs.FinMap.{get, get-empty}
@@ -68,6 +69,7 @@ empty_is_log cells room places whole few has_room has_places = record {
   };
   space = omega (arith, whole);
   most = omega (arith, few);
+  reserved = le_refl _;
   index_capacity = omega (arith, has_room);
   order_capacity = omega (arith, has_places);
 }
@@ -114,10 +116,10 @@ module _ {r0 : RegionState} (r1 : RegionState) {heads0 : Heads} {order : List �
 
   -- each of the places is of a cell in use
   pub order_fits : length order < places
-  order_fits = omega (arith, order_few (cells_of r0.records) order log.all.some, some_cells new_change, free1, log.space, log.order_capacity)
+  order_fits = omega (arith, order_few (cells_of r0.records) order log.all.some, some_cells new_change, free1, log.space, log.reserved, log.order_capacity)
 
   pub heads_fit : length heads0.cells < heads0.capacity
-  heads_fit = omega (arith, heads_few (cells_of r0.records) heads0.cells order log.index log.all, order_few (cells_of r0.records) order log.all.some, some_cells new_change, free1, log.space, log.index_capacity)
+  heads_fit = omega (arith, heads_few (cells_of r0.records) heads0.cells order log.index log.all, order_few (cells_of r0.records) order log.all.some, some_cells new_change, free1, log.space, log.reserved, log.index_capacity)
 
   was_there : without (cells_of r1.records) c ≡ cells_of r0.records
   was_there = ap (λ (m : Cells). without m c) placed ∙ without_record (cells_of r0.records) c new_linked fresh_cell
@@ -152,9 +154,9 @@ module _ {r0 : RegionState} (r1 : RegionState) {heads0 : Heads} {order : List �
 
     pub log_more : (heads2 : Heads) → AllByRecursion (λ x. x.revision ≤ revision) (changes_in (cells_of r0.records) order)
         → IsIndexOf (cells_of r2.records) heads2.cells → IsChained (cells_of r2.records) → heads2.capacity ≡ heads0.capacity
-        → leases_of r2.records ≡ leases_of r0.records → ArePlain r2.records → r2.free ≡ r1.free → r2.share.reserved ≡ r0.share.reserved
+        → leases_of r2.records ≡ leases_of r0.records → ArePlain r2.records → r2.free ≡ r1.free → r2.share.reserved ≡ r0.share.reserved → r2.share.rooms ≡ r0.share.rooms
         → IsLog r2 heads2 (order ++ c ∷ []) places leases
-    log_more heads2 up index chained room same_leases plain same_free reserved =
+    log_more heads2 up index chained room same_leases plain same_free reserved rooms =
         let cells : record_cells (changes_in (cells_of r2.records) (order ++ c ∷ [])) ≡ record_cells (changes_in (cells_of r0.records) order ++ new_change ∷ []) = ap record_cells changes_more in
         let split = sum_by_push (λ (x : Recorded). cost (change_of x)) (changes_in (cells_of r0.records) order) new_change in
         let later : AllByRecursion (λ x. x.revision ≤ new_change.revision) (changes_in (cells_of r0.records) order) =
@@ -167,14 +169,15 @@ module _ {r0 : RegionState} (r1 : RegionState) {heads0 : Heads} {order : List �
           plain = plain;
           leases = subst (λ l. AreCounted l leases) (sym same_leases) log.leases;
           space = omega (arith, cells, split, free1, same_free, reserved, log.space);
-          most = omega (arith, reserved, log.most);
-          index_capacity = omega (arith, reserved, room, log.index_capacity);
-          order_capacity = omega (arith, reserved, log.order_capacity);
+          most = omega (arith, rooms, log.most);
+          reserved = omega (arith, reserved, rooms, log.reserved);
+          index_capacity = omega (arith, rooms, room, log.index_capacity);
+          order_capacity = omega (arith, rooms, log.order_capacity);
         }
 
 -- ---- one lease more or fewer
 
-module _ {r0 : RegionState} (r1 : RegionState) {heads : Heads} {order : List ℕ} {places leases : ℕ} (c : ℕ) (log : IsLog r0 heads order places leases) (cells : cells_of r1.records ≡ cells_of r0.records) (plain : ArePlain r1.records) (reserved : r1.share.reserved ≡ r0.share.reserved) where
+module _ {r0 : RegionState} (r1 : RegionState) {heads : Heads} {order : List ℕ} {places leases : ℕ} (c : ℕ) (log : IsLog r0 heads order places leases) (cells : cells_of r1.records ≡ cells_of r0.records) (plain : ArePlain r1.records) (reserved : r1.share.reserved ≡ r0.share.reserved) (rooms : r1.share.rooms ≡ r0.share.rooms) where
   with_counted : (now : ℕ) → AreCounted (leases_of r1.records) now → r1.free + now ≡ r0.free + leases → IsLog r1 heads order places now
   with_counted now counted space =
       let same : record_cells (changes_in (cells_of r1.records) order) ≡ record_cells (changes_in (cells_of r0.records) order) = ap (λ (m : Cells). record_cells (changes_in m order)) cells in
@@ -186,9 +189,10 @@ module _ {r0 : RegionState} (r1 : RegionState) {heads : Heads} {order : List ℕ
         plain = plain;
         leases = counted;
         space = omega (arith, same, space, reserved, log.space);
-        most = omega (arith, reserved, log.most);
-        index_capacity = omega (arith, reserved, log.index_capacity);
-        order_capacity = omega (arith, reserved, log.order_capacity);
+        most = omega (arith, rooms, log.most);
+        reserved = omega (arith, reserved, rooms, log.reserved);
+        index_capacity = omega (arith, rooms, log.index_capacity);
+        order_capacity = omega (arith, rooms, log.order_capacity);
       }
 
   pub lease_more : (l : LeaseRecord) (now : ℕ) → get r0.records c ≡ None → leases_of r1.records ≡ with_lease_cell (leases_of r0.records) c l → r1.free + 1 ≡ r0.free → now ≡ leases + 1 → IsLog r1 heads order places now

@@ -1,12 +1,12 @@
 -- The kept changes under cells, and the leases.
-use Rattle.std.specs.Prelude.{◌≡◌, ℕ, ◌+◌, ◌-◌, ◌*◌, ◌≤◌, ◌^◌, List, [], Some, refl}
+use Rattle.std.specs.Prelude.{◌≡◌, ℕ, ◌+◌, ◌-◌, ◌*◌, ◌/◌, ◌≤◌, ◌^◌, List, [], Some, refl}
 use Rattle.std.specs.Ordering.{nat_cmp}
 use Rattle.std.specs.FinMap.{FinMap}
 use Rattle.std.specs.FinMap as map
 use Rattle.std.specs.Coded.{Coded, code_by, coded×, coded_ℕ}
 use Rattle.cell_arena.specs.Chain.{Record}
 use Rattle.cell_arena.specs.Region.{RegionState, no_records, record_code}
-use Rattle.cell_arena.specs.Loan.{Share, share_code}
+use Rattle.cell_arena.specs.Loan.{Share, share_code, with_reserved, with_rooms}
 use Rattle.etcd_model.specs.Changes.{Recorded, Rises}
 use Rattle.etcd_model.specs.Store.{record_cells}
 use Rattle.key_index.specs.Links.{Cells, IsChained, change_at}
@@ -63,13 +63,25 @@ pub record IsLog (region : RegionState) (heads : Heads) (order : List ℕ) (plac
   pub leases : AreCounted (leases_of region.records) lease_cells
   pub space : region.free + record_cells (changes_in (cells_of region.records) order) + lease_cells
       ≡ 64 * region.share.reserved
-  pub most : 64 * region.share.reserved ≤ 2 ^ 20
-  pub index_capacity : 64 * region.share.reserved ≤ heads.capacity
-  pub order_capacity : 64 * region.share.reserved ≤ places
+  pub most : 64 * region.share.rooms ≤ 2 ^ 20
+  pub reserved : region.share.reserved ≤ region.share.rooms
+  pub index_capacity : 64 * region.share.rooms ≤ heads.capacity
+  pub order_capacity : 64 * region.share.rooms ≤ places
 
 -- how many cells are in use
 abbrev pub used_in : LogState → ℕ
 used_in log = 64 * log.share.reserved - log.free
+
+-- with rooms for so many segments at least
+abbrev pub log_roomier : ℕ → LogState → LogState
+log_roomier segments log = record log { share = with_rooms segments log.share }
+
+-- with so many cells reserved, of which those in use are not free
+abbrev pub log_with : ℕ → LogState → LogState
+log_with cells log = record log {
+  free = cells - used_in log;
+  share = with_reserved (cells / 64) log.share;
+}
 
 -- each change stays under its cell
 abbrev pub AllStay : Cells → Cells → Type 0

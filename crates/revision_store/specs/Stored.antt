@@ -1,5 +1,5 @@
 -- The store of a tenant, and what a plan is to it.
-use Rattle.std.specs.Prelude.{◌≡◌, ℕ, ◌+◌, ◌<◌, ◌≤◌, ◌^◌, List, map, Option, Some, option_and_then, refl}
+use Rattle.std.specs.Prelude.{◌≡◌, ℕ, ◌+◌, ◌-◌, ◌*◌, ◌/◌, ◌<◌, ◌≤◌, ◌^◌, List, map, Option, Some, option_and_then, refl}
 use Rattle.std.specs.List.{AllByRecursion}
 use Rattle.std.specs.Ordering.{nat_cmp}
 use Rattle.std.specs.FinMap.{FinMap}
@@ -7,7 +7,7 @@ use Rattle.std.specs.FinMap as map
 use Rattle.std.specs.Coded.{Coded, code_by, coded×, coded_ℕ}
 use Rattle.cell_arena.specs.Chain.{Record}
 use Rattle.cell_arena.specs.Region.{record_code}
-use Rattle.cell_arena.specs.Loan.{Share, share_code}
+use Rattle.cell_arena.specs.Loan.{Share, share_code, with_reserved, with_rooms}
 use Rattle.etcd_types.specs.declared.key_value.KeyValue.{KeyValue}
 use Rattle.etcd_model.specs.declared.state.Change.{Change}
 use Rattle.etcd_model.specs.Reads.{Reads}
@@ -54,6 +54,21 @@ store_of log current compacted = record {
 -- nothing kept, at the first revision and over so many cells
 abbrev pub empty_state : ℕ → ℕ → StoreState
 empty_state first cells = store_of (empty_log cells) first 0
+
+-- with rooms for so many segments at least
+abbrev pub roomier : ℕ → StoreState → StoreState
+roomier segments store = record store { share = with_rooms segments store.share }
+
+-- how many cells are in use
+abbrev pub used_cells : StoreState → ℕ
+used_cells store = 64 * store.share.reserved - store.free
+
+-- with so many cells reserved, of which those in use are not free
+abbrev pub with_cells : ℕ → StoreState → StoreState
+with_cells cells store = record store {
+  free = cells - used_cells store;
+  share = with_reserved (cells / 64) store.share;
+}
 
 -- the changes under their cells
 abbrev pub cells : StoreState → Cells

@@ -16,6 +16,7 @@ mod planning;
 mod ranging;
 mod reading;
 mod records;
+mod reserving;
 mod rows;
 mod sorting;
 mod space;

@@ -49,7 +49,8 @@ invariant_of-self g c =
       rises = in_order_left old new c.args.revision c.self.invariant.chained c.cut.ensures.compacted c.self.inside.order.items c.self.invariant.all c.self.invariant.rises;
       leases = counted_alike _ _ _ c.cut.ensures.rest.leases c.self.invariant.leases;
       space = omega (arith, free, c.self.invariant.space, c.cut.ensures.rest.settles.reserved);
-      most = omega (arith, c.self.invariant.most, c.cut.ensures.rest.settles.reserved);
-      index_capacity = omega (arith, c.self.invariant.index_capacity, c.cut.ensures.rest.settles.reserved, c.cut.ensures.capacity);
-      order_capacity = omega (arith, c.self.invariant.order_capacity, c.cut.ensures.rest.settles.reserved, c.retain.ensures.capacity);
+      most = omega (arith, c.self.invariant.most, c.cut.ensures.rest.settles.rooms);
+      reserved = omega (arith, c.self.invariant.reserved, c.cut.ensures.rest.settles.reserved, c.cut.ensures.rest.settles.rooms);
+      index_capacity = omega (arith, c.self.invariant.index_capacity, c.cut.ensures.rest.settles.rooms, c.cut.ensures.capacity);
+      order_capacity = omega (arith, c.self.invariant.order_capacity, c.cut.ensures.rest.settles.rooms, c.retain.ensures.capacity);
     })

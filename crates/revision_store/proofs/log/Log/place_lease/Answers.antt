@@ -17,7 +17,7 @@ invariant_of-self g c =
     lease_more c.place-cell.new.self c.place-cell.result c.self.invariant
     (lease_cells m n c.place-cell.result id c.args.ttl is c.place-cell.ensures.fresh)
     (lease_plain m n c.place-cell.result id c.args.ttl is c.self.invariant.plain)
-    c.place-cell.ensures.settles.reserved (record { id = id; ttl = c.args.ttl }) (c.self.inside.leases + 1) c.place-cell.ensures.fresh
+    c.place-cell.ensures.settles.reserved c.place-cell.ensures.settles.rooms (record { id = id; ttl = c.args.ttl }) (c.self.inside.leases + 1) c.place-cell.ensures.fresh
     (lease_leases m n c.place-cell.result id c.args.ttl is) (omega (arith, c.place-cell.ensures.free)) refl
 
 pub returns-clause-changes : goal.returns-clause-changes

@@ -18,7 +18,7 @@ invariant_of-self g c =
     lease_fewer r1 c.args.cell c.self.invariant
     (ap cells_of gone.gone ∙ cells_left r0.records c.args.cell some)
     (subst ArePlain (sym gone.gone) (plain_removed r0.records c.args.cell c.self.invariant.plain))
-    gone.settles.reserved (c.self.inside.leases - 1) some
+    gone.settles.reserved gone.settles.rooms (c.self.inside.leases - 1) some
     (ap leases_of gone.gone ∙ lease_removed r0.records c.args.cell)
     (lease_freed r0.records c.args.cell c.self.invariant.plain r0.free r1.free gone.free some)
     (omega (arith, least))

@@ -1,0 +1,80 @@
+//! Rooms for more cells, another number of reserved cells, and the end of a store.
+ghost use Rattle.std.specs.Prelude.{◌≡◌, ◌/◌, ◌%◌, ◌≤◌, ◌^◌, OnOk, OnErr};
+ghost use Rattle.cell_arena.specs.Loan.{CanReserve, IsLent, Settles, returned};
+ghost use Rattle.revision_store.specs.Logged.{log_roomier, log_with, used_in};
+ghost use Rattle.revision_store.specs.Stored.{roomier, used_cells, with_cells};
+
+use crate::log::Log;
+use crate::store::Store;
+use cell_arena::Segments;
+use etcd_types::Mem;
+
+impl Log {
+    /// Makes rooms for so many cells. The region's come last, so that it never has more than the others.
+    fn grow_rooms(&mut self, cells: u32) -> Mem<()>
+        requires few { cells ≤ 2 ^ 20 }
+        ensures ok { OnOk result (self.new ≡ log_roomier (cells / 64) self.old) }
+        ensures err { OnErr result (self.new ≡ self.old) }
+    {
+        self.index.grow_rooms(cells)?;
+        let lacking = (cells as usize).saturating_sub(self.order.len());
+        self.order.reserve_exact(lacking)?;
+        self.region.grow_rooms(cells)
+    }
+
+    /// Reserves so many cells in the place of those that are.
+    fn set_cells(&mut self, cells: u32)
+        requires whole { cells % 64 ≡ 0 }
+        requires can { CanReserve (cells / 64) self.old.share }
+        ensures cells { self.new ≡ log_with cells self.old }
+        ensures fits { used_in self.old ≤ cells }
+    {
+        self.region.set_cells(cells);
+    }
+
+    /// Gives all segments back.
+    fn give_up<S: Segments>(self, segments: &mut S)
+        requires lent { IsLent self.share (S.loan segments.old) }
+        ensures settles { Settles self.share (S.loan segments.old) (returned self.share) (S.loan segments.new) }
+    {
+        self.region.give_up(segments);
+    }
+}
+
+impl Store {
+    /// How many segments are drawn: those with a cell in use.
+    pub fn drawn(&self) -> u32
+        ensures { result ≡ self.now.share.drawn }
+    {
+        self.log.region.drawn()
+    }
+
+    /// Makes rooms for so many cells, which are 64 for each segment. What is kept stays as it is. Where no
+    /// memory is found, nothing has changed.
+    pub fn grow_rooms(&mut self, cells: u32) -> Mem<()>
+        requires few { cells ≤ 2 ^ 20 }
+        ensures ok { OnOk result (self.new ≡ roomier (cells / 64) self.old) }
+        ensures err { OnErr result (self.new ≡ self.old) }
+    {
+        self.log.grow_rooms(cells)
+    }
+
+    /// Reserves so many cells in the place of those that are. What is kept stays as it is. It takes no
+    /// memory and cannot fail.
+    pub fn set_cells(&mut self, cells: u32)
+        requires whole { cells % 64 ≡ 0 }
+        requires can { CanReserve (cells / 64) self.old.share }
+        ensures cells { self.new ≡ with_cells cells self.old }
+        ensures fits { used_cells self.old ≤ cells }
+    {
+        self.log.set_cells(cells);
+    }
+
+    /// Gives all segments back, with whatever they hold. It takes no memory and cannot fail.
+    pub fn give_up<S: Segments>(self, segments: &mut S)
+        requires lent { IsLent self.share (S.loan segments.old) }
+        ensures settles { Settles self.share (S.loan segments.old) (returned self.share) (S.loan segments.new) }
+    {
+        self.log.give_up(segments);
+    }
+}
