@@ -1,6 +1,7 @@
 //! The index.
 ghost use Rattle.std.specs.Prelude.{◌≡◌, ℕ, ◌+◌, ◌-◌, ◌<◌, ◌≤◌, List, length, slice_index, [], take};
-ghost use Rattle.std.specs.Prelude.{Option, Some, None, MatchResult, MatchOption, IfOk, vec_capacity};
+ghost use Rattle.std.specs.Prelude.{Option, Some, None, MatchResult, MatchOption, IfOk, IsOk, OnOk, OnErr};
+ghost use Rattle.std.specs.Prelude.{max, vec_capacity};
 ghost use Rattle.key_index.specs.Links.{Linked, IsChained, IsLast, IsPlaced, NoneUpTo, SameChanges};
 ghost use Rattle.key_index.specs.Links.{with_link, without};
 ghost use Rattle.key_index.specs.Compaction.{GivesBack, IsCompacted};
@@ -9,7 +10,7 @@ ghost use Rattle.key_index.specs.Index.{Heads, IsAt, IsEnd, IsFrom, IsGapFor, Is
 use crate::compaction::cut_chains;
 use crate::records::{Records, RecordsMut};
 use crate::search::{Sought, last_up_to, search};
-use etcd_types::CellNo;
+use etcd_types::{CellNo, Mem};
 use std::alloc::{AllocError, Global};
 use std::marker::Model;
 use std::ops::Range;
@@ -27,13 +28,24 @@ impl Model for KeyIndex {
 }
 
 impl KeyIndex {
-    /// For this many keys at most. No other call takes memory.
+    /// For this many keys at most. Only `grow_rooms` takes memory later.
     pub fn new(alloc: Global, capacity: usize) -> Result<KeyIndex, AllocError>
         ensures { IfOk result (λ index. index ≡ record { cells = []; capacity = capacity }) }
     {
         Ok(KeyIndex {
             heads: Vec::with_capacity(alloc, capacity)?,
         })
+    }
+
+    /// Makes room for as many keys as there are cells, or finds no memory and changes nothing. The room is
+    /// never less than before.
+    pub fn grow_rooms(&mut self, cells: u32) -> Mem<()>
+        ensures ok { OnOk result (self.new ≡ record self.old { capacity = max self.old.capacity cells }) }
+        ensures err { OnErr result (self.new ≡ self.old) }
+        ensures sure { cells ≤ self.old.capacity → IsOk result }
+    {
+        let lacking = (cells as usize).saturating_sub(self.heads.len());
+        self.heads.reserve_exact(lacking)
     }
 
     /// The newest record of each key, by ascending key.

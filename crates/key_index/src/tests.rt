@@ -1,4 +1,4 @@
-ghost use Rattle.std.specs.Prelude.{◌≡◌, ◌+◌, ◌<◌, ◌≤◌, length, [], IfOk, IsSome};
+ghost use Rattle.std.specs.Prelude.{◌≡◌, ◌+◌, ◌<◌, ◌≤◌, length, [], max, IfOk, IsSome, OnErr, OnOk};
 
 use crate::record_list::{Record, RecordList};
 use crate::{KeyIndex, Records};
@@ -81,6 +81,13 @@ impl Changes {
         self.index
             .add(&mut self.records, CellNo::at(0, place as u32));
         Ok(())
+    }
+
+    fn grow(&mut self, keys: u32) -> Mem<()>
+        ensures ok { OnOk result (self.new ≡ record self.old { capacity = max self.old.capacity keys }) }
+        ensures err { OnErr result (self.new ≡ self.old) }
+    {
+        self.index.grow_rooms(keys)
     }
 
     fn last(&self, key: &[u8], revision: u64) -> Option<CellNo> {
@@ -166,5 +173,22 @@ fn is_cut_as_told(rt: HostRuntime) -> Result<(), Fail> {
     changes.cut(9);
     assert!(rt; !changes.has(6) && changes.has(7));
     assert_eq!(rt; changes.heads(), [at(9)].as_slice());
+    Ok(())
+}
+
+/// Room for two keys grows to three, and never shrinks. The keys and their records stay, and the third finds its
+/// place.
+#[test]
+fn room_grows_and_the_keys_stay(rt: HostRuntime) -> Result<(), Fail> {
+    let mut changes = Changes::new(rt.alloc(), 2)?;
+    changes.append(&rt, rt.alloc(), b"a", row(rt.alloc()))?;
+    changes.append(&rt, rt.alloc(), b"c", row(rt.alloc()))?;
+    let grown = changes.grow(3);
+    assert_eq!(rt; changes.heads(), [at(2), at(3)].as_slice());
+    grown?;
+    changes.grow(0)?;
+    changes.append(&rt, rt.alloc(), b"b", row(rt.alloc()))?;
+    assert_eq!(rt; changes.heads(), [at(2), at(4), at(3)].as_slice());
+    assert_eq!(rt; changes.last(b"c", 9), Some(at(3)));
     Ok(())
 }
