@@ -67,6 +67,13 @@ pub record KeepsChunks {T A : Type 0} (old new old_spare new_spare : Vec (List T
   pub capacity : vec_capacity old ≤ vec_capacity new
   pub spare_capacity : vec_capacity old_spare ≤ vec_capacity new_spare
 
+-- the chunks stay, none that is spare goes, and both vectors have room for all
+pub record AddsSpares {T A : Type 0} (old new old_spare new_spare : Vec (List T) A) : Type 0 where
+  pub chunks : new.items ≡ old.items
+  pub spares : length old_spare.items ≤ length new_spare.items
+  pub capacity : length new.items + length new_spare.items ≤ vec_capacity new
+  pub spare_capacity : length new.items + length new_spare.items ≤ vec_capacity new_spare
+
 -- the chunk in which a test turns, if it turns
 pub record IsTurnIn {T : Type 0} (test : T → Bool) (chunks : List (List T)) (at : ℕ) : Type 0 where
   pub in_range : at < length chunks

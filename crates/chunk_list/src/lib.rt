@@ -3,8 +3,9 @@
 //!
 //! What always holds: the items are those of the chunks, one chunk after another. There is a chunk;
 //! each has at most `MOST` items, and each but the last at least `LEAST`. So a list with room for n
-//! items never has more than n / `LEAST` + 2 chunks. `ChunkList::new` makes as many: where there is
-//! room for an item, a chunk is spare, and no other call takes memory or fails.
+//! items never has more than n / `LEAST` + 2 chunks. `ChunkList::new` makes as many, and `grow_room`
+//! those that more room asks for: where there is room for an item, a chunk is spare, and no other call
+//! takes memory or fails.
 //!
 //! An example, as if a chunk had at most 8 items and at least 3:
 //!

@@ -1,11 +1,11 @@
 //! A list in chunks.
 ghost use Rattle.std.specs.Prelude.{◌≡◌, ℕ, ◌+◌, ◌<◌, ◌≤◌, ◌++◌, ◌∷◌, [], List, length, slice_index_or};
-ghost use Rattle.std.specs.Prelude.{slice_set, take, filter, IfOk, IsTrue, ◌↔◌};
+ghost use Rattle.std.specs.Prelude.{slice_set, take, filter, max, IfOk, IsOk, IsTrue, OnOk, OnErr, ◌↔◌};
 ghost use Rattle.std.specs.List.{All, insert, remove};
 ghost use Rattle.chunk_list.specs.Chunked.{TurnsAt, HasItem, IsPlace, IsPlaceAt, position_of};
 
 use crate::chunk::{Chunk, LEAST};
-use crate::moves::{give_back, open, refill};
+use crate::moves::{give_back, make_spares, open, refill};
 use crate::place::Place;
 use crate::search::{Test, first_chunk, first_item};
 use std::alloc::{AllocError, Global};
@@ -44,7 +44,7 @@ impl<T> Model for ChunkList<T> {
 }
 
 impl<T: Copy> ChunkList<T> {
-    /// A list with no item, and room for so many. No other call takes memory.
+    /// A list with no item, and room for so many. Only `grow_room` takes memory later.
     pub fn new(alloc: Global, room: usize) -> Result<ChunkList<T>, AllocError>
         ensures items { IfOk result (λ list. list.items ≡ []) }
         ensures room { IfOk result (λ list. list.room ≡ room) }
@@ -62,6 +62,20 @@ impl<T: Copy> ChunkList<T> {
             count: 0,
             room,
         })
+    }
+
+    /// Makes room for so many items in all. Where it finds no memory, the chunks that it could make stay
+    /// spare, and nothing else changes. The room is never less than before, and all places stay.
+    pub fn grow_room(&mut self, room: usize) -> Result<(), AllocError>
+        ensures ok { OnOk result (self.new ≡ record self.old { room = max self.old.room room }) }
+        ensures err { OnErr result (self.new ≡ self.old) }
+        ensures sure { room ≤ self.old.room → IsOk result }
+    {
+        if room > self.room {
+            make_spares(&mut self.chunks, &mut self.spare, room / LEAST + 2)?;
+            self.room = room;
+        }
+        Ok(())
     }
 
     /// How many items there are.

@@ -1,10 +1,11 @@
 //! How chunks are cut in two, joined and evened out.
-ghost use Rattle.std.specs.Prelude.{◌≡◌, ◌+◌, ◌<◌, ◌≤◌, List, length, take, vec_capacity};
-ghost use Rattle.chunk_list.specs.Chunks.{IsDense, IsOpened, KeepsChunks, LacksOne, chunk_at, cut_in_two};
-ghost use Rattle.chunk_list.specs.Chunks.{chunk_items, joined, shifted, size_of_two};
+ghost use Rattle.std.specs.Prelude.{◌≡◌, ◌+◌, ◌<◌, ◌≤◌, List, length, take, vec_capacity, OnOk};
+ghost use Rattle.chunk_list.specs.Chunks.{IsDense, IsOpened, AddsSpares, KeepsChunks, LacksOne};
+ghost use Rattle.chunk_list.specs.Chunks.{chunk_at, chunk_items, cut_in_two, joined, shifted, size_of_two};
 
 use crate::chunk::{Chunk, LEAST, MOST};
 use crate::place::Place;
+use std::alloc::AllocError;
 
 /// Where a full chunk is cut.
 const HALF: usize = 256;
@@ -136,4 +137,25 @@ pub(crate) fn give_back<T: Copy>(chunks: &mut Vec<Chunk<T>>, spare: &mut Vec<Chu
             None => unreachable!(),
         }
     }
+}
+
+/// Makes spare chunks until there are so many in all, with room in both vectors for all of them.
+pub(crate) fn make_spares<T: Copy>(
+    chunks: &mut Vec<Chunk<T>>,
+    spare: &mut Vec<Chunk<T>>,
+    most: usize,
+) -> Result<(), AllocError>
+    requires room { length chunks.old.items + length spare.old.items ≤ vec_capacity chunks.old }
+    requires spare_room { length chunks.old.items + length spare.old.items ≤ vec_capacity spare.old }
+    ensures added { AddsSpares chunks.old chunks.new spare.old spare.new }
+    ensures enough { OnOk result (most ≤ length chunks.new.items + length spare.new.items) }
+{
+    let alloc = *chunks.allocator();
+    let lacking = most.saturating_sub(chunks.len() + spare.len());
+    chunks.reserve_exact(spare.len() + lacking)?;
+    spare.reserve_exact(chunks.len() + lacking)?;
+    'making: for _made in 0..lacking {
+        spare.push_reserved(Chunk::new(alloc)?);
+    }
+    Ok(())
 }

@@ -193,3 +193,25 @@ fn finds_places_and_counts_between_them(rt: HostRuntime) -> Result<(), Fail> {
     }
     Ok(())
 }
+
+/// Rooms of a list that has 4 items at first, each with how many items it then takes: room never shrinks.
+const ROOMS: [(usize, usize); 5] = [(0, 4), (4, 4), (300, 300), (299, 300), (2_000, 2_000)];
+
+#[test]
+fn room_grows_and_the_items_stay(rt: HostRuntime) -> Result<(), Fail> {
+    let mut list = ChunkList::new(rt.alloc(), 4)?;
+    let mut items = Vec::new(rt.alloc());
+    for (room, most) in ROOMS.iter() {
+        let len = list.len();
+        let start = list.start();
+        let grown = list.grow_room(*room);
+        assert!(rt; has_items(&list, &items) && list.position(start) == 0 && list.len() == len);
+        grown?;
+        for item in 0..*most as u32 + 1 {
+            change(&mut list, Step::Insert(0, item));
+            change_of_vector(&mut items, *most, Step::Insert(0, item))?;
+        }
+        assert!(rt; list.len() == *most && has_items(&list, &items));
+    }
+    Ok(())
+}
