@@ -10,10 +10,6 @@ from replay_process import memory, processor_seconds
 PATIENCE = 60
 # Cells of a segment of the pool.
 SEGMENT_CELLS = 64
-# The program writes its answers when its buffer is full or the script ends. So lines that name no tenant follow
-# those that are timed: their answers push the others out, and are then dropped.
-PUSH = b"call POST /t/none/v3/kv/range {}\n"
-PUSHES = 200
 
 
 class Program:
@@ -22,8 +18,6 @@ class Program:
     def __init__(self, path):
         self.path = path
         self.child = subprocess.Popen([path], stdin=subprocess.PIPE, stdout=subprocess.PIPE, bufsize=0)
-        self.rest = b""
-        self.dropped = 0
 
     def __enter__(self):
         return self
@@ -53,9 +47,8 @@ class Program:
 
     def lines(self, script, count):
         """Feeds `count` lines, and gives back as many answer lines and the seconds until the last one came."""
-        pieces = [self.rest]
-        wanted = self.dropped + count - self.rest.count(b"\n")
-        feeder = threading.Thread(target=self.feed, args=(script + PUSH * PUSHES,), daemon=True)
+        pieces, wanted = [], count
+        feeder = threading.Thread(target=self.feed, args=(script,), daemon=True)
         started = time.perf_counter()
         feeder.start()
         while wanted > 0:
@@ -63,10 +56,7 @@ class Program:
             wanted -= pieces[-1].count(b"\n")
         seconds = time.perf_counter() - started
         feeder.join()
-        *lines, tail = b"".join(pieces).split(b"\n")
-        answers, pushed = lines[self.dropped : self.dropped + count], lines[self.dropped + count :]
-        self.rest, self.dropped = b"\n".join([*pushed, tail]), PUSHES
-        return answers, seconds
+        return b"".join(pieces).split(b"\n")[:-1], seconds
 
     def end(self):
         """Ends the script: the program ends by itself, with status 0."""

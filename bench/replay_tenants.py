@@ -58,5 +58,5 @@ def tell_tenants(program, count, rounds):
     print(f"\nTenants: {count:,} lines of each kind, spread in turn over so many; microseconds of processor a line")
     for kind in ["read", "put"]:
         middle = {tenants: statistics.median(one[kind][1] for one in runs[tenants]) / count for tenants in TENANTS}
-        told = [f"{tenants}: {middle[tenants] * 1e6:.2f} ({middle[tenants] / middle[1]:.2f})" for tenants in TENANTS]
+        told = [f"{tenants}: {middle[tenants] * 1e6:.2f} ({middle[tenants] / max(middle[1], 1e-9):.2f})" for tenants in TENANTS]
         print(f"  {kind:<5}" + "   ".join(told))
