@@ -1,5 +1,7 @@
 //! A thread's way into the registry.
+use crate::answer::Answer;
 use etcd_types::{Refusal, Step};
+use std::alloc::Global;
 use std::rt::Clock;
 use std::sync::Wait;
 use tenant_machine::Hint;
@@ -27,6 +29,14 @@ impl<'x, R: Wait + Clock + Drop, G: Gate> Caller<'x, R, G> {
     pub(crate) fn call(&mut self, tenant: &[u8], step: Step) -> Result<Receipt, Refusal> {
         self.registry
             .call(&self.rt, &mut self.seat, self.gate, tenant, step)
+    }
+
+    /// What a step is answered that opens nothing.
+    pub(crate) fn answer(&mut self, alloc: Global, tenant: &[u8], step: Step) -> Answer<R> {
+        match self.call(tenant, step) {
+            Ok(receipt) => Answer::text(receipt.status(), receipt.into_body()),
+            Err(refusal) => Answer::refused(alloc, refusal),
+        }
     }
 
     /// Which takes of a tenant's watches may not be quiet.

@@ -1,5 +1,6 @@
 //! What the server is told at its start.
-use crate::crew::Role;
+use crate::connections::LOOPS;
+use crate::crew::BESIDE_WORKERS;
 use etcd_types::limits::{DEFAULT_SEGMENTS, MAX_CONFIG, MAX_WORKERS};
 use gateway_json::read_unsigned;
 use serde_json::Value;
@@ -24,10 +25,10 @@ pub struct Config {
 }
 
 impl Config {
-    /// How many seats `Sessions::serve` is to be given: one for each worker, and for the clock, the pump and the
-    /// catch-up worker.
+    /// How many seats `Sessions::serve` is to be given: one for each worker, for the clock, the pump and the
+    /// catch-up worker, and for each of the four loops that read and write sockets.
     pub fn seats(&self) -> usize {
-        self.workers.saturating_add(Role::BESIDE_WORKERS)
+        self.workers.saturating_add(BESIDE_WORKERS + LOOPS)
     }
 }
 

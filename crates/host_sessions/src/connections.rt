@@ -1,24 +1,93 @@
-//! Accepts connections, and serves each as a task.
+//! The loops: each accepts its share of the connections, and serves each as a task.
 ghost use Rattle.std.specs.Prelude.{IfSome};
 
+use crate::crew::Station;
 use crate::doors::Jobs;
 use crate::exchange::Gateway;
-use crate::sessions::{Listening, ServeFault};
+use crate::hatch::{Errand, Hatch};
+use crate::sessions::ServeFault;
+use etcd_types::Mem;
 use futures::task::{Context, Poll};
 use futures::{Future, Stream, ready};
 use hyper::rt::TokioTimer;
 use hyper::server::conn::http1;
-use std::alloc::{AllocError, AllocGlobal};
+use std::alloc::{AllocGlobal, Global};
 use std::hash::RandomState;
 use std::random::RandomSource;
 use std::sync::Wait;
-use std::thread::Threads;
 use std::time::{Clock, Duration};
-use tokio::net::{TcpListener, TcpStream};
-use tokio::time::{Handle, Sleep};
+use std::{io, net, thread};
+use tenant_registry::{Gate, Seat};
+use tokio::net::TcpStream;
+use tokio::reactor;
+use tokio::runtime::LocalRuntime;
+use tokio::sync::mpsc::{UnboundedReceiver, UnboundedSender, unbounded_channel};
+use tokio::time;
 
-/// How many milliseconds no connection is accepted after one could not be.
+/// How many loops read and write sockets.
+pub(crate) const LOOPS: usize = 4;
+
+/// How many milliseconds no connection is accepted after one could not be, for want of a file descriptor most
+/// likely.
 const PAUSE: u64 = 50;
+
+/// A loop, and where its connections come in.
+#[derive(Drop)]
+pub(crate) struct SocketLoop {
+    runtime: LocalRuntime,
+    sockets: UnboundedReceiver<net::TcpStream>,
+}
+
+/// Where the connections of a loop go in.
+pub(crate) type Entrance = UnboundedSender<net::TcpStream>;
+
+/// A loop on each runtime, and where their connections go in.
+pub(crate) fn open_loops(
+    alloc: Global,
+    runtimes: Vec<LocalRuntime>,
+) -> Mem<(Vec<Entrance>, Vec<SocketLoop>)> {
+    let mut entrances = Vec::new(alloc);
+    let mut loops = Vec::new(alloc);
+    for runtime in runtimes {
+        let (entrance, sockets) = unbounded_channel(alloc)?;
+        entrances.push(entrance)?;
+        loops.push(SocketLoop { runtime, sockets })?;
+    }
+    Ok((entrances, loops))
+}
+
+/// Accepts connections until as many as were told have come, and gives them to the loops in turn.
+pub(crate) fn accept_all<R: Wait + Clock>(
+    rt: &R,
+    listener: &net::TcpListener,
+    entrances: &[Entrance],
+    connections: Option<u32>,
+) -> Result<(), ServeFault> {
+    let mut left = connections;
+    let mut at = 0usize;
+    for _ in rt.forever() {
+        if left == Some(0) {
+            return Ok(());
+        }
+        let Ok((socket, _)) = listener.accept() else {
+            thread::sleep(rt, Duration::from_millis(PAUSE));
+            continue;
+        };
+        left = left.map(|left| left.saturating_sub(1));
+        let Some(entrance) = entrances.get(at) else {
+            return Err(ServeFault::Memory);
+        };
+        // A loop ends early only for want of memory.
+        if entrance.send(socket).is_err() {
+            return Err(ServeFault::Memory);
+        }
+        at = at.saturating_add(1);
+        if at >= entrances.len() {
+            at = 0;
+        }
+    }
+    unreachable!()
+}
 
 /// A connection as a task: its end, whatever it is, is the end of the task and of nothing else.
 #[derive(Drop)]
@@ -40,95 +109,115 @@ impl<F: Future<Output = hyper::Result<()>>> Future for Served<F> {
     }
 }
 
-/// The connections that are to be served, each as a task.
+/// The connections of a loop, each as a task, and beside them the loop's hatch.
 #[derive(Drop)]
-struct Arrivals<R, F> {
-    rt: R,
-    listener: TcpListener,
-    timers: Handle,
-    /// After a connection that could not be accepted, for want of a file descriptor most likely.
-    pause: Option<Sleep>,
-    left: Option<u32>,
-    make: F,
+struct Arrivals<'a, 'x, R: Wait + Drop, G, F> {
+    hatch: &'a mut Hatch<'x, R, G>,
+    sockets: UnboundedReceiver<net::TcpStream>,
+    reactor: reactor::Handle,
+    /// None once no more connections come.
+    make: Option<F>,
 }
 
-impl<R: Clock + Drop, F: Fn(TcpStream) -> T + Drop, T: Future<Output = ()>> Stream
-    for Arrivals<R, F> {
+impl<R, G, F, T> Stream for Arrivals<'_, '_, R, G, F>
+where
+    R: Wait + Clock + Copy + Drop,
+    G: Gate,
+    F: Fn(TcpStream) -> T + Drop,
+    T: Future<Output = ()>,
+{
     type Item = T;
 
-    ghost can_poll = { λ a. F.IsAlwaysCallable a.make
-        × ((socket : _) (task : _) → F.post a.make socket task → T.can_poll task) };
+    ghost can_poll = { λ a. IfSome a.make (λ make. F.IsAlwaysCallable make
+        × ((socket : _) (task : _) → F.post make socket task → T.can_poll task)) };
 
     ghost yields = { λ _ _ last. IfSome last T.can_poll };
 
     fn poll_next(&mut self, cx: &mut Context<'_>) -> Poll<Option<T>> {
-        if self.left == Some(0) {
-            return Poll::Ready(None);
-        }
-        if let Some(pause) = &mut self.pause {
-            let _ = ready!(pause.poll(cx));
-            self.pause = None;
-        }
-        match ready!(self.listener.poll_accept(cx)) {
-            Ok((socket, _)) => {
-                self.left = self.left.map(|left| left.saturating_sub(1));
-                let _ = socket.set_nodelay(true);
-                Poll::Ready(Some((self.make)(socket)))
-            }
-            Err(_) => {
-                self.pause = self
-                    .timers
-                    .sleep(&self.rt, Duration::from_millis(PAUSE))
-                    .ok();
-                cx.yield_now()
+        if let Some(make) = &self.make {
+            match self.sockets.poll_recv(cx) {
+                Poll::Ready(Some(socket)) => {
+                    let Ok(socket) = TcpStream::from_std(socket, &self.reactor) else {
+                        return cx.yield_now();
+                    };
+                    let _ = socket.set_nodelay(true);
+                    return Poll::Ready(Some(make(socket)));
+                }
+                Poll::Ready(None) => self.make = None,
+                Poll::Pending => {}
             }
         }
+        ready!(self.hatch.poll_end(cx));
+        Poll::Ready(None)
     }
 }
 
-/// Serves connections until as many as were told have ended.
-pub(crate) fn serve_connections<R>(
-    rt: R,
-    listening: Listening,
+/// What a loop works with, beside its sockets.
+#[derive(Drop)]
+struct Tools<R: Wait + Drop> {
+    keys: RandomState,
+    timers: time::Handle,
+    reactor: reactor::Handle,
     jobs: Jobs<R>,
-) -> Result<(), ServeFault>
+    errands: UnboundedReceiver<Errand<R>>,
+}
+
+impl<R: Wait + RandomSource + Drop> Tools<R> {
+    fn new(rt: &R, alloc: Global, runtime: &LocalRuntime, jobs: &Jobs<R>) -> io::Result<Tools<R>> {
+        let (hatch, errands) = unbounded_channel(alloc)?;
+        Ok(Tools {
+            keys: RandomState::new(rt)?,
+            timers: runtime.handle().time().clone()?,
+            reactor: runtime.handle().reactor().clone()?,
+            jobs: jobs.with_hatch(alloc, hatch)?,
+            errands,
+        })
+    }
+}
+
+/// Serves the connections that come in, until there are no more and the last has ended.
+pub(crate) fn serve_connections<R, G>(
+    alloc: Global,
+    own: SocketLoop,
+    jobs: Jobs<R>,
+    station: Station<'_, R, G>,
+) -> (Seat, Result<(), ServeFault>)
 where
-    R: Wait + Threads + Clock + RandomSource + AllocGlobal + Copy + Drop + Send + Sync,
+    R: Wait + Clock + RandomSource + AllocGlobal + Copy + Drop,
+    G: Gate,
 {
-    let Listening {
+    let rt = station.rt;
+    let SocketLoop {
         mut runtime,
-        listener,
-        connections,
-    } = listening;
-    let alloc = rt.alloc();
-    let Ok(keys) = RandomState::new(&rt) else {
-        return Err(ServeFault::Socket);
+        sockets,
+    } = own;
+    let Ok(tools) = Tools::new(&rt, alloc, &runtime, &jobs) else {
+        return (station.into_seat(), Err(ServeFault::Memory));
     };
-    let timers: Result<Handle, AllocError> = runtime.handle().time().clone();
-    let Ok(timers) = timers else {
-        return Err(ServeFault::Memory);
-    };
-    let pauses: Result<Handle, AllocError> = runtime.handle().time().clone();
-    let Ok(pauses) = pauses else {
-        return Err(ServeFault::Memory);
-    };
+    let Tools {
+        keys,
+        timers,
+        reactor,
+        jobs,
+        errands,
+    } = tools;
+    let mut hatch = Hatch::new(alloc, station, errands);
     let http = http1::Builder::new(alloc, keys).timer(TokioTimer::new(rt, timers));
     let arrivals = Arrivals {
-        rt,
-        listener,
-        timers: pauses,
-        pause: None,
-        left: connections,
-        make: move |socket| {
+        hatch: &mut hatch,
+        sockets,
+        reactor,
+        make: Some(move |socket| {
             let jobs = jobs.share();
             let connection = http.serve_connection(socket, Gateway { rt, alloc, jobs });
             Served {
                 connection: Some(connection),
             }
-        },
+        }),
     };
-    match runtime.run_all(&rt, arrivals) {
+    let served = match runtime.run_all(&rt, arrivals) {
         Ok(()) => Ok(()),
         Err(error) => Err(ServeFault::of(&error)),
-    }
+    };
+    (hatch.into_seat(), served)
 }

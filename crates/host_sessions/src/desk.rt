@@ -1,16 +1,25 @@
 //! What a tenant's turn is about: its callers' jobs, and its open watches.
 use crate::answer::Answer;
 use crate::feed::Outlet;
-use etcd_types::Call;
+use etcd_types::{Call, Step};
 use futures::channel::oneshot;
 use std::sync::Wait;
 use tokio::sync::mpsc;
+
+/// What a call asks.
+#[derive(Drop)]
+pub(crate) enum Ask {
+    /// The step that was read from its body.
+    Step(Step),
+    /// The body, which is too long to be read by a loop.
+    Body(Vec<u8>),
+}
 
 /// A call of a client, and where its answer goes.
 #[derive(Drop)]
 pub(crate) struct Job<R: Wait + Drop> {
     pub(crate) call: Call,
-    pub(crate) body: Vec<u8>,
+    pub(crate) ask: Ask,
     pub(crate) reply: oneshot::Sender<Answer<R>>,
 }
 
@@ -27,4 +36,6 @@ pub(crate) struct Desk<R: Wait + Drop> {
     pub(crate) name: Vec<u8>,
     pub(crate) jobs: mpsc::Receiver<Job<R>>,
     pub(crate) watches: Vec<OpenWatch>,
+    /// How many of its brief calls the loops leave to the workers, since an answer was long.
+    pub(crate) left_to_workers: u32,
 }

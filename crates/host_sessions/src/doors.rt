@@ -3,6 +3,7 @@ ghost use Rattle.tokio.specs.Channels.{CanReserve};
 
 use crate::crew::Floor;
 use crate::desk::{Desk, Job};
+use crate::hatch::Errand;
 use crate::rota::{Duty, Rota};
 use etcd_types::limits::MAX_TENANTS;
 use etcd_types::{Call, Mem, Refusal};
@@ -12,7 +13,7 @@ use std::alloc::Global;
 use std::sync::{Arc, Mutex, Wait};
 use tenant_registry::Registry;
 use tokio::sync::mpsc::error::TrySendError;
-use tokio::sync::mpsc::{self, ReserveOwned};
+use tokio::sync::mpsc::{self, ReserveOwned, UnboundedSender};
 
 /// How many jobs wait for one tenant before its callers are held back.
 const WAITING: usize = 256;
@@ -54,6 +55,8 @@ pub(crate) struct Doors<R: Wait + Drop> {
 #[derive(Drop)]
 pub struct Jobs<R: Wait + Drop> {
     pub(crate) doors: Arc<Doors<R>>,
+    /// Where the connections of a loop hand brief calls to the loop itself.
+    pub(crate) hatch: Option<Arc<UnboundedSender<Errand<R>>>>,
 }
 
 impl<R: Wait + Drop> Jobs<R> {
@@ -101,12 +104,40 @@ impl<R: Wait + Drop> Jobs<R> {
         self.doors.rota.call_for(rt, place, Duty::Jobs);
     }
 
+    /// Hands a brief call to the loop that the connection is of, or gives it back where there is none.
+    pub(crate) fn hand(&self, errand: Errand<R>) -> Result<(), Errand<R>> {
+        match &self.hatch {
+            Some(hatch) => hatch.send(errand).map_err(|error| error.into_inner()),
+            None => Err(errand),
+        }
+    }
+
     /// The same queues for another connection.
     pub fn share(&self) -> Option<Jobs<R>> {
-        match Arc::try_clone(&self.doors) {
-            Ok(doors) => Some(Jobs { doors }),
-            Err(_) => None,
-        }
+        self.shared().ok()
+    }
+
+    fn shared(&self) -> Mem<Jobs<R>> {
+        let hatch = match &self.hatch {
+            Some(hatch) => Some(Arc::try_clone(hatch)?),
+            None => None,
+        };
+        Ok(Jobs {
+            doors: Arc::try_clone(&self.doors)?,
+            hatch,
+        })
+    }
+
+    /// The same queues for the connections of a loop, with its hatch.
+    pub(crate) fn with_hatch(
+        &self,
+        alloc: Global,
+        hatch: UnboundedSender<Errand<R>>,
+    ) -> Mem<Jobs<R>> {
+        Ok(Jobs {
+            doors: Arc::try_clone(&self.doors)?,
+            hatch: Some(Arc::new(alloc, hatch)?),
+        })
     }
 }
 
@@ -129,6 +160,7 @@ pub(crate) fn open_doors<R: Wait + Drop>(
             name: Vec::from_slice(alloc, name)?,
             jobs,
             watches: Vec::new(alloc),
+            left_to_workers: 0,
         }))?;
     }
     let (rota, turns) = Rota::new(alloc, desks.len(), seats)?;
@@ -140,5 +172,5 @@ pub(crate) fn open_doors<R: Wait + Drop>(
     };
     let floor = Arc::new(alloc, floor)?;
     let doors = Arc::new(alloc, Doors { queues, rota })?;
-    Ok((Jobs { doors }, floor))
+    Ok((Jobs { doors, hatch: None }, floor))
 }

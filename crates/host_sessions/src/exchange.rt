@@ -1,15 +1,18 @@
-//! One exchange of a connection: the body is read, a job is left in its tenant's queue, its answer is awaited.
+//! One exchange of a connection: the body is read, the call is handed to the loop or left in its tenant's queue, its
+//! answer is awaited.
 ghost use Rattle.futures.specs.Task.{IsArmed, Keeps};
 ghost use Rattle.futures.specs.Poll.{OnPending};
 
 use crate::answer::{Answer, AnswerBody};
-use crate::desk::Job;
+use crate::desk::{Ask, Job};
 use crate::doors::{HeldBack, Jobs, Offered, Route};
-use etcd_types::Refusal;
+use crate::hatch::{Errand, SHORT_BODY, Told, is_brief};
 use etcd_types::limits::MAX_BODY;
+use etcd_types::{Refusal, Step};
 use futures::channel::oneshot;
 use futures::task::{Context, Poll};
 use futures::{Future, ready};
+use gateway_json::read_step;
 use http_body_util::{Limited, LimitedError};
 use hyper::body::{Body, Incoming};
 use hyper::header::{self, HeaderMap};
@@ -46,6 +49,7 @@ pub(crate) struct Exchange<I, R: Wait + Drop> {
 #[derive(Drop)]
 enum Stage<I, R: Wait + Drop> {
     Reading(Reading<I>),
+    Handed(Handed<R>),
     Queueing(Queueing<R>),
     Waiting(oneshot::Receiver<Answer<R>>),
     Failed,
@@ -60,6 +64,13 @@ struct Reading<I> {
     /// Why the body is read on and thrown away.
     lost: Option<Refusal>,
     passed: u32,
+}
+
+/// A brief call that was handed to the loop.
+#[derive(Drop)]
+struct Handed<R: Wait + Drop> {
+    route: Route,
+    told: oneshot::Receiver<Told<R>>,
 }
 
 /// A job whose tenant's queue is full.
@@ -170,6 +181,22 @@ impl<I: Drop, R: Wait + Copy + Drop> Future for Exchange<I, R> {
                 return Poll::Ready(answer.into_response(self.alloc));
             }
         }
+        if let Stage::Handed(handed) = &mut self.stage {
+            let told = ready!(handed.told.poll(cx));
+            let route = handed.route;
+            match told {
+                Ok(Told::Answered(answer)) => {
+                    return Poll::Ready(answer.into_response(self.alloc));
+                }
+                Ok(Told::Back(step)) => {
+                    if let Some(answer) = self.queue(route, Ask::Step(step)) {
+                        return Poll::Ready(answer.into_response(self.alloc));
+                    }
+                }
+                // The loop ended for want of memory.
+                Err(_) => return Poll::Ready(Err(hyper::Error::from(AllocError))),
+            }
+        }
         if let Stage::Queueing(_) = &self.stage
             && !ready!(self.poll_room(cx))
         {
@@ -187,7 +214,7 @@ impl<I: Drop, R: Wait + Copy + Drop> Future for Exchange<I, R> {
 }
 
 impl<I: Drop, R: Wait + Copy + Drop> Exchange<I, R> {
-    /// Refuses a request that was read, or leaves its job in its tenant's queue.
+    /// Refuses a request that was read, hands it to the loop, or leaves its job in its tenant's queue.
     fn hand_over(&mut self) -> Option<Answer<R>> {
         let Stage::Reading(reading) = mem::replace(&mut self.stage, Stage::Failed) else {
             return None;
@@ -206,11 +233,38 @@ impl<I: Drop, R: Wait + Copy + Drop> Exchange<I, R> {
         if let Some(refusal) = lost {
             return Some(Answer::refused(self.alloc, refusal));
         }
-        self.queue(route, read)
+        if read.len() > SHORT_BODY {
+            return self.queue(route, Ask::Body(read));
+        }
+        match read_step(self.alloc, route.call, read.as_slice()) {
+            Ok(step) if is_brief(&step) => self.hand(route, step),
+            Ok(step) => self.queue(route, Ask::Step(step)),
+            Err(refusal) => Some(Answer::refused(self.alloc, refusal)),
+        }
+    }
+
+    /// Hands a brief call to the loop, or leaves it in its tenant's queue where there is no loop.
+    fn hand(&mut self, route: Route, step: Step) -> Option<Answer<R>> {
+        let Some(jobs) = &self.jobs else {
+            return Some(Answer::no_memory());
+        };
+        let Ok((reply, told)) = oneshot::channel(self.alloc) else {
+            return Some(Answer::no_memory());
+        };
+        match jobs.hand(Errand { route, step, reply }) {
+            Ok(()) => {
+                self.stage = Stage::Handed(Handed { route, told });
+                None
+            }
+            Err(errand) => {
+                let Errand { route, step, reply: _ } = errand;
+                self.queue(route, Ask::Step(step))
+            }
+        }
     }
 
     /// Leaves a job in a tenant's queue, or waits for room there.
-    fn queue(&mut self, route: Route, body: Vec<u8>) -> Option<Answer<R>> {
+    fn queue(&mut self, route: Route, ask: Ask) -> Option<Answer<R>> {
         let Some(jobs) = &self.jobs else {
             return Some(Answer::no_memory());
         };
@@ -218,7 +272,7 @@ impl<I: Drop, R: Wait + Copy + Drop> Exchange<I, R> {
             return Some(Answer::no_memory());
         };
         let Route { place, call } = route;
-        match jobs.offer(&self.rt, place, Job { call, body, reply }) {
+        match jobs.offer(&self.rt, place, Job { call, ask, reply }) {
             Offered::Left => self.stage = Stage::Waiting(answer),
             Offered::Full(held) => {
                 self.stage = Stage::Queueing(Queueing {

@@ -1,8 +1,9 @@
 //! HTTP/1.1 in front of the registry: connections, workers, a clock and a pump.
 //!
-//! A connection reads a request and leaves it in its tenant's queue. A tenant is served by one thread at a
-//! time, whose turn it is there; so nobody waits for a lock that another holds for long, and a tenant that is
-//! flooded holds up its own callers alone.
+//! A few loops read and write the connections, each on a thread of its own. A brief call on a tenant that is free
+//! is served by the loop that has read it; any other goes into its tenant's queue, for a worker. A tenant is served
+//! by one thread at a time, whose turn it is there; so nobody waits for a lock that another holds for long, and a
+//! tenant that is flooded holds up its own callers alone.
 #![tactic(auto)]
 
 mod answer;
@@ -16,6 +17,7 @@ mod desk;
 mod doors;
 mod exchange;
 mod feed;
+mod hatch;
 mod pump;
 mod rota;
 mod sessions;

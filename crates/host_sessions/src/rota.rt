@@ -3,11 +3,16 @@
 //! A tenant is served by one thread at a time. What is due there waits as a mark, and the tenant goes through
 //! the channels of those that serve it: in one of them at most, once, so that no channel is ever full. Whoever
 //! has had a turn passes the tenant on to what is due next, in a fixed round, and it comes behind all others
-//! there.
+//! there. A loop takes a turn only where nobody has it, and waits for none.
 use crossbeam_channel::{Receiver, Sender, bounded};
 use etcd_types::Mem;
 use std::alloc::Global;
-use std::sync::{Mutex, Wait};
+use std::hint;
+use std::sync::Wait;
+use std::sync::atomic::{AtomicU64, Ordering};
+
+/// How often a loop looks whether a tenant is free: for as long as a brief call takes.
+const LOOKS: u32 = 64;
 
 /// What may be due on a tenant, in the order of the round.
 #[derive(Clone, Copy, Debug, PartialEq, Eq)]
@@ -31,6 +36,28 @@ impl Duty {
             Duty::Jobs => Duty::Tick,
         }
     }
+
+    /// The bit that says in a lane that it is due.
+    fn mark(self) -> u64 {
+        match self {
+            Duty::Tick => 2,
+            Duty::Takes => 4,
+            Duty::CatchUp => 8,
+            Duty::Jobs => 16,
+        }
+    }
+
+    /// The first duty of the round after this one that is marked.
+    fn next_of(self, marks: u64) -> Option<Duty> {
+        let mut duty = self;
+        for _ in 0..4 {
+            duty = duty.following();
+            if marks & duty.mark() != 0 {
+                return Some(duty);
+            }
+        }
+        None
+    }
 }
 
 /// What a thread that serves tenants is told.
@@ -42,53 +69,20 @@ pub(crate) enum Turn {
     Over,
 }
 
-/// What is due on a tenant, and whether somebody has the turn there or is about to.
-#[derive(Clone, Copy, Debug, Drop)]
-struct Lane {
-    tick: bool,
-    takes: bool,
-    catch_up: bool,
-    jobs: bool,
-    is_taken: bool,
-}
+/// What is due on a tenant: a bit for each mark, and this one if somebody has the turn there or is about to. Only
+/// who has the turn takes a mark off, and where nobody has it there is none.
+type Lane = AtomicU64;
 
-impl Lane {
-    const IDLE: Lane = Lane {
-        tick: false,
-        takes: false,
-        catch_up: false,
-        jobs: false,
-        is_taken: false,
-    };
+/// Nobody has the turn.
+const FREE: u64 = 0;
 
-    fn mark(&mut self, duty: Duty) -> &mut bool {
-        match duty {
-            Duty::Tick => &mut self.tick,
-            Duty::Takes => &mut self.takes,
-            Duty::CatchUp => &mut self.catch_up,
-            Duty::Jobs => &mut self.jobs,
-        }
-    }
-
-    /// Takes off the first mark of the round after a duty.
-    fn next_after(&mut self, last: Duty) -> Option<Duty> {
-        let mut duty = last;
-        for _ in 0..4 {
-            duty = duty.following();
-            let mark = self.mark(duty);
-            if *mark {
-                *mark = false;
-                return Some(duty);
-            }
-        }
-        None
-    }
-}
+/// Somebody has it, and nothing else is due.
+const TAKEN: u64 = 1;
 
 /// Whose turn it is on each tenant, and who waits for turns.
 #[derive(Drop)]
 pub(crate) struct Rota {
-    lanes: Vec<Mutex<Lane>>,
+    lanes: Vec<Lane>,
     clock: Sender<Turn>,
     pump: Sender<Turn>,
     catch_up: Sender<Turn>,
@@ -109,7 +103,7 @@ impl Rota {
     pub(crate) fn new(alloc: Global, tenants: usize, seats: usize) -> Mem<(Rota, Turns)> {
         let mut lanes = Vec::with_capacity(alloc, tenants)?;
         for _ in 0..tenants {
-            lanes.push(Mutex::new(Lane::IDLE))?;
+            lanes.push(AtomicU64::new(FREE))?;
         }
         // A tenant is in one channel at most, and each thread is told once that there are no more turns.
         let room = tenants.saturating_add(seats);
@@ -138,20 +132,40 @@ impl Rota {
         let Some(lane) = self.lanes.get(place) else {
             return;
         };
-        if Rota::claim(rt, lane, duty) {
+        if Rota::claim(lane, duty) {
             self.give(rt, place, duty);
         }
     }
 
     /// Marks what is due, or takes the turn for it where nobody has it.
-    fn claim<R: Wait>(rt: &R, lane: &Mutex<Lane>, duty: Duty) -> bool {
-        let mut lane = lane.lock(rt);
-        if lane.is_taken {
-            *lane.mark(duty) = true;
+    fn claim(lane: &Lane, duty: Duty) -> bool {
+        let before = lane.fetch_or(TAKEN | duty.mark(), Ordering::SeqCst);
+        if before & TAKEN != 0 {
             return false;
         }
-        lane.is_taken = true;
+        // The turn that begins now is for all that was left until here.
+        lane.fetch_and(!duty.mark(), Ordering::SeqCst);
         true
+    }
+
+    /// Takes the turn on a tenant where nobody has it and nothing is due.
+    pub(crate) fn try_take(&self, place: usize) -> bool {
+        let Some(lane) = self.lanes.get(place) else {
+            return false;
+        };
+        for _ in 0..LOOKS {
+            let is_free = lane.load(Ordering::SeqCst) == FREE;
+            if is_free && Rota::moves(lane, FREE, TAKEN) {
+                return true;
+            }
+            hint::spin_loop();
+        }
+        false
+    }
+
+    fn moves(lane: &Lane, from: u64, to: u64) -> bool {
+        lane.compare_exchange(from, to, Ordering::SeqCst, Ordering::SeqCst)
+            .is_ok()
     }
 
     /// A turn has ended; the tenant goes on to what is due next.
@@ -159,17 +173,19 @@ impl Rota {
         let Some(lane) = self.lanes.get(place) else {
             return;
         };
-        if let Some(duty) = Rota::release(rt, lane, done) {
+        if let Some(duty) = Rota::release(lane, done) {
             self.give(rt, place, duty);
         }
     }
 
     /// What is due next, or the end of the turn.
-    fn release<R: Wait>(rt: &R, lane: &Mutex<Lane>, done: Duty) -> Option<Duty> {
-        let mut lane = lane.lock(rt);
-        let next = lane.next_after(done);
-        lane.is_taken = next.is_some();
-        next
+    fn release(lane: &Lane, done: Duty) -> Option<Duty> {
+        if Rota::moves(lane, TAKEN, FREE) {
+            return None;
+        }
+        let next = done.next_of(lane.load(Ordering::SeqCst))?;
+        lane.fetch_and(!next.mark(), Ordering::SeqCst);
+        Some(next)
     }
 
     fn give<R: Wait>(&self, rt: &R, place: usize, duty: Duty) {

@@ -1,6 +1,6 @@
 //! Listens, and serves a registry.
 use crate::config::Config;
-use crate::connections::serve_connections;
+use crate::connections::{LOOPS, accept_all, open_loops};
 use crate::crew::staff;
 use crate::doors::Jobs;
 use crate::exchange::Gateway;
@@ -8,26 +8,22 @@ use futures::executor::block_on;
 use hyper::server::conn::http1;
 use std::alloc::AllocGlobal;
 use std::hash::RandomState;
-use std::net::{Net, SocketAddr};
+use std::net::{Net, SocketAddr, TcpListener};
 use std::random::RandomSource;
 use std::sync::Wait;
 use std::thread::Threads;
 use std::time::Clock;
-use std::{io, thread};
+use std::io;
 use tenant_registry::{Gate, Registry, Seat};
 use tokio::io::{AsyncRead, AsyncWrite};
-use tokio::net::TcpListener;
-use tokio::runtime::Runtime;
-
-/// How many threads read and write sockets, at most.
-const MAX_SOCKET_THREADS: usize = 4;
+use tokio::runtime::LocalRuntime;
 
 /// A socket that listens, and how many connections it takes.
 #[derive(Drop)]
 pub struct Listening {
-    pub(crate) runtime: Runtime,
-    pub(crate) listener: TcpListener,
-    pub(crate) connections: Option<u32>,
+    runtimes: Vec<LocalRuntime>,
+    listener: TcpListener,
+    connections: Option<u32>,
 }
 
 /// Why nothing listens.
@@ -100,17 +96,13 @@ impl Sessions {
         let Ok(address) = config.listen.parse::<SocketAddr>() else {
             return Err(ListenFault::Address);
         };
-        let threads = match thread::available_parallelism(rt) {
-            Ok(processors) => processors.get().min(MAX_SOCKET_THREADS),
-            Err(_) => MAX_SOCKET_THREADS,
-        };
-        let runtime = match Runtime::with_worker_threads(rt, threads) {
-            Ok(runtime) => runtime,
+        let runtimes = match make_runtimes(rt) {
+            Ok(runtimes) => runtimes,
             Err(error) => return Err(ListenFault::of(&error)),
         };
-        match TcpListener::bind(rt, address, runtime.handle().reactor()) {
+        match bind(rt, address) {
             Ok(listener) => Ok(Listening {
-                runtime,
+                runtimes,
                 listener,
                 connections: config.connections,
             }),
@@ -119,8 +111,8 @@ impl Sessions {
     }
 
     /// Serves a registry until as many connections as were told have ended. There has to be a seat for the
-    /// clock, the pump and the catch-up worker each; every other one is a worker's. With fewer than four, or
-    /// where a thread can't be made, that is want of memory.
+    /// clock, the pump, the catch-up worker and each of the four loops; every other one is a worker's. With fewer
+    /// than eight, or where a thread can't be made, that is want of memory.
     pub fn serve<'x, R, G>(
         rt: R,
         listening: Listening,
@@ -141,14 +133,24 @@ impl Sessions {
             + 'static,
         G: Gate + Sync,
     {
-        let connections = listening.connections.unwrap_or(u32::MAX);
-        let bring = move |jobs| serve_connections(rt, listening, jobs);
-        let seats = staff(rt, registry, seats, gate, bring)?;
-        Ok(Ended { connections, seats })
+        let Listening {
+            runtimes,
+            listener,
+            connections,
+        } = listening;
+        let Ok((entrances, loops)) = open_loops(rt.alloc(), runtimes) else {
+            return Err(ServeFault::Memory);
+        };
+        let bring = move |_jobs| accept_all(&rt, &listener, entrances.as_slice(), connections);
+        let seats = staff(rt, registry, seats, gate, loops, bring)?;
+        Ok(Ended {
+            connections: connections.unwrap_or(u32::MAX),
+            seats,
+        })
     }
 
     /// Serves what a function brings, over streams of any kind by `serve_one`, until it returns; all connections
-    /// have to have ended by then. The seats are as for `serve`.
+    /// have to have ended by then. The seats are as for `serve`, but for those of the loops, of which there is none.
     pub fn serve_with<'x, R, G, B>(
         rt: R,
         registry: &'x Registry,
@@ -157,12 +159,12 @@ impl Sessions {
         bring: B,
     ) -> Result<Vec<Seat>, ServeFault>
     where
-        R: Wait + Threads + Clock + AllocGlobal + Copy + Drop + Send + Sync + 'static,
+        R: Wait + Threads + Clock + RandomSource + AllocGlobal + Copy + Drop + Send + Sync + 'static,
         G: Gate + Sync,
         B: FnOnce(Jobs<R>) -> Result<(), ServeFault> + Drop,
         requires { B.IsAlwaysCallable bring }
     {
-        staff(rt, registry, seats, gate, bring)
+        staff(rt, registry, seats, gate, Vec::new(rt.alloc()), bring)
     }
 
     /// Serves one connection over any stream, by the jobs that `serve` uses.
@@ -183,4 +185,23 @@ impl Sessions {
             _ => End::Fault,
         }
     }
+}
+
+/// A runtime for each loop.
+fn make_runtimes<R>(rt: &R) -> io::Result<Vec<LocalRuntime>>
+where
+    R: Clock + Net + RandomSource + AllocGlobal,
+{
+    let mut runtimes = Vec::new(rt.alloc());
+    for _ in 0..LOOPS {
+        runtimes.push(LocalRuntime::new(rt)?)?;
+    }
+    Ok(runtimes)
+}
+
+/// A socket that waits in `accept`, with the longest queue of connections that the system allows.
+fn bind<R: Net>(rt: &R, address: SocketAddr) -> io::Result<TcpListener> {
+    let listener = TcpListener::from(mio::net::TcpListener::bind(rt, address)?);
+    listener.set_nonblocking(false)?;
+    Ok(listener)
 }

@@ -2,7 +2,7 @@
 use crate::answer::{Answer, AnswerBody, Text};
 use crate::caller::Caller;
 use crate::crew::Station;
-use crate::desk::{Desk, Job, OpenWatch};
+use crate::desk::{Ask, Desk, Job, OpenWatch};
 use crate::feed::Outlet;
 use crate::pump::take_each;
 use crate::rota::{Duty, Rota, Turn};
@@ -68,8 +68,8 @@ impl<R: Wait + Clock + Copy + Drop> Bench<'_, R> {
             let Ok(job) = desk.jobs.try_recv() else {
                 return;
             };
-            let Job { call, body, reply } = job;
-            let answer = self.answer(caller, desk, call, body.as_slice());
+            let Job { call, ask, reply } = job;
+            let answer = self.answer(caller, desk, call, ask);
             told = told.saturating_add(answer.len());
             // Where the client has gone, the call stays made.
             drop(reply.send(answer));
@@ -85,11 +85,14 @@ impl<R: Wait + Clock + Copy + Drop> Bench<'_, R> {
         caller: &mut Caller<'_, R, G>,
         desk: &mut Desk<R>,
         call: Call,
-        body: &[u8],
+        ask: Ask,
     ) -> Answer<R> {
-        let step = match read_step(self.alloc, call, body) {
-            Ok(step) => step,
-            Err(refusal) => return Answer::refused(self.alloc, refusal),
+        let step = match ask {
+            Ask::Step(step) => step,
+            Ask::Body(body) => match read_step(self.alloc, call, body.as_slice()) {
+                Ok(step) => step,
+                Err(refusal) => return Answer::refused(self.alloc, refusal),
+            },
         };
         match step {
             Step::Watch(_) => self.open(caller, desk, step),
@@ -99,21 +102,9 @@ impl<R: Wait + Clock + Copy + Drop> Bench<'_, R> {
                 if !take_each(caller, desk, None) {
                     return Answer::no_memory();
                 }
-                self.call(caller, desk, step)
+                caller.answer(self.alloc, desk.name.as_slice(), step)
             }
-            _ => self.call(caller, desk, step),
-        }
-    }
-
-    fn call<G: Gate>(
-        &self,
-        caller: &mut Caller<'_, R, G>,
-        desk: &Desk<R>,
-        step: Step,
-    ) -> Answer<R> {
-        match caller.call(desk.name.as_slice(), step) {
-            Ok(receipt) => Answer::text(receipt.status(), receipt.into_body()),
-            Err(refusal) => Answer::refused(self.alloc, refusal),
+            _ => caller.answer(self.alloc, desk.name.as_slice(), step),
         }
     }
 
@@ -153,7 +144,7 @@ impl<R: Wait + Clock + Copy + Drop> Bench<'_, R> {
 }
 
 /// A call after which a watch may have something to give.
-fn may_tell(call: Call) -> bool {
+pub(crate) fn may_tell(call: Call) -> bool {
     match call {
         Call::Put | Call::DeleteRange | Call::Txn | Call::Compaction | Call::Watch | Call::Revoke =>
             true,
