@@ -1,6 +1,7 @@
 -- A lease that goes into a book, has another end, or leaves it.
 use Rattle.std.proofs.Common.{◌≡◌, ℕ, zero, suc, ◌+◌, ◌<◌, ◌≤◌, List, [], ◌∷◌, length, get_or, set, map, refl, sym, ap, subst, ◌∙◌, arith, inl, inr}
-use Rattle.std.specs.Prelude.{ℤ, pos, true, false, not, cond, int_le, IfSome, Some}
+use Rattle.std.specs.Prelude.{ℤ, Bool, pos, true, false, not, cond, filter, int_le, IfSome, Some}
+use Rattle.std.specs.declared.cmp.Ordering.{Ordering}
 use Rattle.std.specs.List.{AllByRecursion, insert, remove}
 use Rattle.std.specs.List.Sorted.{IsStrictlySortedBy}
 use Rattle.std.specs.Ordering.{int_eq}
@@ -44,12 +45,19 @@ cell_read (b ∷ bs) (suc i) d = cell_read bs i d
 pub ttl_within : (ttl : ℕ) → int_le (pos ttl) max_ttl ≡ true → ttl ≤ 9000000000
 ttl_within ttl h = grind (arith, nat_tests)
 
-put_length : (x : Lease) (ls : List Lease) → length (put_in by_id ls x) ≤ length ls + 1
-put_length x [] = omega arith
-put_length x (l ∷ ls) = elim (by_id x l) as (λ o. length (beside o x l ls (put_in by_id ls x)) ≤ length (l ∷ ls) + 1) [
+pub put_length : {X : Type 0} (cmp : X → X → Ordering) (x : X) (xs : List X) → length (put_in cmp xs x) ≤ length xs + 1
+put_length cmp x [] = omega arith
+put_length cmp x (y ∷ xs) = elim (cmp x y) as (λ o. length (beside o x y xs (put_in cmp xs x)) ≤ length (y ∷ xs) + 1) [
   | Less ↦ omega arith
   | Equal ↦ omega arith
-  | Greater ↦ omega (arith, put_length x ls)
+  | Greater ↦ omega (arith, put_length cmp x xs)
+]
+
+pub filter_length : {X : Type 0} (p : X → Bool) (xs : List X) → length (filter p xs) ≤ length xs
+filter_length p [] = omega arith
+filter_length p (x ∷ xs) = elim (p x) as (λ b. length (cond b (x ∷ filter p xs) (filter p xs)) ≤ length (x ∷ xs)) [
+  | true ↦ omega (arith, filter_length p xs)
+  | false ↦ omega (arith, filter_length p xs)
 ]
 
 within_later : (s t : ℕ) (ls : List Lease) → t ≤ s → AllByRecursion (IsWithin s) ls → AllByRecursion (IsWithin t) ls
@@ -119,7 +127,7 @@ module _ (bs : List Booked) (s most : ℕ) (book : IsBook (leases_of bs) s most)
 
   pub added_book : (t : ℕ) → IsSooner s x.lease t → int_le (pos x.lease.ttl) max_ttl ≡ true → length (leases_of bs) < most → IsBook (leases_of (insert bs (ids_below (leases_of bs) x.lease.id) x)) t most
   added_book t sooner ttl room =
-      subst (λ ls. IsBook ls t most) (sym added) (book_put (leases_of bs) s t most x.lease book sooner ttl (omega (arith, put_length x.lease (leases_of bs), room)))
+      subst (λ ls. IsBook ls t most) (sym added) (book_put (leases_of bs) s t most x.lease book sooner ttl (omega (arith, put_length by_id x.lease (leases_of bs), room)))
 
 within_at : (s : ℕ) (ls : List Lease) (i : ℕ) (d : Lease) → i < length ls → AllByRecursion (IsWithin s) ls → IsWithin s (get_or ls i d)
 within_at s [] i d lt all = absurd (omega (arith, lt))

@@ -81,14 +81,15 @@ pub record IsBook (leases : List Lease) (soonest most : ℕ) : Type 0 where
   pub count : length leases ≤ most
   pub room : most ≤ 4294967295
 
--- the same with attachments, whose IDs don't fall, with as much room for them, and with room to collect all
--- leases
+-- the same with no more attachments, whose IDs don't fall, and with room for as many attachments and to collect
+-- all leases
 pub record IsKeyedBook
     (leases : List Lease) (soonest most : ℕ) (attachments : List Attachment) (room due_room : ℕ) :
     Type 0 where
   pub book : IsBook leases soonest most
   pub rise : RiseById attachments
-  pub same_room : room ≡ most
+  pub keys : length attachments ≤ most
+  pub keys_fit : most ≤ room
   pub due_fits : most ≤ due_room
 
 -- the lease with an ID stands at a place, which is its own

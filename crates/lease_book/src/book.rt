@@ -1,6 +1,7 @@
 //! The book.
 ghost use Rattle.std.specs.Prelude.{◌≡◌, ◌<◌, ◌≤◌, [], int_le, length, pos, true, slice_get, slice_index_or};
-ghost use Rattle.std.specs.Prelude.{IfOk, IfSome, IsSome, MatchResult, Some, drop, option_map};
+ghost use Rattle.std.specs.Prelude.{IfOk, IfSome, IsOk, IsSome, MatchResult, OnErr, OnOk, Some, drop, max};
+ghost use Rattle.std.specs.Prelude.{option_map};
 ghost use Rattle.std.specs.List.{insert, remove};
 ghost use Rattle.std.specs.List.Sorted.{IsStrictlySortedBy};
 ghost use Rattle.etcd_types.specs.Limits.{last_moment, max_ttl};
@@ -90,6 +91,23 @@ impl LeaseBook {
             due,
             taken: 0,
         })
+    }
+
+    /// Makes room for so many leases and as many attached keys, or finds no memory and changes nothing that
+    /// a contract sees: what was made by then stays. The room is never less than before.
+    pub fn grow_rooms(&mut self, cells: u32) -> Mem<()>
+        ensures ok { OnOk result (self.new ≡ record self.old { room = max self.old.room cells }) }
+        ensures err { OnErr result (self.new ≡ self.old) }
+        ensures sure { cells ≤ self.old.room → IsOk result }
+    {
+        let room = cells as usize;
+        if room > self.list.room() {
+            self.due.reserve_exact(room.saturating_sub(self.due.len()))?;
+            self.attachments.grow_room(room)?;
+            // Only now, since this is the room that the book tells.
+            self.list.grow_room(room)?;
+        }
+        Ok(())
     }
 
     /// How many leases there are.

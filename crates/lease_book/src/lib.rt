@@ -7,7 +7,8 @@
 //! those of one lease are side by side, and there by ascending key. The records stand elsewhere: a call that
 //! compares keys is lent them. What has run out is collected into room of the book's own, and taken from there
 //! one by one, so that the caller can end each lease with its keys before it takes the next. `LeaseBook::new`
-//! takes all memory; no other call takes any, and each succeeds under its stated condition.
+//! takes all memory, and `grow_rooms` what more room asks for; no other call takes any, and each succeeds under
+//! its stated condition.
 //!
 //! **The life of some leases.** A lease is its ID, its time to live and the moment of its end; the counter is
 //! the number from which the next ID is chosen.

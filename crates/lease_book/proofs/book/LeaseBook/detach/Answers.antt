@@ -1,10 +1,11 @@
-use Rattle.std.proofs.Common.{sym, subst, ◌∙◌, to_z, of_z, w64}
+use Rattle.std.proofs.Common.{sym, subst, arith, to_z, of_z, w64}
 use Rattle.std.specs.Prelude.{not}
 use Rattle.std.specs.Ordering.{is_eq}
 use Rattle.lease_book.specs.declared.attachments.Attachment.{Attachment}
 use Rattle.lease_book.specs.Attached.{AreAttached, attachment_cmp}
 use Rattle.lease_book.specs.Book.{Book}
 use Rattle.lease_book.proofs.Attached.{attached_filter}
+use Rattle.lease_book.proofs.Changed.{filter_length}
 use Rattle.lease_book.proofs.Stretch.{rise_filter}
 use Rattle.lease_book.proofs.book.LeaseBook.detach.Goals as goal
 
@@ -20,7 +21,8 @@ invariant_of-self g c =
     record {
       book = c.self.invariant.book;
       rise = rw c.drop_key.ensures.items (rise_filter (λ (b : Attachment). not (is_eq (attachment_cmp cells b gone))) c.self.inside.attachments.items c.self.invariant.rise);
-      same_room = c.drop_key.ensures.room ∙ c.self.invariant.same_room;
+      keys = rw c.drop_key.ensures.items (omega (arith, filter_length (λ (b : Attachment). not (is_eq (attachment_cmp cells b gone))) c.self.inside.attachments.items, c.self.invariant.keys));
+      keys_fit = omega (arith, c.drop_key.ensures.room, c.self.invariant.keys_fit);
       due_fits = c.self.invariant.due_fits;
     }
 

@@ -14,7 +14,7 @@ invariant_of-self c =
     let room : length (leases_of list.items) < list.room = subst (λ (b : Book). length b.leases < b.room) (sym c.self.view_is) c.requires.room in
     let items : c.insert.new.self.items ≡ insert list.items (ids_below (leases_of list.items) x.lease.id) x = search rules in
     let sound = added_book list.items c.self.inside.soonest list.room c.self.invariant.book x none c.min-self-inside.result (record { before = omega arith; end = omega arith }) c.requires.fits.ttl room in
-    rw (items, c.insert.ensures.room) (record { book = sound; rise = c.self.invariant.rise; same_room = c.self.invariant.same_room; due_fits = c.self.invariant.due_fits })
+    rw (items, c.insert.ensures.room) (record { book = sound; rise = c.self.invariant.rise; keys = c.self.invariant.keys; keys_fit = c.self.invariant.keys_fit; due_fits = c.self.invariant.due_fits })
 
 pub returns-clause-leases : goal.returns-clause-leases
 returns-clause-leases c =

@@ -7,6 +7,7 @@ invariant_of-result c =
     rw (c.in_ok-list.ensures.items, c.in_ok-attachments.ensures.items) (record {
       book = record { ascend = tt; within = tt; count = omega arith; room = omega (arith, c.in_ok-list.ensures.room) };
       rise = tt;
-      same_room = omega (arith, c.in_ok-list.ensures.room, c.in_ok-attachments.ensures.room);
+      keys = omega arith;
+      keys_fit = omega (arith, c.in_ok-list.ensures.room, c.in_ok-attachments.ensures.room);
       due_fits = omega (arith, c.in_ok-list.ensures.room, c.in_ok-due.ensures.capacity);
     })

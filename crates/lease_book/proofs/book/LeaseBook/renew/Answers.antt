@@ -22,7 +22,7 @@ invariant_of-self c =
     let has : has_lease (leases_of list.items) c.args.id ≡ true = subst (λ (b : Book). has_lease b.leases c.args.id ≡ true) (sym c.self.view_is) c.requires.has in
     let position : q ≡ ids_below (leases_of list.items) c.args.id = search rules in
     let sound = renewed_book list.items c.self.inside.soonest list.room c.self.invariant.book c.args.id has x q position c.get-booked.ensures (c.args.moment + x.lease.ttl) c.min-self-inside.result (record { before = omega arith; end = omega arith }) in
-    rw (c.set.ensures.items, c.set.ensures.room) (record { book = sound; rise = c.self.invariant.rise; same_room = c.self.invariant.same_room; due_fits = c.self.invariant.due_fits })
+    rw (c.set.ensures.items, c.set.ensures.room) (record { book = sound; rise = c.self.invariant.rise; keys = c.self.invariant.keys; keys_fit = c.self.invariant.keys_fit; due_fits = c.self.invariant.due_fits })
 
 pub returns-clause-leases : goal.returns-clause-leases
 returns-clause-leases c =
