@@ -1,6 +1,6 @@
 //! A call that is held under its tenant's lock, until a later one on another tenant was answered.
 use crate::peer::Peer;
-use crate::tenants::{PUT_REQUEST, seats, two_tenants};
+use crate::tenants::{PUT_REQUEST, SEATS, seats, two_tenants};
 use host_sessions::{End, Jobs, Sessions};
 use std::alloc::AllocGlobal;
 use std::random::RandomSource;
@@ -69,7 +69,7 @@ where
 fn a_call_on_another_tenant_does_not_wait(rt: HostRuntime) -> Result<(), Fail> {
     let alloc = rt.alloc();
     let mut registry = two_tenants(alloc)?;
-    let seats = seats(alloc, &mut registry)?;
+    let seats = seats(alloc, &mut registry, SEATS)?;
     let gate = Until {
         held: AtomicBool::new(false),
         answered: AtomicBool::new(false),

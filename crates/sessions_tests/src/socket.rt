@@ -35,7 +35,8 @@ fn a_put_is_answered_over_loopback(rt: HostRuntime) -> Result<(), Fail> {
     let listening = Sessions::listen(&rt, &config)?;
     let address = listening.address()?;
     let mut registry = two_tenants(alloc)?;
-    let seats = seats(alloc, &mut registry)?;
+    let wanted = config.seats();
+    let seats = seats(alloc, &mut registry, wanted)?;
     let (ended, answer) = thread::join(
         &rt,
         || Sessions::serve(rt, listening, &registry, seats, &OpenGate),
@@ -46,7 +47,7 @@ fn a_put_is_answered_over_loopback(rt: HostRuntime) -> Result<(), Fail> {
     assert!(rt; answer.as_slice().ends_with(PUT_TEXT));
     let ended = ended?;
     assert_eq!(rt; ended.connections, 1);
-    assert_eq!(rt; ended.seats.len(), 5);
+    assert_eq!(rt; ended.seats.len(), wanted);
     Ok(())
 }
 

@@ -1,6 +1,6 @@
 //! Streams that fail at each of their reads and writes.
 use crate::peer::Peer;
-use crate::tenants::{PUT_REQUEST, ask, seats, two_tenants};
+use crate::tenants::{PUT_REQUEST, SEATS, ask, seats, two_tenants};
 use etcd_types::Call;
 use host_sessions::{End, Sessions};
 use std::alloc::AllocGlobal;
@@ -42,7 +42,7 @@ where
 {
     let alloc = rt.alloc();
     let mut registry = two_tenants(alloc)?;
-    let seats = seats(alloc, &mut registry)?;
+    let seats = seats(alloc, &mut registry, SEATS)?;
     let mut seat = registry.seat()?;
     let peer = Peer::failing(alloc, says, enough, reads_left, writes_left)?;
     let seen = Arc::try_clone(&peer.seen)?;

@@ -7,7 +7,7 @@ use std::sync::Wait;
 use std::test::Fail;
 use tenant_registry::{OpenGate, Receipt, Registry, Seat, TenantConfig};
 
-/// The seats of two workers, and of the clock, the pump and the catch-up worker.
+/// The seats of two workers, and of the clock, the pump and the catch-up worker, where no sockets are served.
 pub(crate) const SEATS: usize = 5;
 
 /// A put of `Zm9v` = `YmFy` on the first tenant.
@@ -37,10 +37,14 @@ pub(crate) fn two_tenants(alloc: Global) -> Result<Registry, Fail> {
     Ok(Registry::new(alloc, configs, 64)?)
 }
 
-/// The seats that a server with two workers takes.
-pub(crate) fn seats(alloc: Global, registry: &mut Registry) -> Result<Vec<Seat>, Fail> {
+/// So many seats.
+pub(crate) fn seats(
+    alloc: Global,
+    registry: &mut Registry,
+    count: usize,
+) -> Result<Vec<Seat>, Fail> {
     let mut seats = Vec::new(alloc);
-    for _ in 0..SEATS {
+    for _ in 0..count {
         seats.push(registry.seat()?)?;
     }
     Ok(seats)
