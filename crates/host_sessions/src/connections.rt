@@ -19,10 +19,9 @@ use std::time::{Clock, Duration};
 use std::{io, net, thread};
 use tenant_registry::{Gate, Seat};
 use tokio::net::TcpStream;
-use tokio::reactor;
 use tokio::runtime::LocalRuntime;
 use tokio::sync::mpsc::{UnboundedReceiver, UnboundedSender, unbounded_channel};
-use tokio::time;
+use tokio::{reactor, time};
 
 /// How many loops read and write sockets.
 pub(crate) const LOOPS: usize = 4;

@@ -257,7 +257,11 @@ impl<I: Drop, R: Wait + Copy + Drop> Exchange<I, R> {
                 None
             }
             Err(errand) => {
-                let Errand { route, step, reply: _ } = errand;
+                let Errand {
+                    route,
+                    step,
+                    reply: _,
+                } = errand;
                 self.queue(route, Ask::Step(step))
             }
         }

@@ -89,11 +89,7 @@ impl<'x, R: Wait + Clock + Copy + Drop, G: Gate> Hatch<'x, R, G> {
     /// Serves a call if its tenant is free, and else gives it back.
     fn serve(&mut self, errand: Errand<R>) {
         let Errand { route, step, reply } = errand;
-        let Station {
-            rt,
-            caller,
-            floor,
-        } = &mut self.station;
+        let Station { rt, caller, floor } = &mut self.station;
         let place = route.place;
         let told = if floor.rota.try_take(place) {
             let told = match floor.desks.get(place) {

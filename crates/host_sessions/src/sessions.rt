@@ -8,12 +8,12 @@ use futures::executor::block_on;
 use hyper::server::conn::http1;
 use std::alloc::AllocGlobal;
 use std::hash::RandomState;
+use std::io;
 use std::net::{Net, SocketAddr, TcpListener};
 use std::random::RandomSource;
 use std::sync::Wait;
 use std::thread::Threads;
 use std::time::Clock;
-use std::io;
 use tenant_registry::{Gate, Registry, Seat};
 use tokio::io::{AsyncRead, AsyncWrite};
 use tokio::runtime::LocalRuntime;
@@ -159,7 +159,16 @@ impl Sessions {
         bring: B,
     ) -> Result<Vec<Seat>, ServeFault>
     where
-        R: Wait + Threads + Clock + RandomSource + AllocGlobal + Copy + Drop + Send + Sync + 'static,
+        R: Wait
+            + Threads
+            + Clock
+            + RandomSource
+            + AllocGlobal
+            + Copy
+            + Drop
+            + Send
+            + Sync
+            + 'static,
         G: Gate + Sync,
         B: FnOnce(Jobs<R>) -> Result<(), ServeFault> + Drop,
         requires { B.IsAlwaysCallable bring }
