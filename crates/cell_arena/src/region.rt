@@ -138,7 +138,8 @@ impl Region {
 
     /// How many segments are drawn: those with a cell in use.
     pub fn drawn(&self) -> u32
-        ensures { result ≡ self.now.share.drawn }
+        ensures drawn { result ≡ self.now.share.drawn }
+        ensures within { result ≤ self.now.share.reserved }
     {
         self.table.drawn
     }

@@ -44,7 +44,8 @@ impl Log {
 impl Store {
     /// How many segments are drawn: those with a cell in use.
     pub fn drawn(&self) -> u32
-        ensures { result ≡ self.now.share.drawn }
+        ensures drawn { result ≡ self.now.share.drawn }
+        ensures within { result ≤ self.now.share.reserved }
     {
         self.log.region.drawn()
     }

@@ -1,5 +1,6 @@
 -- How many cells are in use after a commit.
-use Rattle.std.proofs.Common.{◌≡◌, ℕ, ◌+◌, ◌*◌, ◌≤◌, ◌^◌, List, [], ap, refl, subst, sym, ◌∙◌, arith}
+use Rattle.std.proofs.Math.Nat.{le_refl}
+use Rattle.std.proofs.Common.{◌≡◌, ℕ, ◌+◌, ◌*◌, ◌≤◌, ◌^◌, List, ap, refl, subst, sym, ◌∙◌, arith}
 use Rattle.std.specs.Prelude.{length, sum_by, ℤ, pos, negsuc, ◌≤ℤ◌, true, false, IfSome, Option, Some, None, is_some}
 use Rattle.std.specs.List.Sorted.{IsStrictlySortedBy}
 use Rattle.std.proofs.Math.IntN.{nat_abs}
@@ -45,24 +46,25 @@ used_after s r within is = omega (arith, reserved_stays s r within is)
 -- after a write as many cells are in use as were planned
 pub machine_after_write : (store new : StoreState) (leases after : Book) (moment : ℕ) (quota : Quota) (writes : List Write) (used : ℕ) → IsMachine store leases moment quota
     → used ≡ cells_used (written store writes) leases.leases → used ≤ 64 * store.share.reserved
-    → new.kept ≡ written store writes → new.lease_cells ≡ store.lease_cells → new.share.reserved ≡ store.share.reserved
+    → new.kept ≡ written store writes → new.lease_cells ≡ store.lease_cells → new.share.reserved ≡ store.share.reserved → new.share.rooms ≡ store.share.rooms
     → after ≡ record leases { attachments = after.attachments } → KeepsLeases new after moment → IsMachine new after moment (record quota { used = used })
-machine_after_write store new leases after moment quota writes used is counted within kept cells reserved others keeps = record {
+machine_after_write store new leases after moment quota writes used is counted within kept cells reserved rooms others keeps = record {
   used = counted ∙ ap (λ (s : Store). cells_used s leases.leases) (sym kept) ∙ ap (λ (b : Book). cells_used new.kept b.leases) (sym others);
   leases = cells ∙ is.leases ∙ ap (λ (b : Book). length b.leases) (sym others);
-  room = omega (arith, is.room, reserved, ap (λ (b : Book). b.room) others);
+  room = omega (arith, is.room, rooms, ap (λ (b : Book). b.room) others);
   clock = is.clock;
   within = omega (arith, within, reserved);
   allowed = omega (arith, is.allowed, reserved);
-  few = omega (arith, is.few, reserved);
+  reserved = omega (arith, is.reserved, reserved, rooms);
+  few = omega (arith, is.few, rooms);
   keeps = keeps;
 }
 
 -- after a compaction the cells in use are fewer by those that records no longer take
 pub machine_after_compaction : (store new : StoreState) (leases : Book) (moment : ℕ) (quota : Quota) (revision used : ℕ) → IsMachine store leases moment quota → IsStore store.kept → FitsCompaction store revision
-    → new.kept ≡ compact store.kept revision → new.lease_cells ≡ store.lease_cells → new.share.reserved ≡ store.share.reserved
+    → new.kept ≡ compact store.kept revision → new.lease_cells ≡ store.lease_cells → new.share.reserved ≡ store.share.reserved → new.share.rooms ≡ store.share.rooms
     → used + record_cells store.kept.changes ≡ quota.used + record_cells new.kept.changes → KeepsLeases new leases moment → IsMachine new leases moment (record quota { used = used })
-machine_after_compaction store new leases moment quota revision used is sound fits kept cells reserved falls keeps =
+machine_after_compaction store new leases moment quota revision used is sound fits kept cells reserved rooms falls keeps =
     let records = ap (λ (s : Store). record_cells s.changes) kept in
     let counted = ap counted_cells kept in
     let taken = used_after store.kept revision fits.within sound in
@@ -70,26 +72,28 @@ machine_after_compaction store new leases moment quota revision used is sound fi
     record {
       used = omega (arith, falls, is.used, taken, records, counted);
       leases = cells ∙ is.leases;
-      room = omega (arith, is.room, reserved);
+      room = omega (arith, is.room, rooms);
       clock = is.clock;
       within = omega (arith, is.within, reserved, falls, fewer);
       allowed = omega (arith, is.allowed, reserved);
-      few = omega (arith, is.few, reserved);
+      reserved = omega (arith, is.reserved, reserved, rooms);
+      few = omega (arith, is.few, rooms);
       keeps = keeps;
     }
 
 -- after a grant one more is
 pub machine_after_grant : (store new : StoreState) (leases after : Book) (moment : ℕ) (quota : Quota) → IsMachine store leases moment quota
-    → cells_used store.kept leases.leases + 1 ≤ 64 * store.share.reserved → new.kept ≡ store.kept → new.lease_cells ≡ store.lease_cells + 1 → new.share.reserved ≡ store.share.reserved
+    → cells_used store.kept leases.leases + 1 ≤ 64 * store.share.reserved → new.kept ≡ store.kept → new.lease_cells ≡ store.lease_cells + 1 → new.share.reserved ≡ store.share.reserved → new.share.rooms ≡ store.share.rooms
     → length after.leases ≡ length leases.leases + 1 → after.room ≡ leases.room → KeepsLeases new after moment → IsMachine new after moment (record quota { used = quota.used + 1 })
-machine_after_grant store new leases after moment quota is within kept cells reserved count room keeps = record {
+machine_after_grant store new leases after moment quota is within kept cells reserved rooms count room keeps = record {
   used = omega (arith, is.used, ap counted_cells kept, count);
   leases = omega (arith, cells, is.leases, count);
-  room = omega (arith, is.room, room, reserved);
+  room = omega (arith, is.room, room, rooms);
   clock = is.clock;
   within = omega (arith, is.used, within, reserved);
   allowed = omega (arith, is.allowed, reserved);
-  few = omega (arith, is.few, reserved);
+  reserved = omega (arith, is.reserved, reserved, rooms);
+  few = omega (arith, is.few, rooms);
   keeps = keeps;
 }
 
@@ -98,10 +102,11 @@ pub machine_after_renewal : (store : StoreState) (leases after : Book) (moment :
 machine_after_renewal store leases after moment quota is count room keeps = record {
   used = omega (arith, is.used, count);
   leases = omega (arith, is.leases, count);
-  room = room ∙ is.room;
+  room = omega (arith, is.room, room);
   clock = is.clock;
   within = is.within;
   allowed = is.allowed;
+  reserved = is.reserved;
   few = is.few;
   keeps = keeps;
 }
@@ -140,6 +145,7 @@ opened_machine first cells segments most low whole few allowed store book quota 
       clock = omega arith;
       within = omega arith;
       allowed = omega (arith, whole, allowed);
+      reserved = le_refl _;
       few = omega (arith, whole, few);
       keeps = opening_keeps first cells cells low;
     })))

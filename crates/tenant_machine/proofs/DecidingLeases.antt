@@ -18,13 +18,13 @@ use Rattle.etcd_model.specs.Store.{kept_store}
 use Rattle.etcd_model.specs.Tenant.{header, stays, used}
 use Rattle.model_laws.proofs.BoundLaws.{grant_has_id}
 use Rattle.model_laws.proofs.CounterLaws.{grant_adds}
-use Rattle.lease_book.specs.Book.{leases_of}
+use Rattle.lease_book.specs.Book.{Book, leases_of}
 use Rattle.lease_book.specs.declared.book.Booked.{Booked}
 use Rattle.lease_book.specs.Granting.{IsGrant, grant_refusal}
 use Rattle.lease_book.specs.declared.granting.NewLease.{NewLease}
 use Rattle.revision_store.specs.Stored.{reads}
 use Rattle.tenant_machine.specs.Deciding.{Does, gate, granted, past_gate}
-use Rattle.tenant_machine.specs.Tenants.{MachineState, cells_used, tenant}
+use Rattle.tenant_machine.specs.Tenants.{MachineState, cells_used, tenant, told_book}
 use Rattle.tenant_machine.specs.Plans.{Plan}
 use Rattle.tenant_machine.specs.declared.planned.Effect.TheVariants.{Alarm, Nothing, Grant as GrantEffect}
 use Rattle.tenant_machine.proofs.DecidingOps.{does_as}
@@ -102,3 +102,12 @@ pub time_does : (m : MachineState) (id : ℤ) (asked : Bool) (l : Lease) (keys :
 time_does m id asked l keys p is are planned =
     subst (λ (o : Option Lease). Does m p (stays kept_store (tenant m) (time_left kept_store (tenant m) id asked o))) (sym is)
     (does_as m p _ _ planned (record { reply = ap (TimeReply (header kept_store (tenant m)) id (pos (l.end - m.moment)) (pos l.ttl)) are; state = refl }))
+
+-- a grant is the same of a book as it is told
+pub told_grant : (book : Book) (moment : ℕ) (request : GrantReq) (new : NewLease) → IsGrant book moment request new → IsGrant (told_book book) moment request new
+told_grant book moment request new is = record {
+  granted = is.granted;
+  lease = is.lease;
+  counter = is.counter;
+  fits = record { id = is.fits.id; ttl = is.fits.ttl };
+}

@@ -1,16 +1,14 @@
 -- What a plan promises, whatever state is held.
-use Rattle.std.proofs.Common.{◌≡◌, Bool, true, false, refl, ◌∙◌, subst, sym}
-use Rattle.std.specs.Prelude.{ℕ, [], None, replicate, Result, Ok, Err, IfOk, if◌then◌else◌}
+use Rattle.std.proofs.Common.{◌≡◌, false, ◌∙◌, subst, sym}
+use Rattle.std.specs.Prelude.{ℕ, None, replicate, Result, Ok, Err, IfOk}
 use Rattle.etcd_types.specs.declared.step.Step.{Step}
 use Rattle.etcd_types.specs.declared.reply.Reply.{Reply}
-use Rattle.etcd_types.specs.declared.reply.Reply.TheVariants.{Refused}
 use Rattle.etcd_types.specs.Limits.{watch_slots}
 use Rattle.etcd_model.specs.declared.state.History.{History}
-use Rattle.etcd_model.specs.declared.state.State.{State}
 use Rattle.etcd_model.specs.Stepping.{machine}
 use Rattle.etcd_model.specs.Machine as full
 use Rattle.etcd_model.specs.Machine.{opening}
-use Rattle.etcd_model.specs.Store.{Store, kept_store}
+use Rattle.etcd_model.specs.Store.{kept_store}
 use Rattle.etcd_model.specs.Held.{Holds, empty_store, over}
 use Rattle.model_laws.proofs.HoldsLaws.{held_after_step, opening_is_held}
 use Rattle.lease_book.specs.Book.{empty_book}

@@ -1,28 +1,27 @@
 -- What a book and a store are to one another stays through each effect.
-use Rattle.std.proofs.Common.{◌≡◌, ℕ, ◌+◌, ◌*◌, ◌<◌, ◌≤◌, List, [], ◌∷◌, arith, length, map, refl, sym, ap, ◌∙◌, subst}
-use Rattle.std.specs.Prelude.{ℤ, pos, Bool, true, false, not, ◌||◌, cond, filter, Option, Some, None, IfSome, IsSome, is_some, option_and_then}
+use Rattle.std.proofs.Common.{◌≡◌, ℕ, ◌+◌, ◌<◌, ◌≤◌, List, [], ◌∷◌, arith, map, refl, sym, ap, ◌∙◌, subst}
+use Rattle.std.specs.Prelude.{ℤ, pos, Bool, true, false, ◌||◌, cond, filter, Option, Some, None, IfSome, IsSome, is_some, option_and_then}
 use Rattle.std.specs.List.{AllByRecursion, insert}
 use Rattle.std.specs.List.Sorted.{IsStrictlySortedBy}
 use Rattle.std.specs.Ordering.{int_cmp, int_eq, ordering_then}
 use Rattle.std.specs.declared.cmp.Ordering.TheVariants.{Less}
 use Rattle.std.proofs.lemmas.Bool.Decides.{Decides-int_eq}
 use Rattle.std.proofs.lemmas.List.Elements.{recursion_from_All}
-use Rattle.etcd_types.specs.Limits.{last_revision}
+use Rattle.etcd_types.specs.Limits.{last_revision, max_quota}
 use Rattle.etcd_types.specs.declared.key_value.KeyValue.{KeyValue}
-use Rattle.etcd_model.specs.declared.state.Change.{Change}
 use Rattle.etcd_model.specs.declared.state.Lease.{Lease}
 use Rattle.etcd_model.specs.Held.{by_id}
 use Rattle.etcd_model.specs.Leases.{lease_at, put_lease}
 use Rattle.etcd_model.specs.Operations.{has_lease}
-use Rattle.etcd_model.specs.Changes.{Recorded, keys, live, rows}
-use Rattle.etcd_model.specs.Interval.{every_key, is_in}
+use Rattle.etcd_model.specs.Changes.{Recorded, keys, live}
+use Rattle.etcd_model.specs.Interval.{every_key}
 use Rattle.etcd_model.specs.Order.{key_cmp, put_in}
 use Rattle.etcd_model.specs.Store.{Store, IsStore, after, compact, counted_cells, record_cells}
 use Rattle.etcd_model.proofs.RowLaws.{all_rows as each_row}
 use Rattle.key_index.specs.Links.{Cells}
 use Rattle.key_index.specs.Sought.{entry_key}
 use Rattle.lease_book.specs.declared.attachments.Attachment.{Attachment}
-use Rattle.lease_book.specs.Attached.{AreAttached, HoldRows, attachment_cmp, heads_of, rows_of}
+use Rattle.lease_book.specs.Attached.{attachment_cmp, heads_of, rows_of}
 use Rattle.lease_book.specs.Book.{Book, empty_book, ids_below}
 use Rattle.lease_book.specs.declared.granting.NewLease.{NewLease}
 use Rattle.lease_book.proofs.Standing.{has_is}
@@ -172,28 +171,28 @@ next_revision store new book moment writes revision sound keeps once kept stay n
 }
 
 pub keeps_after_write : (store new : StoreState) (book after_it : Book) (moment : ℕ) (writes : List Write) → KeepsLeases store book moment → new.kept ≡ after store.kept (changes_of store writes)
-    → leases_of new.records ≡ leases_of store.records → new.share.reserved ≡ store.share.reserved → store.kept.current < last_revision → counted_cells new.kept ≤ 64 * store.share.reserved
+    → leases_of new.records ≡ leases_of store.records → store.kept.current < last_revision → counted_cells new.kept ≤ max_quota
     → AreKeysOf (cells_in new) after_it.attachments (all_rows new.kept) → after_it ≡ record book { attachments = after_it.attachments } → KeepsLeases new after_it moment
-keeps_after_write store new book after_it moment writes keeps kept records reserved low within keys others = record {
+keeps_after_write store new book after_it moment writes keeps kept records low within keys others = record {
   keys = keys;
   recorded = ap (λ f. map f after_it.cells) records ∙ ap (λ (b : Book). map (leases_of store.records) b.cells) others ∙ keeps.recorded ∙ ap (λ (b : Book). map (λ l. Some (lease_record l)) b.leases) (sym others);
   timely = subst (λ (b : Book). AllByRecursion (IsTimely moment) b.leases) (sym others) keeps.timely;
   counter = omega (arith, keeps.counter, ap (λ (b : Book). b.counter) others);
   revisions =
-      subst (λ (s : Store). HasRevisions (64 * new.share.reserved) s) (sym kept)
-      (write_has_revisions store.kept (changes_of store writes) (64 * new.share.reserved) low (omega (arith, within, reserved, ap counted_cells kept)));
+      subst (λ (s : Store). HasRevisions max_quota s) (sym kept)
+      (write_has_revisions store.kept (changes_of store writes) max_quota low (omega (arith, within, ap counted_cells kept)));
 }
 
 pub keeps_after_compaction : (store new : StoreState) (book : Book) (moment r : ℕ) → IsStore store.kept → KeepsLeases store book moment → new.kept ≡ compact store.kept r → r ≤ store.kept.current
-    → RowsStay (cells_in store) (cells_in new) store.kept.current store.kept.changes → leases_of new.records ≡ leases_of store.records → new.share.reserved ≡ store.share.reserved → KeepsLeases new book moment
-keeps_after_compaction store new book moment r sound keeps kept within stay records reserved = record {
+    → RowsStay (cells_in store) (cells_in new) store.kept.current store.kept.changes → leases_of new.records ≡ leases_of store.records → KeepsLeases new book moment
+keeps_after_compaction store new book moment r sound keeps kept within stay records = record {
   keys = keys_compacted store new book.attachments r sound keeps.keys stay kept within;
   recorded = ap (λ f. map f book.cells) records ∙ keeps.recorded;
   timely = keeps.timely;
   counter = keeps.counter;
   revisions =
-      subst (λ (s : Store). HasRevisions (64 * new.share.reserved) s) (sym kept)
-      (compaction_has_revisions store.kept r (64 * new.share.reserved) sound within (subst (λ n. HasRevisions (64 * n) store.kept) (sym reserved) keeps.revisions));
+      subst (λ (s : Store). HasRevisions max_quota s) (sym kept)
+      (compaction_has_revisions store.kept r max_quota sound within keeps.revisions);
 }
 
 -- a lease that is granted, or has a new end
@@ -202,10 +201,10 @@ timely_put moment ls id ttl chosen all = all_put (IsTimely moment) by_id _ ls (r
 
 pub keeps_after_grant : (store new : StoreState) (book after_it : Book) (moment : ℕ) (grant : NewLease) (cell : ℕ) → KeepsLeases store book moment → IsStrictlySortedBy by_id book.leases → has_lease book.leases grant.lease.id ≡ false
     → int_eq grant.lease.id (pos 0) ≡ false → 1 ≤ grant.counter → grant.lease.end ≡ moment + grant.lease.ttl
-    → new.kept ≡ store.kept → cells_in new ≡ cells_in store → leases_of store.records cell ≡ None → leases_of new.records ≡ with_lease_cell (leases_of store.records) cell (lease_record grant.lease) → new.share.reserved ≡ store.share.reserved
+    → new.kept ≡ store.kept → cells_in new ≡ cells_in store → leases_of store.records cell ≡ None → leases_of new.records ≡ with_lease_cell (leases_of store.records) cell (lease_record grant.lease)
     → after_it.leases ≡ put_in by_id book.leases grant.lease → after_it.cells ≡ insert book.cells (ids_below book.leases grant.lease.id) cell → after_it.counter ≡ grant.counter → after_it.attachments ≡ book.attachments
     → KeepsLeases new after_it moment
-keeps_after_grant store new book after_it moment grant cell keeps up unused chosen counter end kept same fresh records reserved leases cells count attachments = record {
+keeps_after_grant store new book after_it moment grant cell keeps up unused chosen counter end kept same fresh records leases cells count attachments = record {
   keys = subst (λ (s : Store). AreKeysOf (cells_in new) after_it.attachments (all_rows s)) (sym kept) (subst (λ f. AreKeysOf f after_it.attachments (all_rows store.kept)) (sym same) (subst (λ list. AreKeysOf (cells_in store) list (all_rows store.kept)) (sym attachments) keeps.keys));
   recorded =
       ap (λ cs. map (leases_of new.records) cs) cells
@@ -214,7 +213,7 @@ keeps_after_grant store new book after_it moment grant cell keeps up unused chos
       ∙ ap (map (λ l. Some (lease_record l))) (sym leases);
   timely = subst (AllByRecursion (IsTimely moment)) (sym leases) (all_put (IsTimely moment) by_id grant.lease book.leases (record { chosen = chosen; end = omega (arith, end) }) keeps.timely);
   counter = omega (arith, counter, count);
-  revisions = subst (λ (s : Store). HasRevisions (64 * new.share.reserved) s) (sym kept) (subst (λ n. HasRevisions (64 * n) store.kept) (sym reserved) keeps.revisions);
+  revisions = subst (λ (s : Store). HasRevisions max_quota s) (sym kept) keeps.revisions;
 }
 
 pub keeps_after_renewal : (store : StoreState) (book after_it : Book) (moment : ℕ) (id : ℤ) → KeepsLeases store book moment → IsStrictlySortedBy by_id book.leases → has_lease book.leases id ≡ true
@@ -240,5 +239,5 @@ opening_keeps first cells room within = record {
   recorded = refl;
   timely = tt;
   counter = omega arith;
-  revisions = opening_has_revisions first _ within;
+  revisions = opening_has_revisions first max_quota within;
 }

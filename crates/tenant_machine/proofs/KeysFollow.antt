@@ -10,14 +10,13 @@ use Rattle.std.proofs.lemmas.Bool.{true≢false}
 use Rattle.std.proofs.lemmas.Bool.Decides.{Decides-int_eq}
 use Rattle.std.proofs.lemmas.List.Kept.{IsStrictlySortedBy-filter}
 use Rattle.etcd_types.specs.declared.key_value.KeyValue.{KeyValue}
-use Rattle.etcd_model.specs.Changes.{OwnRow, Recorded, change_of, live}
-use Rattle.etcd_model.specs.Store.{IsStore}
+use Rattle.etcd_model.specs.Changes.{Recorded, change_of, live}
 use Rattle.etcd_model.specs.History.{lease_of}
 use Rattle.etcd_model.specs.Order.{beside, by_key, key_cmp, put_in}
 use Rattle.key_index.specs.Links.{Cells, Linked, change_at}
 use Rattle.key_index.specs.Sought.{entry_key}
 use Rattle.lease_book.specs.declared.attachments.Attachment.{Attachment}
-use Rattle.lease_book.specs.Attached.{AreAttached, attachment_cmp, HasLease, HoldRows, rows_of, rows_without, with_attachment, without_attachment}
+use Rattle.lease_book.specs.Attached.{AreAttached, attachment_cmp, HasLease, HoldRows, rows_without, with_attachment, without_attachment}
 use Rattle.lease_book.proofs.HeldRows.{attached, detached, same_rows, unattached}
 use Rattle.lease_book.proofs.Ordered.{put_over}
 use Rattle.model_laws.proofs.AttachedLaws.{all_passing}

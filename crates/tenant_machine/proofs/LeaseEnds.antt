@@ -1,25 +1,23 @@
 -- The end of a lease.
-use Rattle.std.proofs.Common.{◌≡◌, ℕ, ◌+◌, ◌-◌, ◌*◌, ◌^◌, ◌<◌, ◌≤◌, List, [], ◌∷◌, arith, get_or, length, map, refl, sym, ap, ◌∙◌, subst}
+use Rattle.std.proofs.Common.{◌≡◌, ℕ, ◌+◌, ◌-◌, ◌^◌, ◌<◌, ◌≤◌, List, [], ◌∷◌, arith, get_or, length, map, refl, sym, ap, ◌∙◌, subst}
 use Rattle.std.specs.Prelude.{ℤ, pos, Bool, true, false, not, cond, filter, int_le, Some, IsSome, is_some}
 use Rattle.std.specs.List.{AllByRecursion, remove}
 use Rattle.std.specs.List.Sorted.{IsStrictlySortedBy}
 use Rattle.std.specs.Ordering.{int_eq}
 use Rattle.std.proofs.lemmas.List.{length-map}
 use Rattle.std.proofs.lemmas.List.Kept.{IsStrictlySortedBy-filter}
-use Rattle.etcd_types.specs.Limits.{last_revision, max_ttl}
+use Rattle.etcd_types.specs.Limits.{max_quota, max_ttl}
 use Rattle.etcd_types.specs.declared.key_value.KeyValue.{KeyValue}
-use Rattle.etcd_model.specs.declared.state.Change.{Change}
 use Rattle.etcd_model.specs.declared.state.Change.TheVariants.{Delete as Del}
 use Rattle.etcd_model.specs.declared.state.Lease.{Lease}
 use Rattle.etcd_model.specs.Changes.{rows}
 use Rattle.etcd_model.specs.Held.{by_id}
-use Rattle.etcd_model.specs.Interval.{every_key, is_in}
 use Rattle.etcd_model.specs.Leases.{attached, lease_at}
 use Rattle.etcd_model.specs.Operations.{has_lease}
 use Rattle.etcd_model.specs.Store.{Store, IsStore, after, counted_cells, reads_of}
 use Rattle.key_index.specs.Links.{Cells}
 use Rattle.lease_book.specs.declared.attachments.Attachment.{Attachment}
-use Rattle.lease_book.specs.Attached.{HoldRows, attachment_cmp, heads_of, rows_of, without_keys}
+use Rattle.lease_book.specs.Attached.{attachment_cmp, heads_of, rows_of, without_keys}
 use Rattle.lease_book.specs.Book.{Book, ids_below}
 use Rattle.lease_book.proofs.Changed.{ttl_within}
 use Rattle.model_laws.specs.Attached.{leased_rows}
@@ -32,11 +30,10 @@ use Rattle.model_laws.proofs.CounterLaws.{finish_takes_one}
 use Rattle.model_laws.proofs.LeasedLaws.{among_all}
 use Rattle.model_laws.proofs.SpaceLaws.{finish_takes_none}
 use Rattle.quota_alarm.specs.declared.quota.Quota.{Quota}
-use Rattle.revision_store.specs.Logged.{AllStay}
 use Rattle.revision_store.specs.Pending.{IsSound}
 use Rattle.revision_store.specs.Plans.{head_deletes, key_at}
 use Rattle.revision_store.specs.Recorded.{leases_of, without_lease_cell}
-use Rattle.revision_store.specs.Stored.{CanCommit, Commits, StoreState, cells as cells_in, changes_of, row_at}
+use Rattle.revision_store.specs.Stored.{CanCommit, Commits, StoreState, cells as cells_in, row_at}
 use Rattle.revision_store.proofs.Attached.{end_can_commit, end_changes}
 use Rattle.revision_store.proofs.PendingStores.{own_cells}
 use Rattle.tenant_machine.specs.Keyed.{AreKeysOf, IsTimely, KeepsLeases, all_rows, lease_record}
@@ -115,7 +112,7 @@ next_one store heads id are some = by (attached (reads_of store.kept) id) (omega
 
 -- there is a revision for them
 pub next_fits : (store : StoreState) (book : Book) (moment : ℕ) (quota : Quota) → IsMachine store book moment quota → store.kept.current + 1 < 2 ^ 63
-next_fits store book moment quota is = omega (arith, is.keeps.revisions, is.few)
+next_fits store book moment quota is = omega (arith, is.keeps.revisions)
 
 -- their keys are those that the definition tells
 pub keys_told : (store : StoreState) (heads : List ℕ) (rs : List KeyValue) → map (row_at (cells_in store)) heads ≡ map Some rs → map (key_at (cells_in store)) heads ≡ map (λ row. row.key) rs
@@ -161,7 +158,7 @@ module _ (store : StoreState) (book : Book) (moment : ℕ) (quota : Quota) (id :
   heads_are = heads_show store book moment id is.keeps has
 
   pub ends_can_commit : CanCommit store (head_deletes heads)
-  ends_can_commit = end_can_commit store id heads sound heads_are (omega (arith, is.used, is.leases, is.within)) (omega (arith, is.keeps.revisions, is.few))
+  ends_can_commit = end_can_commit store id heads sound heads_are (omega (arith, is.used, is.leases, is.within)) (omega (arith, is.keeps.revisions))
 
   module _ (mid : StoreState) (commits : Commits store mid (head_deletes heads)) where
     pub kept_finished : mid.kept ≡ finished store.kept id
@@ -175,20 +172,21 @@ module _ (store : StoreState) (book : Book) (moment : ℕ) (quota : Quota) (id :
       its_record = has_record (leases_of mid.records) book.cells book.leases id cell up has still_recorded at
 
       pub ended_machine : (new : StoreState) (after_it : Book) → new.kept ≡ mid.kept → cells_in new ≡ cells_in mid → leases_of new.records ≡ without_lease_cell (leases_of mid.records) cell → new.lease_cells + 1 ≡ mid.lease_cells
-          → new.share.reserved ≡ store.share.reserved → after_it.leases ≡ without_lease book.leases id → after_it.cells ≡ remove book.cells (ids_below book.leases id) → after_it.counter ≡ book.counter → after_it.room ≡ book.room
+          → new.share.reserved ≡ store.share.reserved → new.share.rooms ≡ store.share.rooms → after_it.leases ≡ without_lease book.leases id → after_it.cells ≡ remove book.cells (ids_below book.leases id) → after_it.counter ≡ book.counter → after_it.room ≡ book.room
           → after_it.attachments ≡ without_keys book.attachments id → IsMachine new after_it moment (record quota { used = quota.used - 1 })
-      ended_machine new after_it kept same_cells records lease_cells reserved leases cells counter room attachments =
+      ended_machine new after_it kept same_cells records lease_cells reserved rooms leases cells counter room attachments =
           let done : new.kept ≡ finished store.kept id = kept ∙ kept_finished in
           let one_less : length after_it.leases + 1 ≡ length book.leases = omega (arith, ap length leases, finish_takes_one book.leases id up has) in
           let counted : counted_cells new.kept ≡ counted_cells store.kept = ap counted_cells done ∙ finish_takes_none store.kept id sound.kept in
           record {
             used = omega (arith, is.used, counted, one_less);
             leases = omega (arith, is.leases, commits.lease_cells, lease_cells, one_less);
-            room = omega (arith, is.room, room, reserved);
+            room = omega (arith, is.room, room, rooms);
             clock = is.clock;
             within = omega (arith, is.within, reserved);
             allowed = omega (arith, is.allowed, reserved);
-            few = omega (arith, is.few, reserved);
+            reserved = omega (arith, is.reserved, reserved, rooms);
+            few = omega (arith, is.few, rooms);
             keeps = record {
               keys =
                   subst (λ (s : Store). AreKeysOf (cells_in new) after_it.attachments (all_rows s)) (sym done)
@@ -203,7 +201,7 @@ module _ (store : StoreState) (book : Book) (moment : ℕ) (quota : Quota) (id :
               timely = subst (AllByRecursion (IsTimely moment)) (sym leases) (all_passing (IsTimely moment) (λ l. not (int_eq l.id id)) book.leases is.keeps.timely);
               counter = omega (arith, is.keeps.counter, counter);
               revisions =
-                  subst (λ (s : Store). HasRevisions (64 * new.share.reserved) s) (sym done)
-                  (finish_has_revisions store.kept id (64 * new.share.reserved) sound.kept (subst (λ n. HasRevisions (64 * n) store.kept) (sym reserved) is.keeps.revisions));
+                  subst (λ (s : Store). HasRevisions max_quota s) (sym done)
+                  (finish_has_revisions store.kept id max_quota sound.kept is.keeps.revisions);
             };
           }

@@ -1,11 +1,9 @@
 -- What has run out ends, one lease after another.
-use Rattle.std.proofs.Common.{◌≡◌, ℕ, ◌+◌, ◌<◌, ◌≤◌, List, [], ◌∷◌, arith, drop, length, refl, sym, ap, ◌∙◌, subst}
-use Rattle.std.specs.Prelude.{ℤ, Bool, true, false, cond, ◌||◌, filter, nat_le, option_map, slice_get, Option, Some, None}
+use Rattle.std.proofs.Common.{◌≡◌, ℕ, ◌<◌, ◌≤◌, List, [], ◌∷◌, arith, drop, length, refl, sym, ap, ◌∙◌, subst}
+use Rattle.std.specs.Prelude.{ℤ, Bool, true, false, cond, ◌||◌, filter, nat_le, option_map, slice_get, Some, None}
 use Rattle.std.specs.List.{AllByRecursion, list_any}
 use Rattle.std.specs.List.Sorted.{IsStrictlySortedBy}
-use Rattle.std.specs.Ordering.{int_eq, is_eq, ordering_reverse}
-use Rattle.std.specs.declared.cmp.Ordering.{Ordering}
-use Rattle.std.specs.declared.cmp.Ordering.TheVariants.{Less, Equal, Greater}
+use Rattle.std.specs.Ordering.{int_eq}
 use Rattle.std.proofs.lemmas.Bool.Decides.{Decides-int_eq}
 use Rattle.etcd_model.specs.declared.state.Lease.{Lease}
 use Rattle.etcd_model.specs.declared.state.State.{State}
@@ -13,7 +11,7 @@ use Rattle.etcd_model.specs.Held.{by_id}
 use Rattle.etcd_model.specs.Leases.{finish, run_out}
 use Rattle.etcd_model.specs.Operations.{has_lease}
 use Rattle.etcd_model.specs.Store.{Store, kept_store}
-use Rattle.model_laws.specs.Leases.{ends, without_lease}
+use Rattle.model_laws.specs.Leases.{ends}
 use Rattle.model_laws.proofs.EndsLaws.{in_order_among, is_among}
 use Rattle.model_laws.proofs.LeaseLaws.{run_out_rest}
 use Rattle.model_laws.proofs.OpeningLaws.{ends_one_by_one}

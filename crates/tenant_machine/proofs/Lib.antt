@@ -15,3 +15,4 @@ mod RecordsKept
 mod RevisionFollow
 mod DecidingLeases
 mod DecidingWatches
+mod Reserved

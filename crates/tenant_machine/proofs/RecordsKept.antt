@@ -1,12 +1,10 @@
 -- The cells of a book have the records of its leases, with one more and without one.
-use Rattle.std.proofs.Common.{◌≡◌, ℕ, zero, suc, ◌+◌, ◌<◌, ◌≤◌, List, [], ◌∷◌, arith, get_or, is_some, length, map, set, refl, sym, ap, ◌∙◌, subst}
-use Rattle.std.specs.Prelude.{ℤ, pos, Bool, true, false, cond, Option, Some, None, IsSome, ◌==◌, if◌then◌else◌}
+use Rattle.std.proofs.Common.{◌≡◌, ℕ, zero, suc, ◌+◌, ◌<◌, List, [], ◌∷◌, arith, get_or, is_some, length, map, set, refl, sym, ap, ◌∙◌}
+use Rattle.std.specs.Prelude.{ℤ, Bool, true, false, Option, Some, None, IsSome, ◌==◌, if◌then◌else◌}
 use Rattle.std.specs.List.{AllByRecursion, insert, remove}
 use Rattle.std.specs.List.Sorted.{IsStrictlySortedBy}
 use Rattle.std.specs.Ordering.{int_cmp}
-use Rattle.std.specs.declared.cmp.Ordering.{Ordering}
 use Rattle.std.specs.declared.cmp.Ordering.TheVariants.{Less, Equal}
-use Rattle.std.proofs.lemmas.Bool.{true≢false}
 use Rattle.std.proofs.lemmas.Bool.Decides.{Decides-int_eq, Decides-eqb}
 use Rattle.std.proofs.lemmas.Cmp.{int_cmp_total, tied_itself}
 use Rattle.etcd_model.specs.declared.state.Lease.{Lease}
@@ -14,11 +12,11 @@ use Rattle.etcd_model.specs.Held.{by_id}
 use Rattle.etcd_model.specs.Leases.{lease_at, put_lease}
 use Rattle.etcd_model.specs.Operations.{has_lease}
 use Rattle.etcd_model.specs.Order.{put_in}
-use Rattle.lease_book.specs.Book.{Book, ids_below}
-use Rattle.lease_book.proofs.Changed.{gap, here, map_insert, map_remove}
+use Rattle.lease_book.specs.Book.{ids_below}
+use Rattle.lease_book.proofs.Changed.{gap, here, map_insert}
 use Rattle.model_laws.specs.Leases.{without_lease}
 use Rattle.revision_store.specs.Recorded.{LeaseCells, LeaseRecord, with_lease_cell, without_lease_cell}
-use Rattle.tenant_machine.specs.Keyed.{AreRecorded, lease_record}
+use Rattle.tenant_machine.specs.Keyed.{lease_record}
 
 abbrev said : List Lease → List (Option LeaseRecord)
 said ls = map (λ l. Some (lease_record l)) ls

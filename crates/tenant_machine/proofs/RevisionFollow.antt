@@ -1,12 +1,9 @@
 -- How the rows of a store come about, one change of a revision after another.
 use Rattle.std.proofs.Common.{◌≡◌, ℕ, zero, suc, ◌+◌, ◌-◌, ◌<◌, ◌≤◌, List, [], ◌∷◌, ◌++◌, arith, drop, drop-cons, get_or, length, map, take, refl, sym, ap, ◌∙◌, subst}
-use Rattle.std.specs.Prelude.{Bool, true, false, not, cond, filter, filter_map, fold, sum_by, nat_le, Option, Some, None, IfSome, IsSome, ◌&&◌, if◌then◌else◌}
+use Rattle.std.specs.Prelude.{Bool, true, false, not, cond, filter, filter_map, fold, nat_le, Option, Some, None, IfSome, IsSome, ◌&&◌, if◌then◌else◌}
 use Rattle.std.specs.List.{AllByRecursion, cons_option}
-use Rattle.std.specs.List.Sorted.{IsStrictlySortedBy}
-use Rattle.std.specs.Ordering.{is_eq}
 use Rattle.std.specs.Str.{bytes_eq}
 use Rattle.std.specs.Cmp.Lexicographic.{bytes_decides}
-use Rattle.std.specs.declared.cmp.Ordering.{Ordering}
 use Rattle.std.specs.declared.cmp.Ordering.TheVariants.{Less, Equal, Greater}
 use Rattle.std.proofs.lemmas.Bool.Decides.{nat_tests}
 use Rattle.std.proofs.lemmas.List.{length-append, length-map, take-append-drop}
@@ -16,16 +13,15 @@ use Rattle.std.proofs.lemmas.Simd.{map-map}
 use Rattle.etcd_types.specs.declared.key_value.KeyValue.{KeyValue}
 use Rattle.etcd_model.specs.declared.state.Change.{Change}
 use Rattle.etcd_model.specs.declared.state.Change.TheVariants.{Put as Set, Delete as Del}
-use Rattle.etcd_model.specs.Changes.{OwnRow, Recorded, change_of, entry_at, keys, live, next_row, record_revision, recorded, rows, since}
+use Rattle.etcd_model.specs.Changes.{Recorded, change_of, entry_at, keys, live, next_row, record_revision, recorded, rows, since}
 use Rattle.etcd_model.specs.History.{key_of}
 use Rattle.etcd_model.specs.Interval.{every_key}
 use Rattle.etcd_model.specs.Kept.{cost}
-use Rattle.etcd_model.specs.Order.{beside, by_key, in_order, key_cmp, put_in}
+use Rattle.etcd_model.specs.Order.{beside, key_cmp, put_in}
 use Rattle.etcd_model.specs.Store.{Store, IsStore, after, reads_of, record_cells}
 use Rattle.etcd_model.proofs.OrderLaws.{bytes_eq-key_cmp}
 use Rattle.etcd_model.proofs.RowLaws.{all_rows as each_row}
 use Rattle.key_index.specs.Links.{Cells, Linked, change_at}
-use Rattle.lease_book.specs.Attached.{rows_without}
 use Rattle.lease_book.specs.Book.{Book}
 use Rattle.lease_book.specs.declared.attachments.Attachment.{Attachment}
 use Rattle.model_laws.specs.Once.{IsOnce}

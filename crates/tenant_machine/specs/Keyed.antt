@@ -1,8 +1,9 @@
 -- How the attachments of a book stand to the rows of a store.
-use Rattle.std.specs.Prelude.{◌≡◌, ℕ, ◌+◌, ◌-◌, ◌*◌, ◌≤◌, ℤ, pos, true, false, List, map, Option, Some, None}
+use Rattle.std.specs.Prelude.{◌≡◌, ℕ, ◌+◌, ◌-◌, ◌≤◌, ℤ, pos, true, false, List, map, Option, Some, None}
 use Rattle.std.specs.List.{AllByRecursion}
 use Rattle.std.specs.List.Sorted.{IsStrictlySortedBy}
 use Rattle.std.specs.Ordering.{int_eq, is_eq}
+use Rattle.etcd_types.specs.Limits.{max_quota}
 use Rattle.etcd_types.specs.declared.key_value.KeyValue.{KeyValue}
 use Rattle.etcd_model.specs.declared.state.Change.{Change}
 use Rattle.etcd_model.specs.declared.state.Lease.{Lease}
@@ -97,4 +98,4 @@ pub record KeepsLeases (store : StoreState) (book : Book) (moment : ℕ) : Type 
   pub recorded : AreRecorded (leases_of store.records) book
   pub timely : AllByRecursion (IsTimely moment) book.leases
   pub counter : 1 ≤ book.counter
-  pub revisions : HasRevisions (64 * store.share.reserved) store.kept
+  pub revisions : HasRevisions max_quota store.kept

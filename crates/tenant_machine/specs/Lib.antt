@@ -2,3 +2,4 @@ pub mod Keyed
 pub mod Tenants
 pub mod Plans
 pub mod Deciding
+pub mod Reserving

@@ -42,6 +42,10 @@ machine_code =
     })
     (λ _. refl)
 
+-- a book as it is told: for how many leases it has room is left out
+abbrev pub told_book : Book → Book
+told_book book = record book { room = 0 }
+
 -- the machine of a store, its leases and its watches at a moment, with its quota and the alarm
 abbrev pub machine_of :
     ℕ → StoreState → Book → List (Option WatchState) → ℕ → Quota → MachineState
@@ -49,7 +53,7 @@ machine_of cluster store leases watchers moment quota = record {
   cluster = cluster;
   quota = quota.cells;
   store = store;
-  leases = leases;
+  leases = told_book leases;
   watchers = watchers;
   moment = moment;
   alarm = quota.alarm;
@@ -81,14 +85,15 @@ abbrev pub cells_used : Store → List Lease → ℕ
 cells_used kept leases = counted_cells kept + length leases
 
 -- The cells in use are counted, and they and the quota are within the segments that are reserved. Each
--- lease has a cell, and there is room for one in each cell. The book is that of the store. That the store is
--- sound it promises itself.
+-- lease has a cell, and there is room for one in each cell that the store has rooms for. The book is that of
+-- the store. That the store is sound it promises itself.
 pub record IsMachine (store : StoreState) (book : Book) (moment : ℕ) (quota : Quota) : Type 0 where
   pub used : quota.used ≡ cells_used store.kept book.leases
   pub leases : store.lease_cells ≡ length book.leases
-  pub room : book.room ≡ 64 * store.share.reserved
+  pub room : 64 * store.share.rooms ≤ book.room
   pub clock : moment ≤ last_moment
   pub within : quota.used ≤ 64 * store.share.reserved
   pub allowed : quota.cells ≤ 64 * store.share.reserved
-  pub few : store.share.reserved ≤ 2 ^ 14
+  pub reserved : store.share.reserved ≤ store.share.rooms
+  pub few : store.share.rooms ≤ 2 ^ 14
   pub keeps : KeepsLeases store book moment

@@ -12,6 +12,7 @@ mod machine;
 mod maintenance;
 mod operations;
 mod planned;
+mod reserving;
 mod watching;
 
 pub use machine::{Machine, segments_for};

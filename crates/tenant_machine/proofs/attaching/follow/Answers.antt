@@ -1,16 +1,11 @@
-use Rattle.std.proofs.Common.{◌≡◌, ◌∙◌, ◌+◌, ◌<◌, ◌≤◌, ℕ, List, Some, [], ap, arith, length, map, refl, subst, sym, take}
-use Rattle.std.specs.Prelude.{IfSome, IsSome, Option}
-use Rattle.etcd_types.specs.declared.key_value.KeyValue.{KeyValue}
-use Rattle.etcd_model.specs.Changes.{Recorded, recorded, since, entry_at, rows}
+use Rattle.std.proofs.Common.{◌∙◌, [], ap, arith, refl, subst, sym}
 use Rattle.etcd_model.specs.Interval.{every_key}
-use Rattle.etcd_model.specs.Store.{Store, IsStore}
 use Rattle.key_index.specs.Links.{change_at}
-use Rattle.model_laws.specs.Pending.{rows_next}
 use Rattle.model_laws.proofs.PendingLaws.{rows_at_next}
-use Rattle.revision_store.specs.Stored.{StoreState, cells}
+use Rattle.revision_store.specs.Stored.{cells}
 use Rattle.lease_book.specs.Book.{Book}
-use Rattle.tenant_machine.specs.Keyed.{AreKeysOf, AreShown, Follows, IsNext, all_rows}
-use Rattle.tenant_machine.proofs.RevisionFollow.{IsHere, all_taken, change_there, here, keys_at_end, keys_fit, keys_follow, still_next}
+use Rattle.tenant_machine.specs.Keyed.{AreKeysOf}
+use Rattle.tenant_machine.proofs.RevisionFollow.{change_there, here, keys_at_end, keys_fit, keys_follow, still_next}
 use Rattle.tenant_machine.proofs.attaching.follow.Goals as goal
 
 pub loop-cell-init : goal.loop-cell-init

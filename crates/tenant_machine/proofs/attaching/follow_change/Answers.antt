@@ -1,6 +1,5 @@
-use Rattle.std.proofs.Common.{◌≡◌, ◌∙◌, ℕ, List, ℤ, pos, ap, arith, length, of_z, rules, subst, sym, to_z, w64}
-use Rattle.std.specs.Prelude.{IsSome, IfSome, false}
-use Rattle.std.specs.Ordering.{int_eq}
+use Rattle.std.proofs.Common.{◌≡◌, ◌∙◌, ℤ, ap, of_z, rules, subst, sym, to_z, w64}
+use Rattle.std.specs.Prelude.{IsSome, IfSome}
 use Rattle.key_index.specs.Links.{Cells, change_at}
 use Rattle.lease_book.specs.Attached.{AreAttached, with_attachment}
 use Rattle.lease_book.specs.Book.{Book}

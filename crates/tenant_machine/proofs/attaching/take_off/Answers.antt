@@ -1,5 +1,5 @@
-use Rattle.std.proofs.Common.{◌≡◌, ◌∙◌, ◌≤◌, ℕ, List, ℤ, pos, ap, length, of_z, rules, subst, sym, to_z, w64}
-use Rattle.std.specs.Prelude.{IsSome, IfSome}
+use Rattle.std.proofs.Common.{◌≡◌, ◌∙◌, ◌≤◌, List, ℤ, ap, length, of_z, rules, subst, sym, to_z, w64}
+use Rattle.std.specs.Prelude.{IsSome}
 use Rattle.key_index.specs.Links.{Cells, change_at}
 use Rattle.lease_book.specs.Attached.{AreAttached, without_attachment}
 use Rattle.lease_book.specs.Book.{Book}

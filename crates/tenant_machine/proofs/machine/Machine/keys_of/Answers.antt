@@ -1,12 +1,12 @@
-use Rattle.std.proofs.Common.{◌≡◌, ◌∙◌, List, Some, ℤ, ap, map, of_z, rules, subst, sym, to_z, true, w64}
-use Rattle.std.specs.Prelude.{ℕ, IfOk, IsSome}
+use Rattle.std.proofs.Common.{◌≡◌, ◌∙◌, List, ap, map, of_z, rules, subst, sym, to_z, true, w64}
+use Rattle.std.specs.Prelude.{ℕ, IsSome}
 use Rattle.std.specs.List.{AllByRecursion}
 use Rattle.etcd_model.specs.Leases.{attached}
 use Rattle.etcd_model.specs.Operations.{has_lease}
 use Rattle.lease_book.specs.Attached.{heads_of}
 use Rattle.model_laws.specs.Attached.{leased_rows}
 use Rattle.revision_store.specs.Plans.{key_at}
-use Rattle.revision_store.specs.Stored.{cells, reads, row_at}
+use Rattle.revision_store.specs.Stored.{cells, reads}
 use Rattle.revision_store.proofs.PendingStores.{if_ok}
 use Rattle.tenant_machine.specs.Tenants.{MachineState}
 use Rattle.tenant_machine.proofs.LeaseEnds.{heads_show, heads_there, keys_told}

@@ -7,7 +7,6 @@ use Rattle.etcd_types.specs.declared.reply.Reply.TheVariants.{TimeToLive as Time
 use Rattle.etcd_model.specs.Leases.{attached, lease_at}
 use Rattle.etcd_model.specs.Operations.{has_lease}
 use Rattle.lease_book.proofs.Standing.{has_is}
-use Rattle.tenant_machine.specs.Plans.{Plan}
 use Rattle.tenant_machine.specs.Tenants.{MachineState}
 use Rattle.tenant_machine.specs.declared.planned.Effect.TheVariants.{Nothing}
 use Rattle.tenant_machine.proofs.DecidingLeases.{time_does}

@@ -1,4 +1,4 @@
-use Rattle.std.proofs.Common.{◌≡◌, ◌∙◌, ◌+◌, ◌<◌, ◌^◌, ℤ, List, Some, false, map, pos, ap, arith, length, nat_eq, of_z, rules, subst, sym, to_z, true, w64}
+use Rattle.std.proofs.Common.{◌≡◌, ◌∙◌, ◌+◌, ◌<◌, false, map, pos, ap, arith, length, nat_eq, of_z, rules, subst, sym, to_z, true, w64}
 use Rattle.std.proofs.lemmas.Bool.Decides.{nat_tests}
 use Rattle.std.proofs.lemmas.Int.{to_z_pos}
 use Rattle.etcd_model.specs.Operations.{has_lease}

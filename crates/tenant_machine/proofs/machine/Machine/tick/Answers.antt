@@ -1,13 +1,12 @@
 use Rattle.std.proofs.Common.{◌≡◌, ◌∙◌, ℤ, true, ap, of_z, refl, rules, subst, sym, to_z, w64}
 use Rattle.cell_arena.specs.Loan.{IsLent, Settles}
 use Rattle.cell_arena.proofs.Loans.{lent_still, settles_both, settles_none}
-use Rattle.etcd_model.specs.Leases.{finish, run_out, tick}
+use Rattle.etcd_model.specs.Leases.{finish, run_out}
 use Rattle.etcd_model.specs.Operations.{has_lease}
 use Rattle.etcd_model.specs.Store.{kept_store}
 use Rattle.model_laws.specs.Leases.{ends}
-use Rattle.model_laws.proofs.OpeningLaws.{ends_none}
-use Rattle.tenant_machine.specs.Tenants.{MachineState, at_moment, tenant, with_due}
-use Rattle.tenant_machine.proofs.LeasesDue.{due_still, ends_still, fewer_due, is_there, none_taken}
+use Rattle.tenant_machine.specs.Tenants.{MachineState, tenant}
+use Rattle.tenant_machine.proofs.LeasesDue.{due_still, ends_still, fewer_due, is_there}
 use Rattle.tenant_machine.proofs.machine.Machine.tick.Goals as goal
 
 pub ending-init : goal.ending-init
