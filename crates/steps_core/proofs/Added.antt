@@ -120,7 +120,7 @@ few es d h n view same below =
     grind (arith, nat_tests)
 
 -- the segments that are reserved, of all there are
-unreserved : {A : Type 0} (es : List (Vec ℕ A × Tenant)) (d : Desk) (h : HostState) → host_of es d ≡ h → IsHost es d → h.segments + d.pool.promised ≡ reserved_segments h + d.pool.free
+pub unreserved : {A : Type 0} (es : List (Vec ℕ A × Tenant)) (d : Desk) (h : HostState) → host_of es d ≡ h → IsHost es d → h.segments + d.pool.promised ≡ reserved_segments h + d.pool.free
 unreserved es d h view kept = omega (arith, ap (λ (x : HostState). x.segments) view, ap reserved_segments view, reserved_shown es d kept.agree, kept.promised, kept.out)
 
 pub is_short : {A : Type 0} (es : List (Vec ℕ A × Tenant)) (d : Desk) (h : HostState) (n : ℕ) → host_of es d ≡ h → IsHost es d → d.pool.free < d.pool.promised + n → nat_lt h.segments (reserved_segments h + n) ≡ true

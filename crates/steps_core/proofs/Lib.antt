@@ -4,3 +4,5 @@ pub mod Served
 pub mod Added
 pub mod Stepped
 pub mod Runs
+pub mod Resized
+pub mod Removed

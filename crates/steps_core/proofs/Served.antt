@@ -16,7 +16,7 @@ use Rattle.steps_core.specs.Sound.{host_of, Agrees, IsIdle, IsHost, CanServe, Le
 use Rattle.steps_core.proofs.Shown.{test}
 
 -- what holds of each tenant holds of one that is found
-all_at : {A : Type 0} (P : Tenant → Type 0) (t : List ℕ) (es : List (Vec ℕ A × Tenant)) (v : Tenant) → AllByRecursion (λ e. P e.1) es → lookup (test t) es ≡ Some v → P v
+pub all_at : {A : Type 0} (P : Tenant → Type 0) (t : List ℕ) (es : List (Vec ℕ A × Tenant)) (v : Tenant) → AllByRecursion (λ e. P e.1) es → lookup (test t) es ≡ Some v → P v
 all_at P t [] v all h = cc
 all_at P t (e ∷ es) v all h = by (test t e.0) h (all_at P t es v all.1)
   where
@@ -25,7 +25,7 @@ all_at P t (e ∷ es) v all h = by (test t e.0) h (all_at P t es v all.1)
     by false k rest = rest k
 
 -- and of each after a write of one of which it holds
-all_set : {A : Type 0} (P : Tenant → Type 0) (t : List ℕ) (es : List (Vec ℕ A × Tenant)) (w : Tenant) → AllByRecursion (λ e. P e.1) es → P w → AllByRecursion (λ e. P e.1) (set_value (test t) es w)
+pub all_set : {A : Type 0} (P : Tenant → Type 0) (t : List ℕ) (es : List (Vec ℕ A × Tenant)) (w : Tenant) → AllByRecursion (λ e. P e.1) es → P w → AllByRecursion (λ e. P e.1) (set_value (test t) es w)
 all_set P t [] w all h = all
 all_set P t (e ∷ es) w all h = by (test t e.0) (all_set P t es w all.1 h)
   where
@@ -34,7 +34,7 @@ all_set P t (e ∷ es) w all h = by (test t e.0) (all_set P t es w all.1 h)
     by false rest = (all.0, rest)
 
 -- the numbers stay
-numbers_set : {A : Type 0} (t : List ℕ) (es : List (Vec ℕ A × Tenant)) (v w : Tenant) → lookup (test t) es ≡ Some v → ticket_number w ≡ ticket_number v → map ticket_number (values_of (set_value (test t) es w)) ≡ map ticket_number (values_of es)
+pub numbers_set : {A : Type 0} (t : List ℕ) (es : List (Vec ℕ A × Tenant)) (v w : Tenant) → lookup (test t) es ≡ Some v → ticket_number w ≡ ticket_number v → map ticket_number (values_of (set_value (test t) es w)) ≡ map ticket_number (values_of es)
 numbers_set t [] v w h same = refl
 numbers_set t (e ∷ es) v w h same = by (test t e.0) h (numbers_set t es v w)
   where
@@ -47,7 +47,7 @@ pub drawn_below : {A : Type 0} (es : List (Vec ℕ A × Tenant)) → AllByRecurs
 drawn_below [] all = omega arith
 drawn_below (e ∷ es) all = omega (arith, sum_by-cons drawn_by e.1 (values_of es), sum_by-cons reserved_by e.1 (values_of es), drawn_below es all.1, all.0.within)
 
-promised_at : {A : Type 0} (t : List ℕ) (es : List (Vec ℕ A × Tenant)) (v : Tenant) → AllByRecursion (λ e. Agrees e.1) es → lookup (test t) es ≡ Some v → v.ticket.reserved + sum_by drawn_by (values_of es) ≤ sum_by reserved_by (values_of es) + v.ticket.drawn
+pub promised_at : {A : Type 0} (t : List ℕ) (es : List (Vec ℕ A × Tenant)) (v : Tenant) → AllByRecursion (λ e. Agrees e.1) es → lookup (test t) es ≡ Some v → v.ticket.reserved + sum_by drawn_by (values_of es) ≤ sum_by reserved_by (values_of es) + v.ticket.drawn
 promised_at t [] v all h = cc
 promised_at t (e ∷ es) v all h = by (test t e.0) h (promised_at t es v all.1)
   where

@@ -37,7 +37,7 @@ shown_there t es d h view = by (lookup (test t) es) ∙ ap is_some (sym (shown_a
     by (Some x) = refl
 
 -- a name that is t is no other
-apart : (t u k : List ℕ) → u ≢ t → bytes_eq t k ≡ true → bytes_eq u k ≡ false
+pub apart : (t u k : List ℕ) → u ≢ t → bytes_eq t k ≡ true → bytes_eq u k ≡ false
 apart t u k differ h = by (bytes_eq u k) refl
   where
     by : (b : Bool) → bytes_eq u k ≡ b → bytes_eq u k ≡ false

@@ -20,10 +20,13 @@ is_name_byte c = is_ascii_lowercase c || is_ascii_digit c || c == 45
 abbrev pub is_name : List ℕ → Bool
 is_name name = nat_lt 0 (length name) && nat_le (length name) max_name && list_all is_name_byte name
 
+-- a quota in cells that a tenant may have
+abbrev pub is_quota : ℕ → Bool
+is_quota quota = nat_le min_quota quota && nat_le quota max_quota
+
 abbrev pub within_limits : ℕ → ℕ → ℕ → Bool
 within_limits cluster quota first =
-    nat_lt 0 cluster && (nat_le min_quota quota && nat_le quota max_quota)
-    && (nat_lt 0 first && nat_le first last_revision)
+    nat_lt 0 cluster && is_quota quota && (nat_lt 0 first && nat_le first last_revision)
 
 -- the first fault of four
 abbrev pub first_fault : Bool → Bool → Bool → Bool → Option OperatorFault

@@ -1,7 +1,8 @@
 //! Adding a tenant.
 ghost use Rattle.std.specs.Prelude.{◌≡◌, None, OnErr, OnOk, IfErr};
 ghost use Rattle.std.specs.List.{list_all};
-ghost use Rattle.steps_core.specs.Adding.{Adds, add_fault, is_name, is_name_byte, reason, within_limits};
+ghost use Rattle.steps_core.specs.Adding.{Adds, add_fault, is_name, is_name_byte, is_quota, reason};
+ghost use Rattle.steps_core.specs.Adding.{within_limits};
 
 use crate::host::Host;
 use crate::tenant::Tenant;
@@ -21,7 +22,7 @@ pub enum OperatorFault {
     /// A tenant has this name.
     Taken,
     NoTenant,
-    /// Fewer segments are unreserved than the quota takes.
+    /// Fewer segments are unreserved than the quota takes, or takes more.
     Short,
     /// A growth was refused.
     Memory,
@@ -109,7 +110,12 @@ fn are_name_bytes(name: &[u8]) -> bool
 pub fn within_limits(cluster: u64, quota: u64, first: u64) -> bool
     ensures { result ≡ within_limits cluster quota first }
 {
-    cluster > 0
-        && (MIN_QUOTA <= quota && quota <= MAX_QUOTA)
-        && (first > 0 && first <= LAST_REVISION)
+    cluster > 0 && is_quota(quota) && (first > 0 && first <= LAST_REVISION)
+}
+
+/// Whether a tenant may have this quota in cells: 4 to 1,048,576.
+pub fn is_quota(quota: u64) -> bool
+    ensures { result ≡ is_quota quota }
+{
+    MIN_QUOTA <= quota && quota <= MAX_QUOTA
 }

@@ -6,9 +6,11 @@
 
 mod adding;
 mod host;
+mod removing;
+mod resizing;
 mod tenant;
 #[cfg(test)]
 mod tests;
 
-pub use adding::{OperatorFault, is_name, within_limits};
+pub use adding::{OperatorFault, is_name, is_quota, within_limits};
 pub use host::Host;

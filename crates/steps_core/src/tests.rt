@@ -102,3 +102,48 @@ fn tells_the_first_fault(rt: HostRuntime) -> Result<(), Fail> {
     );
     Ok(())
 }
+
+#[test]
+fn a_quota_is_changed_and_the_alarm_stays(rt: HostRuntime) -> Result<(), Fail> {
+    let mut host = Host::new(rt.alloc(), 4)?;
+    assert_eq!(rt; host.add(rt.alloc(), b"one", 7, 8, 1), Ok(()));
+    let names = ["one", "one", "one"];
+    let told = told_of(&mut host, rt.alloc(), names.as_slice())?;
+    assert_eq!(rt; told.as_slice(), [2, 3, 4].as_slice());
+    assert_eq!(rt; host.resize(b"one", 4), Ok(()));
+    let told = told_of(&mut host, rt.alloc(), ["one"].as_slice())?;
+    assert_eq!(rt; told.as_slice(), [-9].as_slice());
+    assert_eq!(rt; host.resize(b"one", 257), Err(OperatorFault::Short));
+    assert_eq!(rt; host.resize(b"one", 256), Ok(()));
+    let told = told_of(&mut host, rt.alloc(), ["one"].as_slice())?;
+    assert_eq!(rt; told.as_slice(), [-9].as_slice());
+    assert_eq!(rt; host.resize(b"two", 8), Err(OperatorFault::NoTenant));
+    assert_eq!(rt; host.resize(b"two", 3), Err(OperatorFault::Limits));
+    assert_eq!(rt; host.resize(b"Two", 3), Err(OperatorFault::Name));
+    assert_eq!(rt; host.remove(b"two"), Err(OperatorFault::NoTenant));
+    assert_eq!(rt; host.remove(b"Two"), Err(OperatorFault::Name));
+    assert_eq!(rt; host.remove(b"one"), Ok(()));
+    let told = told_of(&mut host, rt.alloc(), ["one"].as_slice())?;
+    assert_eq!(rt; told.as_slice(), [-16].as_slice());
+    Ok(())
+}
+
+#[test]
+fn a_removed_tenant_leaves_its_segments(rt: HostRuntime) -> Result<(), Fail> {
+    let mut host = Host::new(rt.alloc(), 2)?;
+    assert_eq!(rt; host.add(rt.alloc(), b"one", 7, 64, 1), Ok(()));
+    assert_eq!(rt; host.add(rt.alloc(), b"two", 8, 64, 1), Ok(()));
+    assert_eq!(rt;
+        host.add(rt.alloc(), b"three", 9, 64, 1),
+        Err(OperatorFault::Short)
+    );
+    for revision in 2..33 {
+        let told = told_of(&mut host, rt.alloc(), ["one"].as_slice())?;
+        assert_eq!(rt; told.as_slice(), [revision].as_slice());
+    }
+    assert_eq!(rt; host.remove(b"one"), Ok(()));
+    assert_eq!(rt; host.add(rt.alloc(), b"three", 9, 64, 1), Ok(()));
+    let told = told_of(&mut host, rt.alloc(), ["three", "two", "one"].as_slice())?;
+    assert_eq!(rt; told.as_slice(), [2, 2, -16].as_slice());
+    Ok(())
+}
