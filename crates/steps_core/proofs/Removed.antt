@@ -7,6 +7,7 @@ use Rattle.std.specs.Map.{lookup, remove_entry, values_of}
 use Rattle.std.specs.List.{AllByRecursion, IsDistinct}
 use Rattle.std.proofs.lemmas.Map.Entries.{sum_by-remove_entry}
 use Rattle.segment_pool.specs.declared.desk.Desk.{Desk}
+use Rattle.tenant_machine.specs.Tenants.{MachineState}
 use Rattle.steps_core.specs.declared.tenant.Tenant.{Tenant}
 use Rattle.steps_core.specs.declared.adding.OperatorFault.TheVariants.{Name, NoTenant}
 use Rattle.steps_core.specs.Hosts.{HostState, machine_at, reserved_segments}

@@ -7,11 +7,13 @@ use Rattle.std.specs.List.{AllByRecursion, IsDistinct}
 use Rattle.std.proofs.lemmas.Bool.{leb-true}
 use Rattle.std.proofs.lemmas.Bool.Decides.{nat_tests}
 use Rattle.std.proofs.lemmas.Map.Entries.{sum_by-set_value}
+use Rattle.cell_arena.specs.Loan.{segments_for}
 use Rattle.etcd_model.specs.Pool.{PoolState, IsHeld}
 use Rattle.segment_pool.specs.declared.desk.Desk.{Desk}
 use Rattle.tenant_machine.specs.Tenants.{MachineState}
 use Rattle.tenant_machine.specs.Reserving.{reservation}
 use Rattle.steps_core.specs.declared.tenant.Tenant.{Tenant}
+use Rattle.steps_core.specs.declared.adding.OperatorFault.{OperatorFault}
 use Rattle.steps_core.specs.declared.adding.OperatorFault.TheVariants.{Name, Limits, NoTenant, Short}
 use Rattle.steps_core.specs.Hosts.{HostState, machine_at, names_of, reserved_segments}
 use Rattle.steps_core.specs.Sound.{Agrees, IsIdle, IsHost, CanReserve, Reserves, host_of, ticket_number, drawn_by, reserved_by}
@@ -101,26 +103,30 @@ reserves_none h t none = ap (λ (o : Option MachineState). option_map_or (λ x. 
 pub wants_at : (h : HostState) (t : List ℕ) (quota : ℕ) (m : MachineState) → machine_at h t ≡ Some m → wanted_at h t quota ≡ reservation m quota
 wants_at h t quota m found = ap (λ (o : Option MachineState). option_map_or (λ x. reservation x quota) o 0) found
 
-pub resizes : {A : Type 0} (t : List ℕ) (es : List (Vec ℕ A × Tenant)) (d f : Desk) (v w : Tenant) (quota : ℕ) (old : HostState) → host_of es d ≡ old → IsHost es d → lookup (test t) es ≡ Some v → Reserves d.pool v quota f.pool w → Resizes old t quota (host_of (set_value (test t) es w) f)
-resizes t es d f v w quota old view kept h r =
+-- what is shown of these tenants over a pool, whatever stands on the desk
+abbrev pub seen : {A : Type 0} → List (Vec ℕ A × Tenant) → Desk → PoolState → HostState
+seen es d q = record { tenants = (host_of es d).tenants; segments = q.free + q.out }
+
+pub resizes : {A : Type 0} (t : List ℕ) (es : List (Vec ℕ A × Tenant)) (d : Desk) (q : PoolState) (v w : Tenant) (quota : ℕ) (old : HostState) → host_of es d ≡ old → IsHost es d → lookup (test t) es ≡ Some v → Reserves d.pool v quota q w → Resizes old t quota (seen (set_value (test t) es w) d q)
+resizes t es d q v w quota old view kept h r =
     let found : machine_at old t ≡ Some v.machine = shown_at t es d old (Some v) view (sym h) in
-    let own : machine_at (host_of (set_value (test t) es w) f) t ≡ Some w.machine = shown t (set_value (test t) es w) f ∙ ap (option_map machine_in) (own_set t es v w h) in
+    let own : machine_at (seen (set_value (test t) es w) d q) t ≡ Some w.machine = shown t (set_value (test t) es w) d ∙ ap (option_map machine_in) (own_set t es v w h) in
     let was : reserved_at old t ≡ v.ticket.reserved = reserves_at old t v.machine found ∙ (all_at Agrees t es v kept.agree h).reserved in
-    let now : reserved_at (host_of (set_value (test t) es w) f) t ≡ w.ticket.reserved = reserves_at (host_of (set_value (test t) es w) f) t w.machine own ∙ r.agrees.reserved in
+    let now : reserved_at (seen (set_value (test t) es w) d q) t ≡ w.ticket.reserved = reserves_at (seen (set_value (test t) es w) d q) t w.machine own ∙ r.agrees.reserved in
     record {
       machine = v.machine;
       is = found;
       own = own ∙ ap (λ (m : MachineState). Some m) r.machine;
       reserved = now ∙ r.reserved;
-      names = names_set t es d f w ∙ ap names_of view;
+      names = names_set t es d d w ∙ ap names_of view;
       only = record {
-        others = λ u differ. shown u (set_value (test t) es w) f ∙ ap (option_map machine_in) (others_set t u es w differ) ∙ sym (shown u es d) ∙ ap (λ (x : HostState). machine_at x u) view;
+        others = λ u differ. shown u (set_value (test t) es w) d ∙ ap (option_map machine_in) (others_set t u es w differ) ∙ sym (shown u es d) ∙ ap (λ (x : HostState). machine_at x u) view;
         reserved = omega (
           arith,
           was,
           now,
           ap reserved_segments view,
-          reserved_shown (set_value (test t) es w) f (all_set Agrees t es w kept.agree r.agrees),
+          reserved_shown (set_value (test t) es w) d (all_set Agrees t es w kept.agree r.agrees),
           reserved_shown es d kept.agree,
           sum_by-set_value reserved_by (test t) es v w h,
         );
@@ -197,12 +203,12 @@ requoted_or_not t es fs d f v w quota (Ok x) kept h entries idle done not = subs
 requoted_or_not t es fs d f v w quota (Err x) kept h entries idle done not =
     same_host es fs d f (entries ∙ ap (set_value (test t) es) not.1 ∙ set_same t es v h) not.0 idle kept
 
-pub resizes_if : {A T E : Type 0} (t : List ℕ) (es fs : List (Vec ℕ A × Tenant)) (d f : Desk) (v w : Tenant) (quota : ℕ) (old : HostState) (r : Result T E) → host_of es d ≡ old → IsHost es d → lookup (test t) es ≡ Some v → fs ≡ set_value (test t) es w → OnOk r (Reserves d.pool v quota f.pool w) → OnOk r (Resizes old t quota (host_of fs f))
-resizes_if t es fs d f v w quota old (Ok x) view kept h entries done = subst (λ xs. Resizes old t quota (host_of xs f)) (sym entries) (resizes t es d f v w quota old view kept h done)
-resizes_if t es fs d f v w quota old (Err x) view kept h entries done = tt
+pub resizes_if : {A T E : Type 0} (t : List ℕ) (es fs : List (Vec ℕ A × Tenant)) (d : Desk) (q : PoolState) (v w : Tenant) (quota : ℕ) (old : HostState) (r : Result T E) → host_of es d ≡ old → IsHost es d → lookup (test t) es ≡ Some v → fs ≡ set_value (test t) es w → OnOk r (Reserves d.pool v quota q w) → OnOk r (Resizes old t quota (seen fs d q))
+resizes_if t es fs d q v w quota old (Ok x) view kept h entries done = subst (λ xs. Resizes old t quota (seen xs d q)) (sym entries) (resizes t es d q v w quota old view kept h done)
+resizes_if t es fs d q v w quota old (Err x) view kept h entries done = tt
 
-pub stays_if_not : {A T E : Type 0} (t : List ℕ) (es fs : List (Vec ℕ A × Tenant)) (d f : Desk) (v w : Tenant) (old : HostState) (r : Result T E) → host_of es d ≡ old → lookup (test t) es ≡ Some v → fs ≡ set_value (test t) es w → OnErr r ((f.pool ≡ d.pool) × (w ≡ v)) → OnErr r (host_of fs f ≡ old)
-stays_if_not t es fs d f v w old (Ok x) view h entries not = tt
-stays_if_not t es fs d f v w old (Err x) view h entries not =
-    ap (λ xs. host_of xs f) (entries ∙ ap (set_value (test t) es) not.1 ∙ set_same t es v h)
+pub stays_if_not : {A T E : Type 0} (t : List ℕ) (es fs : List (Vec ℕ A × Tenant)) (d : Desk) (q : PoolState) (v w : Tenant) (old : HostState) (r : Result T E) → host_of es d ≡ old → lookup (test t) es ≡ Some v → fs ≡ set_value (test t) es w → OnErr r ((q ≡ d.pool) × (w ≡ v)) → OnErr r (seen fs d q ≡ old)
+stays_if_not t es fs d q v w old (Ok x) view h entries not = tt
+stays_if_not t es fs d q v w old (Err x) view h entries not =
+    ap (λ xs. seen xs d q) (entries ∙ ap (set_value (test t) es) not.1 ∙ set_same t es v h)
     ∙ ap (λ (p : PoolState). record { tenants = (host_of es d).tenants; segments = p.free + p.out }) not.0 ∙ view

@@ -1,6 +1,9 @@
-use Rattle.std.proofs.Common.{arith, true, ◌≡◌, ◌∙◌, sym, ap, refl, true≢false, is_some, None}
-use Rattle.segment_pool.specs.declared.desk.Desk.{Desk}
+use Rattle.std.proofs.Common.{◌≡◌, ◌∙◌, sym, ap, subst, refl, true, true≢false, is_some, None, Some}
+use Rattle.etcd_model.specs.Pool.{PoolState}
+use Rattle.steps_core.specs.declared.tenant.Tenant.{Tenant}
 use Rattle.steps_core.specs.Hosts.{has_tenant}
+use Rattle.steps_core.specs.Sound.{IsHost, host_of}
+use Rattle.steps_core.specs.Resizing.{Resizes}
 use Rattle.steps_core.proofs.Shown.{shown_at}
 use Rattle.steps_core.proofs.Resized.{all_passed, can_reserve, requoted_or_not, resizes_if, stays_if_not}
 use Rattle.steps_core.proofs.host.Host.change_quota.Goals as goal
@@ -21,11 +24,9 @@ unreachable-requires c =
 pub returns-clause-resizes : goal.returns-clause-resizes
 returns-clause-resizes c =
     let w = c.resize.new.tenant in
-    let f : Desk = record { pool = c.resize.new.pool; ticket = c.self.inside.desk.ticket; promised = omega (arith, c.self.invariant.idle.reserved); out = omega (arith, c.self.invariant.idle.drawn) } in
-    resizes_if c.args.name.now c.self.inside.tenants.entries _ c.self.inside.desk f c.in-Some.tenant.now w c.args.quota c.args.self.now c.resize.result c.self.view_is c.self.invariant (sym c.in-Some.ensures.value) (c.get_mut.follows.holds w).0 c.resize.ensures.ok
+    resizes_if c.args.name.now c.self.inside.tenants.entries _ c.self.inside.desk c.resize.new.pool c.in-Some.tenant.now w c.args.quota c.args.self.now c.resize.result c.self.view_is c.self.invariant (sym c.in-Some.ensures.value) (c.get_mut.follows.holds w).0 c.resize.ensures.ok
 
 pub returns-clause-err : goal.returns-clause-err
 returns-clause-err c =
     let w = c.resize.new.tenant in
-    let f : Desk = record { pool = c.resize.new.pool; ticket = c.self.inside.desk.ticket; promised = omega (arith, c.self.invariant.idle.reserved); out = omega (arith, c.self.invariant.idle.drawn) } in
-    stays_if_not c.args.name.now c.self.inside.tenants.entries _ c.self.inside.desk f c.in-Some.tenant.now w c.args.self.now c.resize.result c.self.view_is (sym c.in-Some.ensures.value) (c.get_mut.follows.holds w).0 c.resize.ensures.err
+    stays_if_not c.args.name.now c.self.inside.tenants.entries _ c.self.inside.desk c.resize.new.pool c.in-Some.tenant.now w c.args.self.now c.resize.result c.self.view_is (sym c.in-Some.ensures.value) (c.get_mut.follows.holds w).0 c.resize.ensures.err
