@@ -207,25 +207,25 @@ fn no_id_is_chosen_at_the_counters_end(rt: HostRuntime) -> Result<(), Fail> {
     Ok(())
 }
 
-/// Eight leases fill the room. It grows to nine and never shrinks, and what was collected is still to be taken.
-/// Where no memory is found, nothing is changed.
+/// Eight leases fill the room. It grows and never shrinks, and what was collected is still to be taken. Where no
+/// memory is found for any part of it, nothing is changed.
 #[test]
 fn room_grows_and_the_leases_stay(rt: HostRuntime) -> Result<(), Fail> {
     let mut book = LeaseBook::new(rt.alloc(), 8)?;
     assert!(rt; grant_all(&mut book));
     book.collect_due(15);
     assert_eq!(rt; book.next_due(), Some(-7));
-    let grown = book.grow_rooms(9);
-    assert!(rt; book.room() == if grown.is_ok() { 9 } else { 8 });
+    let grown = book.grow_rooms(300);
+    assert!(rt; book.room() == if grown.is_ok() { 300 } else { 8 });
     assert!(rt; has_leases(&book, &GRANTED));
     assert_eq!(rt; book.next_due(), Some(3));
     grown?;
     book.grow_rooms(0)?;
-    let cell = CellNo::at(0, 41);
-    assert_eq!(rt; grant(&mut book, 5, GrantReq { ttl: 1, id: 0 }, cell), Ok((7, 1, 6)));
+    assert_eq!(rt; book.room(), 300);
+    let request = GrantReq { ttl: 1, id: 0 };
     assert_eq!(rt;
-        grant(&mut book, 5, GrantReq { ttl: 1, id: 0 }, cell),
-        Err(Refusal::NoSpace)
+        grant(&mut book, 5, request, CellNo::at(0, 41)),
+        Ok((7, 1, 6))
     );
     Ok(())
 }
