@@ -1,6 +1,6 @@
 -- Many events are answered one by one.
 use Rattle.std.proofs.Common.{◌≡◌, ◌∙◌, sym, ap, subst, refl, ℕ, ◌+◌, ◌<◌, Bool, true, false, cond, not, ◌&&◌}
-use Rattle.std.proofs.Common.{List, [], ◌∷◌, ◌++◌, Option, None, Some, is_some, length, map, take, get_or}
+use Rattle.std.proofs.Common.{List, [], ◌∷◌, ◌++◌, Option, None, Some, length, take, get_or}
 use Rattle.std.proofs.Common.{arith, length-take-le}
 use Rattle.std.specs.List.{AllByRecursion}
 use Rattle.std.proofs.lemmas.Bool.{true≢false}
@@ -14,7 +14,7 @@ use Rattle.etcd_model.specs.Calls.{Target, target_of}
 use Rattle.etcd_model.specs.ReplyText.{Answer, memory_answer, text}
 use Rattle.etcd_model.specs.Alone.{Event, Called, Stepped, Turn, is_of, is_catch_up, is_own, is_unanswered, own}
 use Rattle.etcd_model.specs.Alone.{asked, told, alone, alone_after, read_event, answer_to, after_read}
-use Rattle.steps_core.specs.Hosts.{HostState, HoldsAt, SameTenants, names_of, machine_at, has_tenant}
+use Rattle.steps_core.specs.Hosts.{HostState, HoldsAt, SameTenants, names_of, machine_at}
 use Rattle.steps_core.specs.Hosts.{reserved_segments}
 use Rattle.steps_core.proofs.Runs.{there_by_names}
 use Rattle.etcd_model.specs.Machine.{history}
@@ -42,7 +42,7 @@ caught S T (Called method target body) h = absurd (true≢false (sym h))
 module _ (old mid : HostState) (t : List ℕ) (x : Turn) (S : State History) (held : HoldsAt old t S)
     (answers : Answers old x.event x.answer mid) where
   -- if it is not in the tenant's list, its state stays
-  left_out : is_own t x ≡ false → HoldsAt mid t S
+  pub left_out : is_own t x ≡ false → HoldsAt mid t S
   left_out h = by (is_of t x.event) (is_catch_up x.event) (is_unanswered x.answer) refl refl refl h
     where
       by : (a b c : Bool) → is_of t x.event ≡ a → is_catch_up x.event ≡ b → is_unanswered x.answer ≡ c
@@ -54,7 +54,7 @@ module _ (old mid : HostState) (t : List ℕ) (x : Turn) (S : State History) (he
       by true false true i j k h = subst (λ n. HoldsAt n t S) (sym (answers.memory k).0) held
       by true false false i j k h = absurd (true≢false h)
 
-  taken_in : is_own t x ≡ true
+  pub taken_in : is_own t x ≡ true
       → (x.answer ≡ answer_to S (read_event x.event)) × HoldsAt mid t (after_read S (read_event x.event))
   taken_in h = by (is_of t x.event) (is_catch_up x.event) (is_unanswered x.answer) refl refl h
     where
@@ -65,7 +65,7 @@ module _ (old mid : HostState) (t : List ℕ) (x : Turn) (S : State History) (he
       by true false true i k h = absurd (true≢false (sym h))
       by true false false i k h = answers.own t S i k held
 
-  caught_up : is_of t x.event ≡ true → is_catch_up x.event ≡ true → (T : State History)
+  pub caught_up : is_of t x.event ≡ true → is_catch_up x.event ≡ true → (T : State History)
       → x.answer ≡ answer_to T (read_event x.event)
   caught_up mine catch T =
       let one = caught S T x.event catch in

@@ -1,3 +1,4 @@
 pub mod Told
 pub mod Answered
 pub mod Alone
+pub mod Lived

@@ -3,3 +3,7 @@ pub mod Events
 pub mod Answering
 pub mod Isolation
 pub mod Lending
+pub mod Lines
+pub mod Operating
+pub mod Quotas
+pub mod Living

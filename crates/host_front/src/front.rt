@@ -18,7 +18,7 @@ use steps_core::Host;
 /// A host that is spoken to in bytes.
 #[derive(Drop)]
 pub struct Front {
-    host: Host,
+    pub(crate) host: Host,
 }
 
 impl Front {

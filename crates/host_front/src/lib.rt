@@ -8,10 +8,13 @@ mod answer;
 mod event;
 mod front;
 mod law;
+mod line;
+mod living;
 #[cfg(test)]
 mod tests;
 
 pub use answer::Answer;
 pub use event::{HostEvent, LentEvent};
 pub use front::Front;
-pub use law::two_worlds;
+pub use law::{events_alone, two_lived_worlds, two_worlds};
+pub use line::{HostLine, LentLine, LineAnswer};

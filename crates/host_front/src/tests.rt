@@ -2,10 +2,12 @@
 //!
 //! The events are text in tables, and one small function asks them: a test that holds many values itself is
 //! long to prove.
+mod lines;
 mod rows;
 
-use crate::{Front, HostEvent};
+use crate::{Front, HostEvent, HostLine, LineAnswer};
 use etcd_types::Mem;
+use lines::{LIVE_QUOTA, Said, Told};
 use rows::{ALONE, Asked, FIRST_ROWS, NEIGHBOURS, REFUSALS, Row};
 use std::alloc::Global;
 use std::process::Abort;
@@ -87,5 +89,52 @@ fn refusals_in_their_order(rt: HostRuntime) -> Result<(), Fail> {
     let mut front = Front::new(Host::new(rt.alloc(), 16)?);
     assert_eq!(rt; front.host().add(rt.alloc(), b"one", 7, 1024, 1), Ok(()));
     assert_rows(&rt, rt.alloc(), &mut front, &REFUSALS)?;
+    Ok(())
+}
+
+fn line_of(alloc: Global, said: &Said) -> Mem<HostLine> {
+    Ok(match *said {
+        Said::Post(target, body) => {
+            HostLine::Event(event_of(alloc, &Asked::Call("POST", target, body))?)
+        }
+        Said::Add(name, cluster, quota, first) => HostLine::Add {
+            name: bytes(alloc, name)?,
+            cluster,
+            quota,
+            first,
+        },
+        Said::Resize(name, quota) => HostLine::Resize {
+            name: bytes(alloc, name)?,
+            quota,
+        },
+        Said::Remove(name) => HostLine::Remove {
+            name: bytes(alloc, name)?,
+        },
+    })
+}
+
+fn is_told(answer: &LineAnswer, told: &Told) -> bool {
+    match (answer, told) {
+        (LineAnswer::Event(answer), Told::Text(status, body)) => {
+            answer.status() == *status && answer.body() == body.as_bytes()
+        }
+        (LineAnswer::Done, Told::Done) => true,
+        (LineAnswer::No(fault), Told::No(other)) => *fault == *other,
+        _ => false,
+    }
+}
+
+#[test]
+fn quotas_change_and_tenants_go(rt: HostRuntime) -> Result<(), Fail> {
+    let mut front = Front::new(Host::new(rt.alloc(), 4)?);
+    let mut lines = Vec::new(rt.alloc());
+    for row in &LIVE_QUOTA {
+        lines.push(line_of(rt.alloc(), &row.said)?)?;
+    }
+    let answers = front.live_all(rt.alloc(), lines.as_slice())?;
+    assert!(rt; answers.len() == LIVE_QUOTA.len());
+    for (answer, row) in answers.iter().zip(&LIVE_QUOTA) {
+        assert!(rt; is_told(answer, &row.told));
+    }
     Ok(())
 }

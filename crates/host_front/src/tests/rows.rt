@@ -1,6 +1,7 @@
 //! The tables of events with what they are answered.
 
 /// An event.
+#[derive(Drop)]
 pub(super) enum Asked {
     /// A call, by its method, target and body.
     Call(&'static str, &'static str, &'static str),

@@ -1,5 +1,4 @@
-use Rattle.std.proofs.Common.{◌≡◌, ◌∙◌, ap, false, subst, sym, true}
-use Rattle.etcd_types.specs.declared.reply.Reply.{Reply}
+use Rattle.std.proofs.Common.{◌∙◌, ap}
 use Rattle.etcd_model.specs.ReplyText.{text}
 use Rattle.host_front.specs.Answering.{has_fixed_text}
 use Rattle.host_front.proofs.Answered.{step_made, step_unplanned, step_untold}
