@@ -1,13 +1,16 @@
 -- A replay goes on line by line.
-use Rattle.std.proofs.Common.{◌≡◌, ◌≢◌, ◌∙◌, sym, ap, subst, refl, ℕ, Bool, ◌+◌, ◌<◌, List, [], ◌∷◌, ◌++◌, append_assoc, append-nil, length, length-append, Option, None, Some, IfSome, arith, lt-ltb, eq-eqb, true, false, flat_map}
+use Rattle.std.proofs.Common.{◌≡◌, ◌≢◌, ◌∙◌, sym, ap, subst, refl, ℕ, Bool, ◌+◌, ◌<◌, List, [], ◌∷◌, ◌++◌, append_assoc, append-nil, length, length-append, Option, None, Some, IfSome, arith, lt-ltb, eq-eqb, true, false, flat_map, map}
 use Rattle.std.proofs.lemmas.Bool.{true≢false}
-use Rattle.std.proofs.lemmas.List.{map-append}
 use Rattle.std.proofs.lemmas.Grind.{flat_map-append}
 use Rattle.std.proofs.KnownBytes.{Appends-kept, Appends-nil, Appends-trans}
 use Rattle.std.specs.Io.KnownBytes.{Appends, Keeps}
 use Rattle.std.specs.Io.BufRead.{take_through, drop_through, strip_last, DropsThrough}
 use Rattle.etcd_types.specs.Limits.{max_script_line}
-use Rattle.etcd_replay.specs.declared.answer.LineAnswer.{LineAnswer}
+use Rattle.host_front.specs.declared.line.LineAnswer.{LineAnswer}
+use Rattle.host_front.specs.declared.line.LineAnswer.TheVariants.{Done}
+use Rattle.host_front.specs.Lines.{LineTurn, line_turn}
+use Rattle.host_front.specs.Living.{AreLived}
+use Rattle.host_front.proofs.Lived.{all_lived, lived_push}
 use Rattle.std.specs.Prelude.{Result, Ok, Err, IsErr, IsErrAnd, ◌==◌}
 use borrow.Author.Tests.{eqb-true}
 use Rattle.etcd_replay.specs.declared.fault.ReplayFault.{ReplayFault}
@@ -15,25 +18,35 @@ use Rattle.etcd_replay.specs.declared.fault.ReplayFault.TheVariants as fault
 use Rattle.etcd_replay.specs.declared.lines.Taken.{Taken}
 use Rattle.etcd_replay.specs.declared.lines.Taken.TheVariants.{Line, TooLong}
 use Rattle.steps_core.specs.Hosts.{HostState}
-use Rattle.etcd_replay.specs.Script.{Asked, is_first, lines_of, read_line, read_words}
-use Rattle.etcd_replay.specs.Answers.{line_of}
-use Rattle.etcd_replay.specs.Replaying.{LineTurn, Tells, line_turn, usual_host}
+use Rattle.etcd_replay.specs.Script.{Asked, Pool, Live, is_first, lines_of, read_line, read_lines, read_words}
+use Rattle.etcd_replay.specs.Answers.{answer_line}
+use Rattle.etcd_replay.specs.Replaying.{Tells, asked_in, first_host, told_in}
 use Rattle.etcd_replay.specs.Lines.{BeginsTooLong, BeginsWithLine}
 use Rattle.etcd_replay.specs.Written.{EndsAtLine, EndsEarly, Replays, Wrote}
 use Rattle.etcd_replay.specs.Going.{Going}
 use Rattle.etcd_replay.proofs.FirstLine.{first_line, at_end}
-use Rattle.etcd_replay.proofs.ReadLemmas.{first_is, read_push}
-use Rattle.etcd_replay.proofs.Replayed.{all_alone, names_told, told_push}
+use Rattle.etcd_replay.proofs.ReadLemmas.{first_is, pool_is_first, read_push}
+use Rattle.etcd_replay.proofs.TurnLemmas.{none_told, read_more, told_more}
 
-abbrev written : LineTurn → List ℕ
-written x = line_of x.answer
+-- ---- facts of values
 
-abbrev asked_line : LineTurn → Option Asked
-asked_line x = Some x.asked
+pub line_taken : (t : Taken) → (t ≡ TooLong → ⊥) → t ≡ Line
+line_taken Line short = refl
+line_taken TooLong short = absurd (short refl)
 
-pub going_first : (o old : Option (List ℕ)) → IfSome o (λ script. Going script o old old usual_host 0)
+pub empty_is : {A : Type 0} (n : ℕ) (xs : List A) → n ≡ length xs → (n == 0) ≡ true → xs ≡ []
+empty_is n [] len zero = refl
+empty_is n (x ∷ xs) len zero = let none : n ≡ 0 = eqb-true n 0 zero in absurd (omega (arith, len, none))
+
+pub full_is : (n : ℕ) (xs : List ℕ) → n ≡ length xs → (n == 0) ≡ false → xs ≢ []
+full_is n [] len some = λ _. true≢false (sym (eq-eqb n 0 len) ∙ some)
+full_is n (x ∷ xs) len some = λ h. cc
+
+-- ---- how far
+
+pub going_first : (o old : Option (List ℕ)) → IfSome o (λ script. Going script o old old (first_host None) 0)
 going_first None old = tt
-going_first (Some script) old = record { done = []; rest = script; remains = refl; lines = refl; number = refl; turns = []; read = refl; told = refl; text = Appends-nil old }
+going_first (Some script) old = record { done = []; rest = script; remains = refl; lines = refl; number = refl; pool = None; turns = []; read = refl; lived = refl; text = Appends-nil old }
 
 -- what was written is flushed
 pub going_kept : (o now old mid new : Option (List ℕ)) (host : HostState) (n : ℕ)
@@ -47,9 +60,10 @@ going_kept (Some script) now old mid new host n going kept =
       remains = g.remains;
       lines = g.lines;
       number = g.number;
+      pool = g.pool;
       turns = g.turns;
       read = g.read;
-      told = g.told;
+      lived = g.lived;
       text = Appends-kept old mid new _ g.text kept;
     }
 
@@ -65,41 +79,86 @@ module _ (script : List ℕ) (now old new : Option (List ℕ)) (host : HostState
 
   so_far : Wrote old new going.done
   so_far = record {
+    pool = going.pool;
     turns = going.turns;
     last = host;
     read = going.read;
-    replayed = record {
-      told = going.told;
-      names = names_told usual_host host going.turns going.told;
-      alone = all_alone usual_host host going.turns going.told;
-    };
+    lived = all_lived (first_host going.pool) host going.turns going.lived;
     text = going.text;
   }
 
+-- ---- one more line
+
+module _ (script : List ℕ) (now next old mid new : Option (List ℕ)) (before after : HostState) (n : ℕ) (line : List ℕ)
+    (going : Going script now old mid before n) (taken : BeginsWithLine now line) (drops : DropsThrough now next 10)
+    (some : line ≢ []) where
+  -- so the lines ask, with the new one, and are answered
+  going_on : (pool : Option ℕ) (turns : List LineTurn)
+      → read_lines true (going.done ++ strip_last 10 line ∷ []) ≡ map Some (asked_in pool turns)
+      → AreLived (first_host pool) turns after → Appends old new (flat_map answer_line (told_in pool turns))
+      → Going script next old new after (n + 1)
+  going_on pool turns read lived text =
+      let first = first_line_is script now old mid before n going line taken some in
+      record {
+        done = going.done ++ strip_last 10 line ∷ [];
+        rest = drop_through 10 going.rest;
+        remains = subst (λ o. DropsThrough o next 10) going.remains drops;
+        lines =
+            going.lines ∙ ap (λ ls. going.done ++ ls) first
+            ∙ sym (append_assoc going.done (strip_last 10 line ∷ []) (lines_of (drop_through 10 going.rest)));
+        number = omega (arith, length-append going.done (strip_last 10 line ∷ []), going.number);
+        pool = pool;
+        turns = turns;
+        read = read;
+        lived = lived;
+        text = text;
+      }
+
+  -- what is read of the lines, with the new one
+  read_on : (q : Asked) → read_line (n == 0) (strip_last 10 line) ≡ Some q
+      → read_lines true (going.done ++ strip_last 10 line ∷ []) ≡ read_lines true going.done ++ Some q ∷ []
+  read_on q is =
+      read_push going.done (strip_last 10 line)
+      ∙ ap (λ o. read_lines true going.done ++ o ∷ [])
+      (ap (λ b. read_line b (strip_last 10 line)) (first_is going.done n going.number) ∙ is)
+
+  -- no line is done before the first
+  none_done : (b : Bool) → (n == 0) ≡ b → b ≡ true → going.done ≡ []
+  none_done b zero is = empty_is n going.done (sym going.number) (zero ∙ is)
+
+  -- what is written, with the new answer
+  text_on : (as' : List LineAnswer) (a : LineAnswer) → Appends old mid (flat_map answer_line as')
+      → Appends mid new (answer_line a) → Appends old new (flat_map answer_line (as' ++ a ∷ []))
+  text_on as' a told wrote =
+      subst (Appends old new) (sym (flat_map-append answer_line as' (a ∷ [])))
+      (Appends-trans old mid new (flat_map answer_line as') (answer_line a ++ []) told
+      (subst (Appends mid new) (sym (append-nil (answer_line a))) wrote))
+
+  going_asked : (q : Asked) (a : LineAnswer) → read_line (n == 0) (strip_last 10 line) ≡ Some q
+      → Tells before q a after → Appends mid new (answer_line a) → Going script next old new after (n + 1)
+  going_asked (Live l) a is tells wrote =
+      let x : LineTurn = line_turn l a in
+      going_on going.pool (going.turns ++ x ∷ [])
+      (read_on (Live l) is ∙ ap (λ qs. qs ++ Some (Live l) ∷ []) going.read ∙ sym (read_more going.pool going.turns x))
+      (lived_push (first_host going.pool) before after going.turns x going.lived tells)
+      (subst (λ as'. Appends old new (flat_map answer_line as')) (sym (told_more going.pool going.turns x))
+      (text_on (told_in going.pool going.turns) a going.text wrote))
+  going_asked (Pool m) a is tells wrote =
+      let none = none_done (n == 0) refl (pool_is_first (n == 0) (strip_last 10 line) m is) in
+      let silent = none_told going.pool going.turns (sym (ap (read_lines true) none) ∙ going.read) in
+      going_on (Some m) []
+      (read_on (Pool m) is ∙ ap (λ ls. read_lines true ls ++ Some (Pool m) ∷ []) none)
+      tells.1
+      (subst (λ b. Appends old new (flat_map answer_line (b ∷ []))) tells.0
+      (text_on [] a (subst (λ as'. Appends old mid (flat_map answer_line as')) silent going.text) wrote))
+
 pub going_more : (o now next old mid new : Option (List ℕ)) (before after : HostState) (n : ℕ) (line : List ℕ) (q : Asked) (a : LineAnswer)
     → IfSome o (λ script. Going script now old mid before n) → BeginsWithLine now line → DropsThrough now next 10 → line ≢ []
-    → read_line (n == 0) (strip_last 10 line) ≡ Some q → Tells before q a after → Appends mid new (line_of a)
+    → read_line (n == 0) (strip_last 10 line) ≡ Some q → Tells before q a after → Appends mid new (answer_line a)
     → IfSome o (λ script. Going script next old new after (n + 1))
 going_more None now next old mid new before after n line q a going taken drops some is tells wrote = tt
 going_more (Some script) now next old mid new before after n line q a going taken drops some is tells wrote =
-    let g : Going script now old mid before n = going in
-    let x : LineTurn = line_turn q a in
-    let first = first_line_is script now old mid before n g line taken some in
-    record {
-      done = g.done ++ strip_last 10 line ∷ [];
-      rest = drop_through 10 g.rest;
-      remains = subst (λ o. DropsThrough o next 10) g.remains drops;
-      lines = g.lines ∙ ap (λ ls. g.done ++ ls) first ∙ sym (append_assoc g.done (strip_last 10 line ∷ []) (lines_of (drop_through 10 g.rest)));
-      number = omega (arith, length-append g.done (strip_last 10 line ∷ []), g.number);
-      turns = g.turns ++ x ∷ [];
-      read =
-          let one : read_line (is_first g.done) (strip_last 10 line) ≡ Some q =
-          ap (λ b. read_line b (strip_last 10 line)) (first_is g.done n g.number) ∙ is in
-          read_push g.done (strip_last 10 line) ∙ (λ i. g.read i ++ one i ∷ []) ∙ sym (map-append asked_line g.turns (x ∷ []));
-      told = told_push usual_host before after g.turns q a g.told tells;
-      text = subst (Appends old new) (sym (flat_map-append written g.turns (x ∷ [])))
-          (Appends-trans old mid new (flat_map written g.turns) (flat_map written (x ∷ [])) g.text (subst (Appends mid new) (sym (append-nil (line_of a))) wrote));
-    }
+    going_asked script now next old mid new before after n line going taken drops some q a is tells wrote
 
 pub going_ends : (o now old new : Option (List ℕ)) (host : HostState) (n : ℕ) (line : List ℕ) → IfSome o (λ script. Going script now old new host n)
     → BeginsWithLine now line → line ≡ [] → IfSome o (λ script. Wrote old new (lines_of script))
@@ -159,17 +218,3 @@ going_long (Some script) now old new host n m going long number =
   where
     not_short : {k : ℕ} → k ≡ 0 → max_script_line < k → ⊥
     not_short e h = omega (arith, e, h)
-
--- ---- facts of values
-
-pub line_taken : (t : Taken) → (t ≡ TooLong → ⊥) → t ≡ Line
-line_taken Line short = refl
-line_taken TooLong short = absurd (short refl)
-
-pub empty_is : (n : ℕ) (xs : List ℕ) → n ≡ length xs → (n == 0) ≡ true → xs ≡ []
-empty_is n [] len zero = refl
-empty_is n (x ∷ xs) len zero = let none : n ≡ 0 = eqb-true n 0 zero in absurd (omega (arith, len, none))
-
-pub full_is : (n : ℕ) (xs : List ℕ) → n ≡ length xs → (n == 0) ≡ false → xs ≢ []
-full_is n [] len some = λ _. true≢false (sym (eq-eqb n 0 len) ∙ some)
-full_is n (x ∷ xs) len some = λ h. cc

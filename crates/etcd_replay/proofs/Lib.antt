@@ -2,5 +2,5 @@ pub mod LineLemmas
 pub mod NumberLemmas
 pub mod FirstLine
 pub mod ReadLemmas
-pub mod Replayed
+pub mod TurnLemmas
 pub mod GoingLemmas

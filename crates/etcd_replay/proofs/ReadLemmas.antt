@@ -11,9 +11,10 @@ use Rattle.etcd_types.specs.declared.limits.TheConstants.{MAX_SEGMENTS}
 use Rattle.etcd_types.specs.declared.step.Step.{Step}
 use Rattle.etcd_types.specs.declared.step.Step.TheVariants.{Take, DropWatch, Tick, CatchUp}
 use Rattle.host_front.specs.declared.front.Front.{Front}
-use Rattle.etcd_replay.specs.Script.{Asked, Pool, Add, Happens, Parts, call_asked, in_place, is_first}
+use Rattle.host_front.specs.Lines.{Line, Remove, Resize}
+use Rattle.etcd_replay.specs.Script.{Asked, Pool, Live, Parts, call_asked, in_place, is_first, removed_by}
 use Rattle.etcd_replay.specs.Script.{number_of, parts_of, pool_of, read_line, read_lines, read_word, read_words}
-use Rattle.etcd_replay.specs.Script.{read_pool, read_add, read_call_line, read_take, read_drop, read_tick}
+use Rattle.etcd_replay.specs.Script.{read_pool, read_add, read_resize, read_remove, read_call_line, read_take, read_drop, read_tick}
 use Rattle.etcd_replay.specs.Script.{read_catch_up, read_step, read_event, number_below}
 use Rattle.etcd_replay.specs.Replaying.{IsInPlace}
 
@@ -41,8 +42,7 @@ first_is (l ∷ ls) n is = sym (ne_eqb (length (l ∷ ls)) 0 (some l ls)) ∙ ap
 -- the number of a pool's segments is one that it may have
 IsPoolSize : Asked → Type 0
 IsPoolSize (Pool n) = (1 ≤ n) × (n ≤ MAX_SEGMENTS)
-IsPoolSize (Add name cluster quota first) = Unit {0}
-IsPoolSize (Happens e) = Unit {0}
+IsPoolSize (Live line) = Unit {0}
 
 IfSize : Option Asked → Type 0
 IfSize None = Unit {0}
@@ -71,6 +71,22 @@ add_sized text =
     sized_then _ (number_of cluster.field) (λ i.
     sized_then _ (number_of quota.field) (λ c.
     sized_then _ (number_of quota.rest) (λ f. tt))))))
+
+resize_sized : (text : List ℕ) → IfSize (read_resize text)
+unfolding IfSize IsPoolSize
+resize_sized text = sized_then _ (parts_of text) (λ name. by name.field (number_of name.rest))
+  where
+    by : (name : List ℕ) (o : Option ℕ) → IfSize (option_map (λ cells. Live (Resize name cells)) o)
+    by name None = tt
+    by name (Some cells) = tt
+
+remove_sized : (text : List ℕ) → IfSize (read_remove text)
+unfolding IfSize IsPoolSize
+remove_sized text = by (parts_of text)
+  where
+    by : (o : Option Parts) → IfSize (removed_by text o)
+    by None = tt
+    by (Some more) = tt
 
 call_sized : (text : List ℕ) → IfSize (read_call_line text)
 unfolding IfSize IsPoolSize
@@ -106,12 +122,18 @@ event_sized word rest =
     by false false false false false = tt
 
 word_sized : (word rest : List ℕ) → IfSize (read_word word rest)
-word_sized word rest = by (bytes_eq word (codes "pool")) (bytes_eq word (codes "add"))
+word_sized word rest =
+    by (bytes_eq word (codes "pool")) (bytes_eq word (codes "add")) (bytes_eq word (codes "resize"))
+    (bytes_eq word (codes "remove"))
   where
-    by : (p a : Bool) → IfSize (cond p (read_pool rest) (cond a (read_add rest) (read_event word rest)))
-    by true a = sized_then pool_of (number_of rest) pool_sized
-    by false true = add_sized rest
-    by false false = event_sized word rest
+    by : (p a s r : Bool)
+        → IfSize (cond p (read_pool rest) (cond a (read_add rest) (cond s (read_resize rest)
+        (cond r (read_remove rest) (read_event word rest)))))
+    by true a s r = sized_then pool_of (number_of rest) pool_sized
+    by false true s r = add_sized rest
+    by false false true r = resize_sized rest
+    by false false false true = remove_sized rest
+    by false false false false = event_sized word rest
 
 words_sized : (text : List ℕ) → IfSize (read_words text)
 unfolding read_words IfSize
@@ -132,8 +154,7 @@ line_in_place front first text q read empty = by first (read_words text) q read 
   where
     by : (b : Bool) (o : Option Asked) (q : Asked) → option_and_then (in_place b) o ≡ Some q → IfSize o
         → (b ≡ true → front ≡ None) → IsInPlace front q
-    by b o (Add name cluster quota first) is sized empty = tt
-    by b o (Happens e) is sized empty = tt
+    by b o (Live line) is sized empty = tt
     by b None (Pool n) is sized empty = cc
     by true (Some p) (Pool n) is sized empty = at p is sized
       where
@@ -142,5 +163,14 @@ line_in_place front first text q read empty = by first (read_words text) q read 
             let size : (1 ≤ n) × (n ≤ MAX_SEGMENTS) = subst IfSize is sized in
             record { first = empty refl; some = size.0; most = size.1 }
     by false (Some (Pool m)) (Pool n) is sized empty = cc
-    by false (Some (Add name cluster quota first)) (Pool n) is sized empty = cc
-    by false (Some (Happens e)) (Pool n) is sized empty = cc
+    by false (Some (Live line)) (Pool n) is sized empty = cc
+
+-- only the first line names a pool
+pub pool_is_first : (first : Bool) (text : List ℕ) (n : ℕ) → read_line first text ≡ Some (Pool n) → first ≡ true
+pool_is_first first text n = by first (read_words text)
+  where
+    by : (b : Bool) (o : Option Asked) → option_and_then (in_place b) o ≡ Some (Pool n) → b ≡ true
+    by true o is = refl
+    by false None is = cc
+    by false (Some (Pool m)) is = cc
+    by false (Some (Live line)) is = cc

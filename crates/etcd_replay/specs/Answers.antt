@@ -4,8 +4,8 @@ use Rattle.std.specs.Io.BufRead.{ends_with_byte}
 use Rattle.steps_core.specs.declared.adding.OperatorFault.{OperatorFault}
 use Rattle.steps_core.specs.declared.adding.OperatorFault.TheVariants.{Name, Limits, Taken, NoTenant, Short}
 use Rattle.steps_core.specs.declared.adding.OperatorFault.TheVariants.{Memory}
-use Rattle.etcd_replay.specs.declared.answer.LineAnswer.{LineAnswer}
-use Rattle.etcd_replay.specs.declared.answer.LineAnswer.TheVariants.{Done, No, Told}
+use Rattle.host_front.specs.declared.line.LineAnswer.{LineAnswer}
+use Rattle.host_front.specs.declared.line.LineAnswer.TheVariants.{Event, Done, No}
 
 abbrev pub word_of : OperatorFault → List ℕ
 word_of Name = codes "name"
@@ -26,7 +26,7 @@ body_line [] = 10 ∷ []
 body_line (b ∷ bs) = 32 ∷ ended (b ∷ bs)
 
 -- the answer line
-abbrev pub line_of : LineAnswer → List ℕ
-line_of Done = codes "ok\n"
-line_of (No fault) = codes "no " ++ word_of fault ++ 10 ∷ []
-line_of (Told a) = decimal a.status ++ body_line a.body
+abbrev pub answer_line : LineAnswer → List ℕ
+answer_line Done = codes "ok\n"
+answer_line (No fault) = codes "no " ++ word_of fault ++ 10 ∷ []
+answer_line (Event a) = decimal a.status ++ body_line a.body

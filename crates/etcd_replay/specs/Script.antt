@@ -10,10 +10,10 @@ use Rattle.etcd_types.specs.Limits.{max_script_line}
 use Rattle.etcd_types.specs.declared.limits.TheConstants.{MAX_SEGMENTS}
 use Rattle.etcd_types.specs.declared.step.Step.{Step}
 use Rattle.etcd_types.specs.declared.step.Step.TheVariants.{Take, DropWatch, Tick, CatchUp}
-use Rattle.etcd_model.specs.Alone.{Event, Called, Stepped}
-use Rattle.host_front.specs.Events.{lent_event}
-use Rattle.etcd_replay.specs.declared.script.Line.{Line}
-use Rattle.etcd_replay.specs.declared.script.Line.TheVariants as line
+use Rattle.etcd_model.specs.Alone.{Called, Stepped}
+use Rattle.host_front.specs.Lines.{Line, Happens, Add, Resize, Remove, lent_line}
+use Rattle.etcd_replay.specs.declared.script.Asked.{Asked as Read}
+use Rattle.etcd_replay.specs.declared.script.Asked.TheVariants as asked
 
 -- ---- lines
 
@@ -29,12 +29,10 @@ lines_of (x ∷ xs) = if x == 10 then [] ∷ lines_of xs else onto x (lines_of x
 
 -- ---- what a line asks for
 
--- a pool of so many segments; a new tenant: its name, cluster ID, quota in cells and first revision; or what
--- a tenant is asked
+-- a pool of so many segments, or what the host is asked
 pub data Asked : Type 0 where
   Pool : ℕ → Asked
-  Add : List ℕ → ℕ → ℕ → ℕ → Asked
-  Happens : Event → Asked
+  Live : Line → Asked
 
 -- what is before the first space, and what is after it
 pub record Parts : Type 0 where
@@ -77,7 +75,7 @@ read_add text =
     option_and_then (λ cluster_id.
     option_and_then (λ cells.
     option_and_then (λ first.
-    Some (Add name.field cluster_id cells first))
+    Some (Live (Add name.field cluster_id cells first)))
     (number_of quota.rest))
     (number_of quota.field))
     (number_of cluster.field))
@@ -85,10 +83,24 @@ read_add text =
     (parts_of name.rest))
     (parts_of text)
 
+-- `<name> <quota>`
+abbrev pub read_resize : List ℕ → Option Asked
+read_resize text =
+    option_and_then (λ name. option_map (λ cells. Live (Resize name.field cells)) (number_of name.rest)) (parts_of text)
+
+-- all of it, if nothing is parted from it
+abbrev pub removed_by : List ℕ → Option Parts → Option Asked
+removed_by name None = Some (Live (Remove name))
+removed_by name (Some more) = None
+
+-- `<name>`
+abbrev pub read_remove : List ℕ → Option Asked
+read_remove text = removed_by text (parts_of text)
+
 -- `<method> <target> <body>`: the body is all that follows, and without its space it is empty
 abbrev pub call_asked : List ℕ → List ℕ → Option Parts → Asked
-call_asked method text None = Happens (Called method text [])
-call_asked method text (Some target) = Happens (Called method target.field target.rest)
+call_asked method text None = Live (Happens (Called method text []))
+call_asked method text (Some target) = Live (Happens (Called method target.field target.rest))
 
 abbrev pub read_call_line : List ℕ → Option Asked
 read_call_line text =
@@ -98,7 +110,7 @@ read_call_line text =
 abbrev pub read_step : (ℕ → Step) → (List ℕ → Option ℕ) → List ℕ → Option Asked
 read_step step number text =
     option_and_then (λ tenant.
-    option_and_then (λ n. Some (Happens (Stepped tenant.field (step n)))) (number tenant.rest))
+    option_and_then (λ n. Some (Live (Happens (Stepped tenant.field (step n))))) (number tenant.rest))
     (parts_of text)
 
 abbrev pub read_take : List ℕ → Option Asked
@@ -123,10 +135,13 @@ read_event word rest =
     else if bytes_eq word (codes "catchup") then read_catch_up rest
     else None
 
+-- what the operator asks for, or a tenant
 abbrev pub read_word : List ℕ → List ℕ → Option Asked
 read_word word rest =
     if bytes_eq word (codes "pool") then read_pool rest
     else if bytes_eq word (codes "add") then read_add rest
+    else if bytes_eq word (codes "resize") then read_resize rest
+    else if bytes_eq word (codes "remove") then read_remove rest
     else read_event word rest
 
 -- a line that is too long, or says anything else, can't be read
@@ -139,8 +154,7 @@ read_words text =
 abbrev pub in_place : Bool → Asked → Option Asked
 in_place true q = Some q
 in_place false (Pool segments) = None
-in_place false (Add name cluster quota first) = Some (Add name cluster quota first)
-in_place false (Happens e) = Some (Happens e)
+in_place false (Live l) = Some (Live l)
 
 -- a line, which is the first or a later one
 abbrev pub read_line : Bool → List ℕ → Option Asked
@@ -157,7 +171,6 @@ is_first [] = true
 is_first (l ∷ ls) = false
 
 -- what a line asks for, by what was read of it
-abbrev pub asked_by : Line → Asked
-asked_by (line.Pool segments) = Pool segments
-asked_by (line.Add name cluster quota first) = Add name.now cluster quota first
-asked_by (line.Event e) = Happens (lent_event e)
+abbrev pub asked_by : Read → Asked
+asked_by (asked.Pool segments) = Pool segments
+asked_by (asked.Live l) = Live (lent_line l)

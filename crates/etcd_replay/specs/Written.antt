@@ -6,16 +6,20 @@ use Rattle.steps_core.specs.Hosts.{HostState}
 use Rattle.etcd_replay.specs.declared.fault.ReplayFault.{ReplayFault}
 use Rattle.etcd_replay.specs.declared.fault.ReplayFault.TheVariants.{Line, Io, Memory}
 use Rattle.etcd_replay.specs.Script.{lines_of, read_line, read_lines, is_first}
-use Rattle.etcd_replay.specs.Answers.{line_of}
-use Rattle.etcd_replay.specs.Replaying.{LineTurn, IsReplayed}
+use Rattle.host_front.specs.Lines.{LineTurn}
+use Rattle.host_front.specs.Living.{AllLived}
+use Rattle.etcd_replay.specs.Answers.{answer_line}
+use Rattle.etcd_replay.specs.Replaying.{asked_in, first_host, told_in}
 
--- these lines can all be read, and what was written is their answers
+-- These lines can all be read, and what was written is their answers. The first may name a pool; the others are
+-- asked of a host of so many segments, which answers each tenant as if it were alone.
 pub record Wrote (old new : Option (List ℕ)) (lines : List (List ℕ)) : Type 0 where
+  pub pool : Option ℕ
   pub turns : List LineTurn
   pub last : HostState
-  pub read : read_lines true lines ≡ map (λ x. Some x.asked) turns
-  pub replayed : IsReplayed turns last
-  pub text : Appends old new (flat_map (λ x. line_of x.answer) turns)
+  pub read : read_lines true lines ≡ map Some (asked_in pool turns)
+  pub lived : AllLived (first_host pool) turns last
+  pub text : Appends old new (flat_map answer_line (told_in pool turns))
 
 -- the n-th line is the first that can't be read, and the lines before it are answered
 pub record EndsAtLine (n : ℕ) (script : List ℕ) (old new : Option (List ℕ)) : Type 0 where

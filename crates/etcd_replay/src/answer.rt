@@ -1,22 +1,11 @@
 //! What is answered to a line of a script.
 ghost use Rattle.std.specs.Prelude.{◌≡◌, OnOk};
 ghost use Rattle.std.specs.Io.KnownBytes.{Appends};
-ghost use Rattle.etcd_replay.specs.Answers.{body_line, line_of, word_of};
+ghost use Rattle.etcd_replay.specs.Answers.{answer_line, body_line, word_of};
 
-use host_front::Answer;
+use host_front::LineAnswer;
 use std::io::{self, Write};
 use steps_core::OperatorFault;
-
-/// What is answered to a line.
-#[derive(Drop)]
-pub enum LineAnswer {
-    /// The pool is there, or the tenant was added.
-    Done,
-    /// The tenant was not added.
-    No(OperatorFault),
-    /// What a tenant is answered.
-    Told(Answer),
-}
 
 fn word(fault: OperatorFault) -> &'static str
     ensures { result.now ≡ word_of fault }
@@ -33,7 +22,7 @@ fn word(fault: OperatorFault) -> &'static str
 
 /// Writes the answer line. It takes no memory.
 pub(crate) fn write_answer<W: Write>(writer: &mut W, answer: &LineAnswer) -> io::Result<()>
-    ensures { OnOk result (Appends (W.contents writer.old) (W.contents writer.new) (line_of answer.now)) }
+    ensures { OnOk result (Appends (W.contents writer.old) (W.contents writer.new) (answer_line answer.now)) }
 {
     match answer {
         LineAnswer::Done => writer.write_all(b"ok\n"),
@@ -42,7 +31,7 @@ pub(crate) fn write_answer<W: Write>(writer: &mut W, answer: &LineAnswer) -> io:
             writer.write_all(word(*fault).as_bytes())?;
             writer.write_all(b"\n")
         }
-        LineAnswer::Told(answer) => {
+        LineAnswer::Event(answer) => {
             let mut digits = itoa::Buffer::new();
             writer.write_all(digits.format(answer.status()).as_bytes())?;
             write_body(writer, answer.body())

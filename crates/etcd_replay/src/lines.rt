@@ -5,6 +5,7 @@ ghost use Rattle.std.specs.Io.{StartsWith, StopsAt, IsEmptyOrEndsWith, appended_
 ghost use Rattle.std.specs.Io.KnownBytes.{Consumes, IsAtEnd, Keeps};
 ghost use Rattle.std.specs.IoError.{error_kind};
 ghost use Rattle.std.specs.Io.BufRead.{strip_last, DropsThrough};
+ghost use Rattle.etcd_types.specs.Limits.{max_script_line};
 ghost use Rattle.etcd_replay.specs.Lines.{BeginsTooLong, BeginsWithLine, NamesNoLine};
 
 use crate::fault::ReplayFault;
@@ -38,8 +39,8 @@ impl<R: BufRead> Lines<R> {
         }
     }
 
-    /// Takes the next line. No more is held than the longest line has. The writer is flushed before the
-    /// reader may wait, so no answer is held back.
+    /// Takes the next line. No more is held than the longest line has with its newline. The writer is flushed
+    /// before the reader may wait, so no answer is held back.
     pub(crate) fn take_line<W: Write>(
         &mut self,
         writer: &mut W,
@@ -48,6 +49,7 @@ impl<R: BufRead> Lines<R> {
         ensures line { result ≡ Ok Taken.Line → BeginsWithLine (R.remaining self.old.reader) line.new.items }
         ensures rest { result ≡ Ok Taken.Line
             → DropsThrough (R.remaining self.old.reader) (R.remaining self.new.reader) 10 }
+        ensures held { length line.new.items ≤ max_script_line + 1 }
         ensures long { result ≡ Ok Taken.TooLong → BeginsTooLong (R.remaining self.old.reader) }
         ensures written { Keeps (W.contents writer.old) (W.contents writer.new) }
         ensures fault { NamesNoLine result }

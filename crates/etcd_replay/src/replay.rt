@@ -1,15 +1,14 @@
 //! The host of a script, and what its lines are answered.
 ghost use Rattle.std.specs.Prelude.{◌≡◌, IfOk, OnOk, IsSome, None};
-ghost use Rattle.host_front.specs.Events.{lent_event};
-ghost use Rattle.host_front.specs.Answering.{Answers};
+ghost use Rattle.host_front.specs.Lines.{lent_line};
+ghost use Rattle.host_front.specs.Operating.{Lives};
 ghost use Rattle.etcd_replay.specs.Script.{asked_by};
-ghost use Rattle.etcd_replay.specs.Replaying.{host_in, IsAdded, IsInPlace, Tells};
+ghost use Rattle.etcd_replay.specs.Replaying.{host_in, IsInPlace, Tells};
 
-use crate::answer::LineAnswer;
-use crate::script::Line;
+use crate::script::Asked;
 use etcd_types::Mem;
 use etcd_types::limits::DEFAULT_SEGMENTS;
-use host_front::{Answer, Front, LentEvent};
+use host_front::{Front, LentLine, LineAnswer};
 use std::alloc::Global;
 use steps_core::Host;
 
@@ -27,28 +26,19 @@ impl Replay {
     }
 
     /// Answers one line. It fails if the pool can't be held.
-    pub(crate) fn answer(&mut self, alloc: Global, line: &Line<'_>) -> Mem<LineAnswer>
-        requires { IsInPlace self.old.front (asked_by line.now) }
+    pub(crate) fn answer(&mut self, alloc: Global, asked: &Asked<'_>) -> Mem<LineAnswer>
+        requires { IsInPlace self.old.front (asked_by asked.now) }
         ensures { IfOk result
-            (λ a. Tells (host_in self.old.front) (asked_by line.now) a (host_in self.new.front)) }
+            (λ a. Tells (host_in self.old.front) (asked_by asked.now) a (host_in self.new.front)) }
     {
-        match *line {
-            Line::Pool { segments } => {
+        match *asked {
+            Asked::Pool { segments } => {
                 self.front = Some(Front::new(Host::new(alloc, segments)?));
                 Ok(LineAnswer::Done)
             }
-            Line::Add {
-                name,
-                cluster,
-                quota,
-                first,
-            } => {
+            Asked::Live(line) => {
                 self.begin(alloc)?;
-                Ok(self.add(alloc, name, cluster, quota, first))
-            }
-            Line::Event(event) => {
-                self.begin(alloc)?;
-                Ok(LineAnswer::Told(self.event(alloc, event)))
+                Ok(self.live(alloc, line))
             }
         }
     }
@@ -64,35 +54,13 @@ impl Replay {
         Ok(())
     }
 
-    fn add(
-        &mut self,
-        alloc: Global,
-        name: &[u8],
-        cluster: u64,
-        quota: u64,
-        first: u64,
-    ) -> LineAnswer
+    fn live(&mut self, alloc: Global, line: LentLine<'_>) -> LineAnswer
         requires { IsSome self.old.front }
-        ensures { IsAdded (host_in self.old.front) name.now cluster quota first result
-            (host_in self.new.front) }
+        ensures { Lives (host_in self.old.front) (lent_line line.entry) result (host_in self.new.front) }
     {
         let Some(front) = &mut self.front else {
             unreachable!()
         };
-        match front.host().add(alloc, name, cluster, quota, first) {
-            Ok(()) => LineAnswer::Done,
-            Err(fault) => LineAnswer::No(fault),
-        }
-    }
-
-    fn event(&mut self, alloc: Global, event: LentEvent<'_>) -> Answer
-        requires { IsSome self.old.front }
-        ensures { Answers (host_in self.old.front) (lent_event event.entry) result
-            (host_in self.new.front) }
-    {
-        let Some(front) = &mut self.front else {
-            unreachable!()
-        };
-        front.answer_lent(alloc, event)
+        front.live_lent(alloc, line)
     }
 }

@@ -49,10 +49,10 @@ fn run_lines<R: BufRead, W: Write>(
         if text.is_empty() {
             return Ok(());
         }
-        let Some(line) = read_line(without_newline(text), n == 0) else {
+        let Some(asked) = read_line(without_newline(text), n == 0) else {
             return Err(ReplayFault::Line(n + 1));
         };
-        let Ok(answer) = replay.answer(alloc, &line) else {
+        let Ok(answer) = replay.answer(alloc, &asked) else {
             return Err(ReplayFault::Memory);
         };
         let Ok(()) = write_answer(writer, &answer) else {

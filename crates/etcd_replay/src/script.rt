@@ -4,29 +4,20 @@ ghost use Rattle.std.specs.Char.{is_ascii_digit};
 ghost use Rattle.std.specs.List.{list_all};
 ghost use Rattle.etcd_types.specs.Limits.{max_script_line};
 ghost use Rattle.etcd_replay.specs.Script.{asked_by, is_number, number_of, number_below, parts_of};
-ghost use Rattle.etcd_replay.specs.Script.{read_add, read_call_line, read_line, read_pool, read_words};
+ghost use Rattle.etcd_replay.specs.Script.{read_add, read_call_line, read_line, read_pool, read_remove, read_resize, read_words};
 ghost use Rattle.etcd_replay.specs.Script.{read_event, read_take, read_drop, read_tick, read_catch_up};
 ghost use Rattle.etcd_replay.specs.Parted.{parts_by};
 
 use etcd_types::limits::{MAX_SCRIPT_LINE, MAX_SEGMENTS};
-use host_front::LentEvent;
+use host_front::{LentEvent, LentLine};
 
 /// What a line asks for.
 #[derive(Clone, Copy)]
-pub(crate) enum Line<'a> {
+pub(crate) enum Asked<'a> {
     /// A pool of so many segments.
-    Pool {
-        segments: u32,
-    },
-    /// A new tenant.
-    Add {
-        name: &'a [u8],
-        cluster: u64,
-        quota: u64,
-        first: u64,
-    },
-    /// What a tenant is asked.
-    Event(LentEvent<'a>),
+    Pool { segments: u32 },
+    /// What the host is asked.
+    Live(LentLine<'a>),
 }
 
 /// A text parted at its first space.
@@ -37,18 +28,18 @@ struct Parts<'a> {
 }
 
 /// Reads a line, without its newline. Only the first line may name a pool.
-pub(crate) fn read_line(text: &[u8], is_first: bool) -> Option<Line<'_>>
+pub(crate) fn read_line(text: &[u8], is_first: bool) -> Option<Asked<'_>>
     ensures { option_map asked_by result ≡ read_line is_first text.now }
 {
     match read_words(text) {
-        Some(Line::Pool { .. }) if !is_first => None,
-        line => line,
+        Some(Asked::Pool { .. }) if !is_first => None,
+        asked => asked,
     }
 }
 
 /// A line that is longer than a line may be can't be read.
 #[tactic(auto, unfolding(crate::specs::Script::read_words))]
-fn read_words(text: &[u8]) -> Option<Line<'_>>
+fn read_words(text: &[u8]) -> Option<Asked<'_>>
     ensures { option_map asked_by result ≡ read_words text.now }
 {
     if text.len() > MAX_SCRIPT_LINE {
@@ -58,11 +49,13 @@ fn read_words(text: &[u8]) -> Option<Line<'_>>
     match word.field {
         b"pool" => read_pool(word.rest),
         b"add" => read_add(word.rest),
+        _ if word.field == b"resize".as_slice() => read_resize(word.rest),
+        _ if word.field == b"remove".as_slice() => read_remove(word.rest),
         _ => read_event(word.field, word.rest),
     }
 }
 
-fn read_event<'a>(word: &[u8], rest: &'a [u8]) -> Option<Line<'a>>
+fn read_event<'a>(word: &[u8], rest: &'a [u8]) -> Option<Asked<'a>>
     ensures { option_map asked_by result ≡ read_event word.now rest.now }
 {
     match word {
@@ -75,33 +68,53 @@ fn read_event<'a>(word: &[u8], rest: &'a [u8]) -> Option<Line<'a>>
     }
 }
 
-fn read_pool(text: &[u8]) -> Option<Line<'_>>
+fn read_pool(text: &[u8]) -> Option<Asked<'_>>
     ensures { option_map asked_by result ≡ read_pool text.now }
 {
     let segments = number_of(text)?;
     if segments < 1 || segments > u64::from(MAX_SEGMENTS) {
         return None;
     }
-    Some(Line::Pool {
+    Some(Asked::Pool {
         segments: segments as u32,
     })
 }
 
-fn read_add(text: &[u8]) -> Option<Line<'_>>
+fn read_add(text: &[u8]) -> Option<Asked<'_>>
     ensures { option_map asked_by result ≡ read_add text.now }
 {
     let name = parts_of(text)?;
     let cluster = parts_of(name.rest)?;
     let quota = parts_of(cluster.rest)?;
-    Some(Line::Add {
+    Some(Asked::Live(LentLine::Add {
         name: name.field,
         cluster: number_of(cluster.field)?,
         quota: number_of(quota.field)?,
         first: number_of(quota.rest)?,
-    })
+    }))
 }
 
-fn read_call(text: &[u8]) -> Option<Line<'_>>
+fn read_resize(text: &[u8]) -> Option<Asked<'_>>
+    ensures { option_map asked_by result ≡ read_resize text.now }
+{
+    let name = parts_of(text)?;
+    Some(Asked::Live(LentLine::Resize {
+        name: name.field,
+        quota: number_of(name.rest)?,
+    }))
+}
+
+/// Nothing stands behind the name.
+fn read_remove(name: &[u8]) -> Option<Asked<'_>>
+    ensures { option_map asked_by result ≡ read_remove name.now }
+{
+    match parts_of(name) {
+        None => Some(Asked::Live(LentLine::Remove { name })),
+        Some(_) => None,
+    }
+}
+
+fn read_call(text: &[u8]) -> Option<Asked<'_>>
     ensures { option_map asked_by result ≡ read_call_line text.now }
 {
     let method = parts_of(text)?;
@@ -109,55 +122,55 @@ fn read_call(text: &[u8]) -> Option<Line<'_>>
         field: method.rest,
         rest: &[],
     });
-    Some(Line::Event(LentEvent::Call {
+    Some(Asked::Live(LentLine::Event(LentEvent::Call {
         method: method.field,
         target: target.field,
         body: target.rest,
-    }))
+    })))
 }
 
-fn read_take(text: &[u8]) -> Option<Line<'_>>
+fn read_take(text: &[u8]) -> Option<Asked<'_>>
     ensures { option_map asked_by result ≡ read_take text.now }
 {
     let tenant = parts_of(text)?;
     let slot = slot_of(tenant.rest)?;
-    Some(Line::Event(LentEvent::Take {
+    Some(Asked::Live(LentLine::Event(LentEvent::Take {
         tenant: tenant.field,
         slot,
-    }))
+    })))
 }
 
-fn read_drop(text: &[u8]) -> Option<Line<'_>>
+fn read_drop(text: &[u8]) -> Option<Asked<'_>>
     ensures { option_map asked_by result ≡ read_drop text.now }
 {
     let tenant = parts_of(text)?;
     let slot = slot_of(tenant.rest)?;
-    Some(Line::Event(LentEvent::DropWatch {
+    Some(Asked::Live(LentLine::Event(LentEvent::DropWatch {
         tenant: tenant.field,
         slot,
-    }))
+    })))
 }
 
-fn read_tick(text: &[u8]) -> Option<Line<'_>>
+fn read_tick(text: &[u8]) -> Option<Asked<'_>>
     ensures { option_map asked_by result ≡ read_tick text.now }
 {
     let tenant = parts_of(text)?;
     let moment = number_of(tenant.rest)?;
-    Some(Line::Event(LentEvent::Tick {
+    Some(Asked::Live(LentLine::Event(LentEvent::Tick {
         tenant: tenant.field,
         moment,
-    }))
+    })))
 }
 
-fn read_catch_up(text: &[u8]) -> Option<Line<'_>>
+fn read_catch_up(text: &[u8]) -> Option<Asked<'_>>
     ensures { option_map asked_by result ≡ read_catch_up text.now }
 {
     let tenant = parts_of(text)?;
     let budget = budget_of(tenant.rest)?;
-    Some(Line::Event(LentEvent::CatchUp {
+    Some(Asked::Live(LentLine::Event(LentEvent::CatchUp {
         tenant: tenant.field,
         budget,
-    }))
+    })))
 }
 
 /// A text parted at its first space, where it has one.

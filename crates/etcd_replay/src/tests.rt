@@ -11,13 +11,14 @@ use crate::fault::ReplayFault;
 use crate::lines::without_newline;
 use crate::replay::Replay;
 use crate::run::run;
-use crate::script::{Line, read_line};
+use crate::script::{Asked, read_line};
 use etcd_types::Mem;
+use host_front::LentLine;
 use random::Random;
 use single::{Singles, Source};
 use std::alloc::Global;
 use std::process::Abort;
-use test_rows::{ROWS, Row};
+use test_rows::{LIVE_ROWS, ROWS, Row};
 use test_segments::{Filled, Highest, Lowest};
 
 /// Lines by chance, of both tenants.
@@ -146,7 +147,8 @@ fn answers_over<S: Source>(alloc: Global, script: &[u8]) -> Mem<Vec<u8>> {
     let mut singles = Singles::<S>::new(alloc);
     let mut answers = Vec::new(alloc);
     for line in script.split(|byte| *byte == b'\n') {
-        write_over(alloc, &mut singles, line, &mut answers)?;
+        let is_first = answers.is_empty();
+        write_over(alloc, &mut singles, read_line(line, is_first), &mut answers)?;
     }
     Ok(answers)
 }
@@ -154,28 +156,25 @@ fn answers_over<S: Source>(alloc: Global, script: &[u8]) -> Mem<Vec<u8>> {
 fn write_over<S: Source>(
     alloc: Global,
     singles: &mut Singles<S>,
-    line: &[u8],
+    asked: Option<Asked<'_>>,
     answers: &mut Vec<u8>,
 ) -> Mem<()> {
-    match read_line(line, false) {
-        Some(
-            Line::Add {
-                name,
-                cluster,
-                quota,
-                first,
-            },
-        ) => {
-            singles.add(alloc, name, cluster, quota, first)?;
+    match asked {
+        Some(Asked::Pool { segments }) => {
+            singles.segments = segments;
             answers.extend_from_slice(b"ok\n")
         }
-        Some(Line::Event(event)) => {
+        Some(Asked::Live(LentLine::Event(event))) => {
             let (status, body) = singles.answer(alloc, event)?;
             let status = format!(in alloc; "{status}")?;
             answers.extend_from_slice(status.as_bytes())?;
             write_body(answers, &body)
         }
-        _ => Ok(()),
+        Some(Asked::Live(line)) => {
+            answers.extend_from_slice(singles.operate(alloc, line)?.as_bytes())?;
+            answers.extend_from_slice(b"\n")
+        }
+        None => Ok(()),
     }
 }
 
@@ -231,6 +230,9 @@ fn rows_are_answered(rt: HostRuntime) {
     for row in &ROWS {
         assert_row(&rt, rt.alloc(), row);
     }
+    for row in &LIVE_ROWS {
+        assert_row(&rt, rt.alloc(), row);
+    }
 }
 
 /// A row is answered so over this source of segments.
@@ -240,12 +242,19 @@ fn assert_row_over<S: Source>(rt: &impl Abort, alloc: Global, row: &Row) -> Mem<
     Ok(())
 }
 
+fn assert_row_over_each(rt: &impl Abort, alloc: Global, row: &Row) -> Mem<()> {
+    assert_row_over::<Lowest>(rt, alloc, row)?;
+    assert_row_over::<Highest>(rt, alloc, row)?;
+    assert_row_over::<Filled>(rt, alloc, row)
+}
+
 #[test]
 fn rows_are_answered_over_each_source(rt: HostRuntime) -> Mem<()> {
     for row in &ROWS {
-        assert_row_over::<Lowest>(&rt, rt.alloc(), row)?;
-        assert_row_over::<Highest>(&rt, rt.alloc(), row)?;
-        assert_row_over::<Filled>(&rt, rt.alloc(), row)?;
+        assert_row_over_each(&rt, rt.alloc(), row)?;
+    }
+    for row in &LIVE_ROWS {
+        assert_row_over_each(&rt, rt.alloc(), row)?;
     }
     Ok(())
 }

@@ -1,12 +1,13 @@
 //! Tenants with segments of their own, each from any source, which are answered as a host answers them.
-ghost use Rattle.std.specs.Prelude.{◌≡◌, IfOk};
+ghost use Rattle.std.specs.Prelude.{◌≡◌, ◌≤◌, IfOk};
+ghost use Rattle.etcd_types.specs.Limits.{max_quota};
 
 use cell_arena::Segments;
-use etcd_types::limits::{LAST_REVISION, MAX_QUOTA, MIN_QUOTA};
+use etcd_types::limits::{DEFAULT_SEGMENTS, LAST_REVISION, MAX_QUOTA, MIN_QUOTA};
 use etcd_types::{Mem, Refusal, Reply, Step};
 use gateway_json::{read_posted, target_of};
 use gateway_text::write_reply;
-use host_front::LentEvent;
+use host_front::{LentEvent, LentLine};
 use std::alloc::Global;
 use std::marker::Model;
 use tenant_machine::{Machine, segments_for};
@@ -42,6 +43,8 @@ struct Single<S: Source> {
     name: Vec<u8>,
     machine: Machine,
     segments: S,
+    /// How many segments it takes, drawn or not.
+    reserved: u32,
 }
 
 impl<S: Source> Model for Single<S> {
@@ -54,7 +57,8 @@ impl<S: Source> Model for Single<S> {
 
     ghost view = { λ t. t.machine };
 
-    ghost invariant = { λ t. IsLent t.machine.store.share (S.loan t.segments) };
+    ghost invariant = { λ t.
+        IsLent t.machine.store.share (S.loan t.segments) × (t.machine.store.share.reserved ≡ t.reserved) };
 }
 
 impl<S: Source> Single<S> {
@@ -75,11 +79,30 @@ impl<S: Source> Single<S> {
             return Ok(None);
         }
         let quota = quota as u32;
+        let reserved = segments_for(quota);
         Ok(Some(Single {
             name: Vec::from_slice(alloc, name)?,
             machine: Machine::new(alloc, cluster, quota, first as i64)?,
-            segments: S::make(alloc, segments_for(quota))?,
+            segments: S::make(alloc, reserved)?,
+            reserved,
         }))
+    }
+
+    /// Another quota in cells. What is reserved and not drawn comes of a new source then.
+    fn resize(&mut self, alloc: Global, quota: u32) -> Mem<()>
+        requires quota { quota ≤ max_quota }
+    {
+        let drawn = self.reserved - self.segments.left();
+        let reserved = self.machine.reservation(quota);
+        let mut segments = S::make(alloc, reserved)?;
+        'drawing: for _ in 0..drawn {
+            let _ = segments.draw();
+        }
+        self.machine.grow_rooms(quota)?;
+        self.machine.set_quota(quota);
+        self.segments = segments;
+        self.reserved = reserved;
+        Ok(())
     }
 
     /// The status and the body that an event is answered.
@@ -125,28 +148,95 @@ impl<S: Source> Single<S> {
 #[derive(Drop)]
 pub(super) struct Singles<S: Source> {
     tenants: Vec<Single<S>>,
+    /// How many all of them may take.
+    pub(super) segments: u32,
 }
 
 impl<S: Source> Singles<S> {
     pub(super) fn new(alloc: Global) -> Singles<S> {
         Singles {
             tenants: Vec::new(alloc),
+            segments: DEFAULT_SEGMENTS,
         }
     }
 
-    /// One tenant more, if its numbers are within the limits.
-    pub(super) fn add(
+    /// What the operator is told of a line that is no event.
+    pub(super) fn operate(&mut self, alloc: Global, line: LentLine<'_>) -> Mem<&'static str> {
+        match line {
+            LentLine::Add {
+                name,
+                cluster,
+                quota,
+                first,
+            } => self.add(alloc, name, cluster, quota, first),
+            LentLine::Resize { name, quota } => self.resize(alloc, name, quota),
+            LentLine::Remove { name } => Ok(self.remove(name)),
+            LentLine::Event(_) => Ok(""),
+        }
+    }
+
+    fn add(
         &mut self,
         alloc: Global,
         name: &[u8],
         cluster: u64,
         quota: u64,
         first: u64,
-    ) -> Mem<()> {
-        match Single::new(alloc, name, cluster, quota, first)? {
-            Some(single) => Ok(self.tenants.push(single)?),
-            None => Ok(()),
+    ) -> Mem<&'static str> {
+        let Some(single) = Single::new(alloc, name, cluster, quota, first)? else {
+            return Ok("no limits");
+        };
+        if self.place_of(name).is_some() {
+            return Ok("no taken");
         }
+        if single.reserved > self.unreserved() {
+            return Ok("no short");
+        }
+        self.tenants.push(single)?;
+        Ok("ok")
+    }
+
+    fn resize(&mut self, alloc: Global, name: &[u8], quota: u64) -> Mem<&'static str> {
+        if quota < MIN_QUOTA || quota > MAX_QUOTA {
+            return Ok("no limits");
+        }
+        let quota = quota as u32;
+        let unreserved = self.unreserved();
+        let Some(at) = self.place_of(name) else {
+            return Ok("no tenant");
+        };
+        let Some(single) = self.tenants.get_mut(at) else {
+            return Ok("no tenant");
+        };
+        if single.machine.reservation(quota) > single.reserved.saturating_add(unreserved) {
+            return Ok("no short");
+        }
+        single.resize(alloc, quota)?;
+        Ok("ok")
+    }
+
+    fn remove(&mut self, name: &[u8]) -> &'static str {
+        match self.place_of(name) {
+            Some(at) if at < self.tenants.len() => {
+                let _ = self.tenants.remove(at);
+                "ok"
+            }
+            _ => "no tenant",
+        }
+    }
+
+    fn place_of(&self, name: &[u8]) -> Option<usize> {
+        self.tenants
+            .iter()
+            .position(|single| single.name.as_slice() == name)
+    }
+
+    fn unreserved(&self) -> u32 {
+        let mut left = self.segments;
+        for single in &self.tenants {
+            left = left.saturating_sub(single.reserved);
+        }
+        left
     }
 
     /// The status and the body that an event is answered.

@@ -68,7 +68,7 @@ loop-n-preserved g c =
     let is = ap (read_line (c.loop-n.n == 0)) (sym text) ∙ sym c.in-Some.ensures in
     record {
       going =
-          going_more _ _ _ _ _ _ _ _ _ _ (asked_by c.in-Some.line) c.in-Ok.answer going
+          going_more _ _ _ _ _ _ _ _ _ _ (asked_by c.in-Some.asked) c.in-Ok.answer going
           (c.in_ok-take_line.ensures.line line) (c.in_ok-take_line.ensures.rest line) some is
           c.in-Ok.ensures c.in-Ok-write_answer.ensures;
       first = λ zero. absurd (omega (arith, zero));
