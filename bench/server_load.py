@@ -15,10 +15,17 @@ TXN_PUTS = 100
 # Compactions, so that no store fills up: after so many changes, which are looked at so often.
 CHANGES, PAUSE = 10_000, 0.05
 WRK_THREADS = 2
+# Milliseconds between an answer and the next call of a connection that rests.
+REST = 3
 PATIENCE = 10
 SCRIPT = """\
 local calls = {{{calls}}}
 local threads, messages, at = 0, {{}}, 0
+if {rest} > 0 then
+    function delay()
+        return {rest}
+    end
+end
 function setup(thread)
     thread:set("number", threads)
     threads = threads + 1
@@ -120,23 +127,27 @@ class Load(NamedTuple):
 
 
 class Wrk:
-    """Runs of wrk, whose scripts lie in a folder. `faults` tells the runs in which not all was answered."""
+    """Runs of wrk, whose scripts lie in a folder. `faults` tells the runs in which not all was answered.
+
+    After each answer a connection may rest, so many milliseconds.
+    """
 
     def __init__(self, folder):
         self.folder, self.faults = folder, []
         for name, calls in works().items():
             pairs = ",".join(f"{{'{call}','{body_of(body).decode()}'}}" for call, body in calls)
-            with open(self.script(name), "w", encoding="ascii") as file:
-                file.write(SCRIPT.format(calls=pairs))
+            for rest in [0, REST]:
+                with open(self.script(name, rest), "w", encoding="ascii") as file:
+                    file.write(SCRIPT.format(calls=pairs, rest=rest))
 
-    def script(self, name):
-        return os.path.join(self.folder, name + ".lua")
+    def script(self, name, rest):
+        return os.path.join(self.folder, f"{name}-{rest}.lua")
 
     @contextlib.contextmanager
-    def running(self, place, name, connections, seconds):
+    def running(self, place, name, connections, seconds, rest=0):
         """wrk beside what is done meanwhile."""
         words = ["wrk", "-t", str(min(WRK_THREADS, connections)), "-c", str(connections), "-d", f"{seconds}s"]
-        words += ["--timeout", f"{PATIENCE}s", "-s", self.script(name), f"http://127.0.0.1:{place.port}{place.front}"]
+        words += ["--timeout", f"{PATIENCE}s", "-s", self.script(name, rest), f"http://127.0.0.1:{place.port}{place.front}"]
         child = subprocess.Popen(words, stdin=subprocess.DEVNULL, stdout=subprocess.PIPE, stderr=subprocess.STDOUT)
         try:
             yield child

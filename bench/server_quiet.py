@@ -1,6 +1,7 @@
 """A quiet tenant beside a neighbour that is flooded, and resident memory over minutes of mixed load."""
 import contextlib
 import itertools
+import os
 import time
 from statistics import median
 from typing import NamedTuple
@@ -9,7 +10,7 @@ from replay_calls import Wrong, body_of
 from replay_process import memory
 from replay_told import spread, table
 from server_http import Connection, Watch
-from server_load import LARGE_ROWS, compacted, key, large, put, reads
+from server_load import LARGE_ROWS, REST, compacted, key, large, put, reads
 from server_watch import part
 
 FLOOD = 32
@@ -22,20 +23,38 @@ MIXED, SAMPLE, MINUTE = 16, 10, 60
 TOLD = {
     "": "alone",
     "puts": f"beside puts over {FLOOD} connections",
+    "rested": f"the same, where each rests {REST} milliseconds after an answer",
     "large": f"beside ranges of {LARGE_ROWS:,} rows over {FLOOD} connections",
     "nginx": f"beside an nginx that is flooded over {FLOOD} connections",
 }
 
 
 class Reading(NamedTuple):
-    """Seconds of each quiet read, and of those of an idle nginx if there is one; the flood's calls a second, and the
-    seconds of the longest compaction in it.
+    """Seconds of each quiet read, and of those of an idle nginx if there is one; the flood's calls a second, the
+    seconds of the longest compaction in it, and how many processors had nothing to do.
     """
 
     times: list
     beside: list
     flood: float
     compaction: float
+    idle: float
+
+
+class Idle:
+    """How many processors have nothing to do, from its making on."""
+
+    def __init__(self):
+        self.ticks, self.began = self.read(), time.perf_counter()
+
+    @staticmethod
+    def read():
+        with open("/proc/stat", encoding="ascii") as file:
+            return int(file.readline().split()[4])
+
+    def processors(self):
+        seconds = (self.read() - self.ticks) / os.sysconf("SC_CLK_TCK")
+        return seconds / (time.perf_counter() - self.began)
 
 
 def quiet_reads(places, seconds):
@@ -58,19 +77,22 @@ def quiet_reads(places, seconds):
             time.sleep(max(0, first + number / PACE - now))
 
 
-def one_reading(bench, quiet, flooded, work):
+def one_reading(bench, quiet, flooded, work, rest):
     """Reads of quiet places while another is flooded, or none."""
     if flooded is None:
+        idle = Idle()
         times, *beside = quiet_reads(quiet, bench.seconds)
-        return Reading(times, beside, 0, 0)
+        return Reading(times, beside, 0, 0, idle.processors())
     with contextlib.ExitStack() as stack:
         told = stack.enter_context(compacted(flooded)) if flooded.who == "ours" else [0, 0]
-        child = stack.enter_context(bench.wrk.running(flooded, work, FLOOD, bench.seconds + AROUND))
+        child = stack.enter_context(bench.wrk.running(flooded, work, FLOOD, bench.seconds + AROUND, rest))
         time.sleep(BEFORE)
+        idle = Idle()
         times, *beside = quiet_reads([place for place in quiet if place != flooded], bench.seconds)
+        processors = idle.processors()
         load = bench.wrk.finish(child, f"{flooded.who}, a flood of {work}")
         time.sleep(AFTER)
-        return Reading(times, beside, load.rate(), told[1])
+        return Reading(times, beside, load.rate(), told[1], processors)
 
 
 def job_times(place, message):
@@ -86,9 +108,10 @@ def job_times(place, message):
 
 def measure(bench, ours, nginx):
     """The readings beside each flood, in the order of the rounds, and the times of a flood's single jobs."""
-    floods = {"": (None, ""), "puts": (ours.beside, "puts"), "large": (ours.beside, "large")}
+    floods = {"": (None, "", 0), "puts": (ours.beside, "puts", 0), "rested": (ours.beside, "puts", REST)}
+    floods["large"] = (ours.beside, "large", 0)
     if nginx:
-        floods["nginx"] = (nginx.place, "puts")
+        floods["nginx"] = (nginx.place, "puts", 0)
     readings = {name: [] for name in floods}
     jobs = {"puts": [], "large": []}
     quiet = [ours.place, nginx.place] if nginx else [ours.place]
@@ -112,9 +135,10 @@ def tell(readings, jobs):
         idle = [part(times, 99) for one in found for times in one.beside]
         row.append(f"{median(idle) * 1e6:,.0f}" if idle else "-")
         row.append(f"{median(one.flood for one in found):,.0f}" if name else "")
+        row.append(f"{median(one.idle for one in found):.1f}")
         rows.append(row)
     heads = ["a quiet tenant's point reads, microseconds", "middle", "99th", "longest"]
-    table([*heads, "99th by that alone", "99th of a quiet nginx", "flood a second"], rows)
+    table([*heads, "99th by that alone", "99th of a quiet nginx", "flood a second", "processors idle"], rows)
     for name, label in [("puts", "one put"), ("large", f"one range of {LARGE_ROWS:,} rows")]:
         middle, most = median(jobs[name]) * 1e6, max(jobs[name]) * 1e6
         print(f"{label} on an idle server, microseconds: middle {middle:,.0f}, longest {most:,.0f}")
