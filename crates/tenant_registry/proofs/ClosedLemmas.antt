@@ -77,7 +77,7 @@ told_by f n k pre (e ∷ es) at =
 are_told : (a : Log) (name : List ℕ) (s : SeatState) → IsLawful a → calls_by s.number 0 a.entries ≡ calls_on name s → AreTold a (calls_on name s)
 are_told a name s lawful list =
     subst (λ (cs : List Call). AreTold a cs) list
-    (subst (λ (rs : List Reply). AllByRecursion (λ (c : Call). slice_get (map text rs) c.turn ≡ Some (text c.reply)) (calls_by s.number 0 a.entries)) (sym lawful) (told_by text s.number 0 [] a.entries refl))
+    (subst (λ (rs : List Reply). AllByRecursion (λ (c : Call). slice_get (map text rs) c.turn ≡ Some (text c.reply)) (calls_by s.number 0 a.entries)) (sym lawful.replies) (told_by text s.number 0 [] a.entries refl))
 
 -- ---- all agree
 

@@ -1,23 +1,27 @@
 -- What lies under a lock stays so over a step.
 use Rattle.std.specs.Prelude.{ℤ, pos, negsuc, ◌≤ℤ◌, Result, Ok, Err, IfOk}
-use Rattle.std.proofs.Common.{◌≡◌, ◌∙◌, sym, ap, subst, refl, ℕ, Bool, true, false, cond, nat_lt, length, List, [], ◌∷◌, ◌++◌, Option, Some, None, arith}
+use Rattle.std.specs.List.{AllByRecursion}
+use Rattle.std.proofs.Common.{◌≡◌, ◌∙◌, ◌==◌, ◌+◌, ◌*◌, ◌/◌, ◌<◌, ◌≤◌, sym, ap, subst, refl, ℕ, suc, Bool, true, false, cond, nat_lt, length, List, [], ◌∷◌, ◌++◌, Option, Some, None, append_assoc, max, arith}
 use Rattle.std.proofs.lemmas.Bool.Decides.{nat_tests}
 use Rattle.std.proofs.lemmas.Int.{ints}
-use Rattle.std.proofs.lemmas.List.{map-append}
-use Rattle.cell_arena.specs.Loan.{Loan, Share, IsLent, Settles, undrawn}
+use Rattle.std.proofs.lemmas.List.{map-append, length-append}
+use Rattle.cell_arena.specs.Loan.{Loan, Share, IsLent, Settles, segments_for, undrawn}
 use Rattle.etcd_types.specs.declared.step.Step.{Step}
 use Rattle.etcd_types.specs.declared.reply.Reply.{Reply}
 use Rattle.etcd_model.specs.declared.state.History.{History}
 use Rattle.etcd_model.specs.declared.state.State.{State}
+use Rattle.etcd_model.specs.Store.{Store}
 use Rattle.etcd_model.specs.Held.{Holds}
 use Rattle.etcd_model.specs.Pool.{StockState}
-use Rattle.etcd_model.specs.Machine.{machine, replies_to, state_after}
+use Rattle.etcd_model.specs.Machine.{machine}
+use Rattle.steps_core.specs.Resizing.{resized}
 use Rattle.tenant_machine.specs.Tenants.{MachineState, tenant}
+use Rattle.tenant_machine.specs.Reserving.{reservation, roomier, with_quota}
 use Rattle.tenant_machine.specs.Plans.{Plan, Plans, IsAfter, Steps}
 use Rattle.tenant_registry.specs.declared.audit.Entry.{Entry}
 use Rattle.tenant_registry.specs.declared.audit.Opening.{Opening}
 use Rattle.tenant_registry.specs.declared.kept.Served.{Served}
-use Rattle.tenant_registry.specs.Audits.{Log, IsOpen, entry, steps_of, replies_of, opening_of, copy_at, first_of, end_of, turn_of, with_entry, with_entry_at}
+use Rattle.tenant_registry.specs.Audits.{Act, Asked, Resized, Log, IsOpen, acts_after, acts_of, at_quota, entry, replies_of, replies_to_acts, resized_after, state_after_acts, opened_log, opening_of, copy_at, first_of, end_of, turn_of, with_entry, with_entry_at, with_change, with_change_at}
 use Rattle.tenant_registry.specs.Keeping.{Content, IsKept, loan_of}
 use Rattle.tenant_registry.specs.Receipts.{slip_of}
 use Rattle.tenant_registry.specs.Serving.{Serves, IsServed}
@@ -25,14 +29,80 @@ use Rattle.tenant_registry.specs.Serving.{Serves, IsServed}
 -- ---- runs
 
 -- the replies after one step more
-run_more : (S : State History) (xs : List Step) (y : Step) → replies_to S (xs ++ y ∷ []) ≡ replies_to S xs ++ (machine (state_after S xs) y).reply ∷ []
+run_more : (S : State History) (xs : List Act) (y : Step) → replies_to_acts S (xs ++ Asked y ∷ []) ≡ replies_to_acts S xs ++ (machine (state_after_acts S xs) y).reply ∷ []
 run_more S [] y = refl
-run_more S (x ∷ xs) y = ap (λ rs. (machine S x).reply ∷ rs) (run_more (machine S x).state xs y)
+run_more S (Asked x ∷ xs) y = ap (λ rs. (machine S x).reply ∷ rs) (run_more (machine S x).state xs y)
+run_more S (Resized q ∷ xs) y = run_more (at_quota q S) xs y
+
+-- another quota has no reply
+run_resized : (S : State History) (xs : List Act) (quota : ℕ) → replies_to_acts S (xs ++ Resized quota ∷ []) ≡ replies_to_acts S xs
+run_resized S [] quota = refl
+run_resized S (Asked x ∷ xs) quota = ap (λ rs. (machine S x).reply ∷ rs) (run_resized (machine S x).state xs quota)
+run_resized S (Resized q ∷ xs) quota = run_resized (at_quota q S) xs quota
 
 -- the state after one step more
-ends_more : (S : State History) (xs : List Step) (y : Step) → state_after S (xs ++ y ∷ []) ≡ (machine (state_after S xs) y).state
+ends_more : (S : State History) (xs : List Act) (y : Step) → state_after_acts S (xs ++ Asked y ∷ []) ≡ (machine (state_after_acts S xs) y).state
 ends_more S [] y = refl
-ends_more S (x ∷ xs) y = ends_more (machine S x).state xs y
+ends_more S (Asked x ∷ xs) y = ends_more (machine S x).state xs y
+ends_more S (Resized q ∷ xs) y = ends_more (at_quota q S) xs y
+
+-- and with another quota
+ends_resized : (S : State History) (xs : List Act) (quota : ℕ) → state_after_acts S (xs ++ Resized quota ∷ []) ≡ at_quota quota (state_after_acts S xs)
+ends_resized S [] quota = refl
+ends_resized S (Asked x ∷ xs) quota = ends_resized (machine S x).state xs quota
+ends_resized S (Resized q ∷ xs) quota = ends_resized (at_quota q S) xs quota
+
+-- ---- an audit as one list
+
+-- whether a quota stands after so many entries
+abbrev pub by_place : Bool → ℕ → List Act → List Act
+by_place b quota acts = cond b (Resized quota ∷ acts) acts
+
+none_after : (k : ℕ) (qs : List (ℕ × ℕ)) → AllByRecursion (λ q. q.0 < k) qs → resized_after k qs ≡ []
+none_after k [] all = refl
+none_after k (q ∷ qs) all =
+    let other : (q.0 == k) ≡ false = grind (arith, nat_tests, all.0) in
+    rw other (none_after k qs all.1)
+
+-- one quota more after as many entries
+more_here : (k p quota : ℕ) (qs : List (ℕ × ℕ)) → p ≡ k → resized_after k (qs ++ (p, quota) ∷ []) ≡ resized_after k qs ++ Resized quota ∷ []
+more_here k p quota [] is =
+    let here : (p == k) ≡ true = grind (arith, nat_tests, is) in
+    ap (λ b. by_place b quota []) here
+more_here k p quota (q ∷ qs) is = by (q.0 == k) (more_here k p quota qs is)
+  where
+    by : (b : Bool) → resized_after k (qs ++ (p, quota) ∷ []) ≡ resized_after k qs ++ Resized quota ∷ []
+        → by_place b q.1 (resized_after k (qs ++ (p, quota) ∷ [])) ≡ by_place b q.1 (resized_after k qs) ++ Resized quota ∷ []
+    by true rest = ap (λ acts. Resized q.1 ∷ acts) rest
+    by false rest = rest
+
+-- and after others
+more_there : (k p quota : ℕ) (qs : List (ℕ × ℕ)) → k < p → resized_after k (qs ++ (p, quota) ∷ []) ≡ resized_after k qs
+more_there k p quota [] lt =
+    let there : (p == k) ≡ false = grind (arith, nat_tests, lt) in
+    ap (λ b. by_place b quota []) there
+more_there k p quota (q ∷ qs) lt = ap (by_place (q.0 == k) q.1) (more_there k p quota qs lt)
+
+below_next : (n k : ℕ) (qs : List (ℕ × ℕ)) → n ≡ k → AllByRecursion (λ q. q.0 ≤ n) qs → AllByRecursion (λ q. q.0 < k + 1) qs
+below_next n k [] is h = tt
+below_next n k (q ∷ qs) is h = ((let le : q.0 ≤ n = h.0 in omega (arith, le, is)), below_next n k qs is h.1)
+
+-- one entry more
+acts_more : (n k : ℕ) (qs : List (ℕ × ℕ)) (es : List Entry) (e : Entry) → n ≡ k + length es → AllByRecursion (λ q. q.0 ≤ n) qs → acts_after k qs (es ++ e ∷ []) ≡ acts_after k qs es ++ Asked e.step ∷ []
+acts_more n k qs [] e is all =
+    let none : resized_after (k + 1) qs ≡ [] = none_after (k + 1) qs (below_next n k qs (omega (arith, is)) all) in
+    ap (λ acts. resized_after k qs ++ Asked e.step ∷ acts) none
+acts_more n k qs (x ∷ es) e is all =
+    ap (λ acts. resized_after k qs ++ Asked x.step ∷ acts) (acts_more n (k + 1) qs es e (omega (arith, is)) all)
+    ∙ sym (append_assoc (resized_after k qs) (Asked x.step ∷ acts_after (k + 1) qs es) (Asked e.step ∷ []))
+
+-- one quota more, after all entries
+acts_resized : (k p quota : ℕ) (qs : List (ℕ × ℕ)) (es : List Entry) → p ≡ k + length es → acts_after k (qs ++ (p, quota) ∷ []) es ≡ acts_after k qs es ++ Resized quota ∷ []
+acts_resized k p quota qs [] is = more_here k p quota qs (omega (arith, is))
+acts_resized k p quota qs (x ∷ es) is =
+    ap (λ acts. acts ++ Asked x.step ∷ acts_after (k + 1) (qs ++ (p, quota) ∷ []) es) (more_there k p quota qs (omega (arith, is)))
+    ∙ ap (λ acts. resized_after k qs ++ Asked x.step ∷ acts) (acts_resized (k + 1) p quota qs es (omega (arith, is)))
+    ∙ sym (append_assoc (resized_after k qs) (Asked x.step ∷ acts_after (k + 1) qs es) (Resized quota ∷ []))
 
 -- ---- a step
 
@@ -51,23 +121,35 @@ stepped m n step p reply plans after is = record {
   memory = λ h. absurd (plans.spoken (sym is ∙ h));
 }
 
+-- quotas that stand within some entries stand within more
+within_more : (es : List Entry) (e : Entry) (qs : List (ℕ × ℕ)) → AllByRecursion (λ q. q.0 ≤ length es) qs → AllByRecursion (λ q. q.0 ≤ length (es ++ e ∷ [])) qs
+within_more es e [] h = tt
+within_more es e (q ∷ qs) h = ((let le : q.0 ≤ length es = h.0 in omega (arith, le, length-append {A = Entry} es (e ∷ []))), within_more es e qs h.1)
+
+within_last : (n quota : ℕ) (qs : List (ℕ × ℕ)) → AllByRecursion (λ q. q.0 ≤ n) qs → AllByRecursion (λ q. q.0 ≤ n) (qs ++ (n, quota) ∷ [])
+within_last n quota [] h = (omega arith, tt)
+within_last n quota (q ∷ qs) h = (h.0, within_last n quota qs h.1)
+
 -- a step that is kept with its reply
 pub kept_more : (m n : MachineState) (a : Log) (left rest : StockState) (seat : ℕ) (step : Step) (p : Plan) (reply : Reply)
     → IsKept m a left → IsOpen a → Plans m step p → IsAfter m p n → reply ≡ p.reply → Settles m.store.share (loan_of left) n.store.share (loan_of rest)
     → IsKept n (with_entry a (entry seat step reply)) rest
 kept_more m n a left rest seat step p reply kept room plans after is settles =
-    let here : Holds (end_of a) (tenant m) = subst (λ xs. Holds (state_after (end_of a) xs) (tenant m)) (kept.none room) kept.holds in
+    let here : Holds (end_of a) (tenant m) = subst (λ xs. Holds (state_after_acts (end_of a) xs) (tenant m)) (kept.none room) kept.holds in
     let o = opening_of a.opening in
     let e = entry seat step reply in
     let told = (machine (end_of a) step).reply in
     let now : reply ≡ told = is ∙ plans.reply (end_of a) here in
-    let steps : steps_of (a.entries ++ e ∷ []) ≡ steps_of a.entries ++ step ∷ [] = map-append (λ (x : Entry). x.step) a.entries (e ∷ []) in
+    let acts : acts_of (with_entry a e) ≡ acts_of a ++ Asked step ∷ [] = acts_more (length a.entries) 0 a.quotas a.entries e (omega arith) kept.lawful.quotas in
     let replies : replies_of (a.entries ++ e ∷ []) ≡ replies_of a.entries ++ reply ∷ [] = map-append (λ (x : Entry). x.reply) a.entries (e ∷ []) in
     record {
-      lawful = ap (replies_to o) steps ∙ run_more o (steps_of a.entries) step ∙ ap (λ rs. rs ++ told ∷ []) kept.lawful ∙ ap (λ r. replies_of a.entries ++ r ∷ []) (sym now) ∙ sym replies;
+      lawful = record {
+        replies = ap (replies_to_acts o) acts ∙ run_more o (acts_of a) step ∙ ap (λ rs. rs ++ told ∷ []) kept.lawful.replies ∙ ap (λ r. replies_of a.entries ++ r ∷ []) (sym now) ∙ sym replies;
+        quotas = within_more a.entries e a.quotas kept.lawful.quotas;
+      };
       later = [];
       none = λ _. refl;
-      holds = subst (λ S. Holds S (tenant n)) (sym (ap (state_after o) steps ∙ ends_more o (steps_of a.entries) step)) (plans.state (end_of a) n here after);
+      holds = subst (λ S. Holds S (tenant n)) (sym (ap (state_after_acts o) acts ∙ ends_more o (acts_of a) step)) (plans.state (end_of a) n here after);
       lent = settled m.store.share n.store.share (loan_of left) (loan_of rest) kept.lent settles;
     }
 
@@ -76,9 +158,9 @@ pub kept_later : (m n : MachineState) (a : Log) (left rest : StockState) (step :
     → IsKept m a left → (IsOpen a → ⊥) → Plans m step p → IsAfter m p n → Settles m.store.share (loan_of left) n.store.share (loan_of rest) → IsKept n a rest
 kept_later m n a left rest step p kept full plans after settles = record {
   lawful = kept.lawful;
-  later = kept.later ++ step ∷ [];
+  later = kept.later ++ Asked step ∷ [];
   none = λ room. absurd (full room);
-  holds = subst (λ S. Holds S (tenant n)) (sym (ends_more (end_of a) kept.later step)) (plans.state (state_after (end_of a) kept.later) n kept.holds after);
+  holds = subst (λ S. Holds S (tenant n)) (sym (ends_more (end_of a) kept.later step)) (plans.state (state_after_acts (end_of a) kept.later) n kept.holds after);
   lent = settled m.store.share n.store.share (loan_of left) (loan_of rest) kept.lent settles;
 }
 
@@ -120,6 +202,91 @@ pub is_served : {E : Type 0} (old new : Content) (seat : ℕ) (step : Step) (r :
 is_served old new seat step (Ok served) h = record { turn = turn_of old.audit; reply = h.reply; receipt = h.receipt; mine = h.mine }
 is_served old new seat step (Err e) h = h
 
+-- ---- another quota
+
+-- what is held is held with another quota
+holds_resized : (S : State History) (t : State Store) (quota : ℕ) → Holds S t → Holds (at_quota quota S) (record t { quota = quota })
+holds_resized S t quota holds = record {
+  sound = record {
+    history = holds.sound.history;
+    full = holds.sound.full;
+    keys = holds.sound.keys;
+    leases = record { ascend = holds.sound.leases.ascend; running = holds.sound.leases.running; moment = holds.sound.leases.moment };
+    leased = holds.sound.leased;
+    slots = holds.sound.slots;
+  };
+  same = ap (λ (x : State Store). record x { quota = quota }) holds.same;
+}
+
+-- the number of segments that so many segments' cells fill
+in_segments : (n : ℕ) → (64 * n) / 64 ≡ n
+in_segments n = omega arith
+
+reserved_is : (m : MachineState) (quota : ℕ) → (resized quota m).store.share.reserved ≡ reservation m quota
+reserved_is m quota = in_segments (reservation m quota)
+
+-- a machine with more rooms, over any stock that it was lent
+pub kept_roomier : (m : MachineState) (a : Log) (left rest : StockState) (segments : ℕ) → IsKept m a left → rest.held ≡ left.held → left.room ≤ rest.room → IsKept (roomier segments m) a rest
+kept_roomier m a left rest segments kept held room = record {
+  lawful = kept.lawful;
+  later = kept.later;
+  none = kept.none;
+  holds = kept.holds;
+  lent = record { left = (let l = kept.lent.left in omega (arith, l, held)); room = (let l = kept.lent.room in omega (arith, l, room)) };
+}
+
+kept_change : (m : MachineState) (a : Log) (left rest : StockState) (quota : ℕ) → IsKept m a left → IsOpen a → IsLent (resized quota m).store.share (loan_of rest) → IsKept (resized quota m) (with_change quota a) rest
+kept_change m a left rest quota kept room lent =
+    let here : Holds (end_of a) (tenant m) = subst (λ xs. Holds (state_after_acts (end_of a) xs) (tenant m)) (kept.none room) kept.holds in
+    let o = opening_of a.opening in
+    let acts : acts_of (with_change quota a) ≡ acts_of a ++ Resized quota ∷ [] = acts_resized 0 (length a.entries) quota a.quotas a.entries (omega arith) in
+    record {
+      lawful = record {
+        replies = ap (replies_to_acts o) acts ∙ run_resized o (acts_of a) quota ∙ kept.lawful.replies;
+        quotas = within_last (length a.entries) quota a.quotas kept.lawful.quotas;
+      };
+      later = [];
+      none = λ _. refl;
+      holds = subst (λ S. Holds S (tenant (resized quota m))) (sym (ap (state_after_acts o) acts ∙ ends_resized o (acts_of a) quota)) (holds_resized (end_of a) (tenant m) quota here);
+      lent = lent;
+    }
+
+kept_unchanged : (m : MachineState) (a : Log) (left rest : StockState) (quota : ℕ) → IsKept m a left → (IsOpen a → ⊥) → IsLent (resized quota m).store.share (loan_of rest) → IsKept (resized quota m) a rest
+kept_unchanged m a left rest quota kept full lent = record {
+  lawful = kept.lawful;
+  later = kept.later ++ Resized quota ∷ [];
+  none = λ room. absurd (full room);
+  holds = subst (λ S. Holds S (tenant (resized quota m))) (sym (ends_resized (end_of a) kept.later quota)) (holds_resized (state_after_acts (end_of a) kept.later) (tenant m) quota kept.holds);
+  lent = lent;
+}
+
+-- another quota, kept if there is room, with the segments that are reserved then
+pub kept_resized : (m : MachineState) (a b : Log) (left rest : StockState) (quota : ℕ) → IsKept m a left → b ≡ with_change_at (turn_of a) quota a
+    → rest.held + m.store.share.drawn ≡ reservation m quota → m.store.share.drawn ≤ rest.room → IsKept (resized quota m) b rest
+kept_resized m a b left rest quota kept made held room = subst (λ (l : Log). IsKept (resized quota m) l rest) (sym made) (by (nat_lt (length a.entries) a.opening.cap) refl)
+  where
+    lent : IsLent (resized quota m).store.share (loan_of rest)
+    lent = record { left = held ∙ sym (reserved_is m quota); room = room }
+
+    by : (t : Bool) → nat_lt (length a.entries) a.opening.cap ≡ t → IsKept (resized quota m) (with_change_at (cond t (Some (length a.entries)) None) quota a) rest
+    by true e = kept_change m a left rest quota kept (is_open a e) lent
+    by false e = kept_unchanged m a left rest quota kept (is_shut a e) lent
+
+-- where only rooms were made
+pub kept_rooms : (m r : MachineState) (a b : Log) (left rest : StockState) (segments count : ℕ) → IsKept m a left → r ≡ roomier segments m → b ≡ a → rest ≡ record left { room = max left.room count } → IsKept r b rest
+kept_rooms m r a b left rest segments count kept rooms same made =
+    let held : rest.held ≡ left.held = ap (λ (s : StockState). s.held) made in
+    let more : rest.room ≡ max left.room count = ap (λ (s : StockState). s.room) made in
+    let room : left.room ≤ rest.room = omega (arith, more) in
+    subst (λ (x : MachineState). IsKept x b rest) (sym rooms) (subst (λ (l : Log). IsKept (roomier segments m) l rest) (sym same) (kept_roomier m a left rest segments kept held room))
+
+-- a machine with rooms for the quota, and then with the quota
+pub kept_reserved : (m n r : MachineState) (a b : Log) (left rest : StockState) (quota segments : ℕ) → IsKept m a left → r ≡ roomier (segments_for quota) m → n ≡ with_quota quota r
+    → b ≡ with_change_at (turn_of a) quota a → segments ≡ reservation m quota → rest.held + m.store.share.drawn ≡ segments → m.store.share.drawn ≤ rest.room → IsKept n b rest × (segments ≡ n.store.share.reserved)
+kept_reserved m n r a b left rest quota segments kept rooms has made is held room =
+    let all : n ≡ resized quota m = has ∙ ap (with_quota quota) rooms in
+    (subst (λ (x : MachineState). IsKept x b rest) (sym all) (kept_resized m a b left rest quota kept made (held ∙ is) room), is ∙ sym (reserved_is m quota) ∙ ap (λ (x : MachineState). x.store.share.reserved) (sym all))
+
 -- ---- openings
 
 -- a first revision that is above 0
@@ -128,12 +295,12 @@ first_is (pos n) h = refl
 first_is (negsuc n) h = absurd (omega (arith, ints))
 
 -- a tenant that was just opened
-pub opened_kept : (m : MachineState) (a : Log) (left : StockState) (o : Opening) (n : ℕ) → a ≡ record { opening = o; entries = [] } → Holds (opening_of o) (tenant m)
+pub opened_kept : (m : MachineState) (a : Log) (left : StockState) (o : Opening) (n : ℕ) → a ≡ opened_log o → Holds (opening_of o) (tenant m)
     → m.store.share ≡ undrawn n → left.held ≡ n → IsKept m a left
 opened_kept m a left o n is holds share held =
     let lent : IsLent (undrawn n) (loan_of left) = record { left = omega (arith, held); room = omega arith } in
     subst (λ (l : Log). IsKept m l left) (sym is) (record {
-      lawful = refl;
+      lawful = record { replies = refl; quotas = tt };
       later = [];
       none = λ _. refl;
       holds = holds;

@@ -27,13 +27,17 @@ found_shown t es = by (lookup (test t) es) ∙ ap is_some (sym (shown t es))
     by (Some x) = refl
 
 -- what a look-up found, or did not, is what the registry tells
-pub told_there : {A : Type 0} (t : List ℕ) (es : List (Vec ℕ A × Tenant)) (given : ℕ) (r : RegistryState) (o : Option Tenant) → record { tenants = tenants_of es; given = given } ≡ r → o ≡ lookup (test t) es → has_tenant r t ≡ is_some o
-told_there t es given r o view at = sym (ap (λ (x : RegistryState). has_tenant x t) view) ∙ sym (found_shown t es) ∙ ap is_some (sym at)
+pub told_there : {A : Type 0} (t : List ℕ) (es : List (Vec ℕ A × Tenant)) (given : ℕ) (gone : List (List ℕ)) (r : RegistryState) (o : Option Tenant) → record { tenants = tenants_of es; given = given; gone = gone } ≡ r → o ≡ lookup (test t) es → has_tenant r t ≡ is_some o
+told_there t es given gone r o view at = sym (ap (λ (x : RegistryState). has_tenant x t) view) ∙ sym (found_shown t es) ∙ ap is_some (sym at)
+
+-- whether one was found is whether the registry has it
+pub is_there : {A : Type 0} (t : List ℕ) (es : List (Vec ℕ A × Tenant)) (given : ℕ) (gone : List (List ℕ)) (r : RegistryState) (found : Bool) → record { tenants = tenants_of es; given = given; gone = gone } ≡ r → found ≡ is_some (lookup (test t) es) → has_tenant r t ≡ found
+is_there t es given gone r found view at = sym (ap (λ (x : RegistryState). has_tenant x t) view) ∙ sym (found_shown t es) ∙ sym at
 
 -- the name at a place is that of the entry there
-pub name_there : {A : Type 0} (es : List (Vec ℕ A × Tenant)) (given place : ℕ) (r : RegistryState) → record { tenants = tenants_of es; given = given } ≡ r
+pub name_there : {A : Type 0} (es : List (Vec ℕ A × Tenant)) (given place : ℕ) (gone : List (List ℕ)) (r : RegistryState) → record { tenants = tenants_of es; given = given; gone = gone } ≡ r
     → slice_get (names_of r) place ≡ option_map (λ (e : Vec ℕ A × Tenant). e.0.items) (slice_get es place)
-name_there {A = A} es given place r view =
+name_there {A = A} es given place gone r view =
     sym (ap (λ (x : RegistryState). slice_get (names_of x) place) view) ∙ slice_get-map (λ t. t.0) (tenants_of es) place
     ∙ ap (option_map (λ t. t.0)) (slice_get-map (λ e. (e.0.items, e.1.opening)) es place) ∙ by (slice_get es place)
   where

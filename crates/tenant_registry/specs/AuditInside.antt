@@ -8,6 +8,7 @@ abbrev pub log_of : Inside → Log
 log_of a = record {
   opening = record { cluster = a.cluster; quota = a.quota; first = a.first; cap = a.cap };
   entries = a.entries.items;
+  quotas = a.quotas.items;
 }
 
 -- it has no more entries than it takes, for which there is room

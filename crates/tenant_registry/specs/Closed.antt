@@ -2,20 +2,19 @@
 use Rattle.std.specs.Prelude.{◌≡◌, ℕ, List, Vec, All, Some, map, slice_get, slice_index_or}
 use Rattle.std.specs.List.{AllByRecursion}
 use Rattle.etcd_model.specs.ReplyText.{Answer, text}
-use Rattle.etcd_model.specs.Machine.{replies_to}
 use Rattle.tenant_registry.specs.declared.audit.Opening.{Opening}
 use Rattle.tenant_registry.specs.declared.close.Sheet.{Sheet}
 use Rattle.tenant_registry.specs.declared.close.Verdict.TheVariants as verdict
 use Rattle.tenant_registry.specs.declared.closed.CloseFault.{CloseFault}
 use Rattle.tenant_registry.specs.declared.closed.CloseFault.TheVariants as fault
 use Rattle.tenant_registry.specs.declared.tally.Call.{Call}
-use Rattle.tenant_registry.specs.Audits.{Log, IsLawful, IsOpen, opening_of, steps_of}
+use Rattle.tenant_registry.specs.Audits.{Log, IsLawful, IsOpen, replies_from}
 use Rattle.tenant_registry.specs.Seats.{SeatState, calls_on}
 use Rattle.tenant_registry.specs.Closing.{AreApart, Agrees, HaveMissedNone, IsVerdict}
 
--- the texts of the machine's replies to an audit's steps, from its opening on
+-- the texts of the machine's replies to an audit's steps, from its opening on, with its quotas between them
 abbrev pub texts_of : Log → List Answer
-texts_of a = map text (replies_to (opening_of a.opening) (steps_of a.entries))
+texts_of a = map text (replies_from a)
 
 -- at the turn of each of these calls stands the text of its reply, which is that of its receipt
 abbrev pub AreTold : Log → List Call → Type 0

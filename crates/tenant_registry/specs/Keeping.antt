@@ -2,12 +2,10 @@
 use Rattle.std.specs.Prelude.{◌≡◌, ℕ, ◌+◌, List, [], ◌∷◌, refl}
 use Rattle.std.specs.Coded.{Coded, code_by, coded×, coded_ℕ}
 use Rattle.cell_arena.specs.Loan.{Loan, IsLent}
-use Rattle.etcd_types.specs.declared.step.Step.{Step}
 use Rattle.etcd_model.specs.Held.{Holds}
 use Rattle.etcd_model.specs.Pool.{StockState}
 use Rattle.tenant_machine.specs.Tenants.{MachineState, machine_code, tenant}
-use Rattle.etcd_model.specs.Machine.{state_after}
-use Rattle.tenant_registry.specs.Audits.{Log, IsLawful, IsOpen, end_of}
+use Rattle.tenant_registry.specs.Audits.{Act, Log, IsLawful, IsOpen, end_of, state_after_acts}
 
 -- the machine, the audit, and the segments that are reserved and not drawn
 pub record Content : Type 0 where
@@ -34,12 +32,12 @@ content_code log_code =
 abbrev pub loan_of : StockState → Loan
 loan_of s = record { left = s.held; room = s.room; others = (s.held + s.room) ∷ [] }
 
--- The audit is lawful. The machine holds the state after its steps and those that came once it was full, so
+-- The audit is lawful. The machine holds the state after its acts and those that came once it was full, so
 -- while it is not full, the state to which the audit leads. The stock has what the machine may draw, and room
 -- for what it drew.
 pub record IsKept (m : MachineState) (a : Log) (left : StockState) : Type 0 where
   pub lawful : IsLawful a
-  pub later : List Step
+  pub later : List Act
   pub none : IsOpen a → later ≡ []
-  pub holds : Holds (state_after (end_of a) later) (tenant m)
+  pub holds : Holds (state_after_acts (end_of a) later) (tenant m)
   pub lent : IsLent m.store.share (loan_of left)

@@ -7,6 +7,8 @@ pub mod KeptInside
 pub mod Seats
 pub mod Registries
 pub mod Adding
+pub mod Resizing
+pub mod Removing
 pub mod Closing
 pub mod Closed
 pub mod RegistryInside

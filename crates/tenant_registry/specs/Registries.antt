@@ -1,5 +1,6 @@
 -- What a contract sees of a registry.
-use Rattle.std.specs.Prelude.{ℕ, Bool, List, Vec, map, is_some, nat_lt, if◌then◌else◌}
+use Rattle.std.specs.Prelude.{ℕ, Bool, List, Vec, map, is_some, nat_lt, ◌||◌, if◌then◌else◌}
+use Rattle.std.specs.List.{list_any}
 use Rattle.std.specs.Str.{bytes_eq}
 use Rattle.std.specs.Map.{lookup}
 use Rattle.etcd_types.specs.declared.limits.TheConstants.{MAX_SEATS}
@@ -10,11 +11,12 @@ use Rattle.tenant_registry.specs.declared.registry.SeatFault.{SeatFault}
 use Rattle.tenant_registry.specs.declared.registry.SeatFault.TheVariants as seat
 use Rattle.tenant_registry.specs.declared.tenant.Tenant.{Tenant}
 
--- the tenants' names, in the order in which they were added, with what each was opened with; and how many
--- seats were given
+-- the tenants' names, in the order in which they were added, with what each was opened with; how many seats
+-- were given; and the names of the tenants that were removed
 pub record RegistryState : Type 0 where
   pub tenants : List (List ℕ × Opening)
   pub given : ℕ
+  pub gone : List (List ℕ)
 
 -- the names and openings of the entries of a map of tenants
 abbrev pub tenants_of : {A : Type 0} → List (Vec ℕ A × Tenant) → List (List ℕ × Opening)
@@ -31,6 +33,14 @@ names_of r = map (λ t. t.0) r.tenants
 -- a tenant of that name is there
 abbrev pub has_tenant : RegistryState → List ℕ → Bool
 has_tenant r name = is_among r.tenants name
+
+-- a tenant of that name was removed
+abbrev pub was_removed : RegistryState → List ℕ → Bool
+was_removed r name = list_any (bytes_eq name) r.gone
+
+-- no tenant can have that name: one has it, or had it, and its calls are kept under it
+abbrev pub is_taken : RegistryState → List ℕ → Bool
+is_taken r name = has_tenant r name || was_removed r name
 
 -- ---- refusals
 

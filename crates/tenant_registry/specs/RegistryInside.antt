@@ -1,7 +1,15 @@
--- What always holds of a registry.
-use Rattle.std.specs.Prelude.{◌≡◌, ◌≤◌, [], length}
+-- What a contract sees of a registry, and what always holds of it.
+use Rattle.std.specs.Prelude.{◌≡◌, ◌≤◌, [], length, map}
 use Rattle.std.specs.Vec.{vec_capacity}
 use Rattle.tenant_registry.specs.declared.registry.Registry.TheInside.{Inside}
+use Rattle.tenant_registry.specs.Registries.{RegistryState, tenants_of}
+
+abbrev pub registry_of : Inside → RegistryState
+registry_of r = record {
+  tenants = tenants_of r.tenants.entries;
+  given = r.given;
+  gone = map (λ name. name.items) r.gone.items;
+}
 
 -- at most 64 seats were given, and there is room to compare all tenants' audits
 pub record CanClose (r : Inside) : Type 0 where

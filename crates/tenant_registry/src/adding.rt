@@ -3,7 +3,7 @@ ghost use Rattle.std.specs.Prelude.{◌≡◌, ◌+◌, ◌++◌, ◌∷◌, [],
 ghost use Rattle.std.specs.Prelude.{IfErr, IfOk, OnErr, OnOk};
 ghost use Rattle.cell_arena.specs.Loan.{segments_for};
 ghost use Rattle.steps_core.specs.Adding.{within_limits};
-ghost use Rattle.tenant_registry.specs.Adding.{config_fault, new_fault, opened, opening_for};
+ghost use Rattle.tenant_registry.specs.Adding.{config_fault, fault_beside, new_fault, opened, opening_for};
 ghost use Rattle.tenant_registry.specs.Registries.{is_among, tenants_of};
 
 use crate::audit::Opening;
@@ -74,17 +74,32 @@ fn left_beside(
     ensures left { IfOk result (λ left. left + segments_for config.now.quota ≡ free) }
     ensures fault { IfErr result (λ f. config_fault free (map opened there.now) config.now ≡ Some f) }
 {
-    let name = config.name.as_slice();
-    if !is_name(name) {
+    let taken = is_taken(there, config.name.as_slice());
+    left_of(free, there.len(), taken, config)
+}
+
+/// How many of the free segments a tenant leaves, or the first reason not to add it, where so many are there
+/// and its name is taken or not.
+pub(crate) fn left_of(
+    free: u32,
+    count: usize,
+    taken: bool,
+    config: &TenantConfig,
+) -> Result<u32, OperatorFault>
+    ensures ok { OnOk result (fault_beside free count taken config.now ≡ None) }
+    ensures left { IfOk result (λ left. left + segments_for config.now.quota ≡ free) }
+    ensures fault { IfErr result (λ f. fault_beside free count taken config.now ≡ Some f) }
+{
+    if !is_name(config.name.as_slice()) {
         return Err(OperatorFault::Name);
     }
     if !within_limits(config.cluster, config.quota, config.first) {
         return Err(OperatorFault::Limits);
     }
-    if config.audit > MAX_AUDIT || there.len() >= MAX_TENANTS {
+    if config.audit > MAX_AUDIT || count >= MAX_TENANTS {
         return Err(OperatorFault::Limits);
     }
-    if is_taken(there, name) {
+    if taken {
         return Err(OperatorFault::Taken);
     }
     let reserved = segments_for(config.quota as u32);

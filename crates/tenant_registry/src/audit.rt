@@ -1,6 +1,7 @@
-//! What was served on a tenant, in order, from its opening on.
-ghost use Rattle.std.specs.Prelude.{◌≡◌, [], length, IfOk};
-ghost use Rattle.tenant_registry.specs.Audits.{copy_at, entry, turn_of, with_entry_at};
+//! What was served on a tenant, in order, from its opening on, with the quotas that it was given.
+ghost use Rattle.std.specs.Prelude.{◌≡◌, length, IfOk, OnErr, OnOk};
+ghost use Rattle.tenant_registry.specs.Audits.{copy_at, entry, opened_log, turn_of};
+ghost use Rattle.tenant_registry.specs.Audits.{with_change_at, with_entry_at};
 
 use etcd_types::{CopyOf, Mem, Reply, Step};
 use std::alloc::Global;
@@ -50,7 +51,8 @@ impl Entry {
     }
 }
 
-/// The steps that were served on a tenant, in order, up to a number of them. Later ones are not kept.
+/// The steps that were served on a tenant, in order, up to a number of them, and the quotas that it was given
+/// meanwhile. Once it has so many steps, nothing that comes later is kept.
 #[derive(Drop)]
 pub struct Audit {
     /// How many entries it takes. Their room is there.
@@ -60,6 +62,9 @@ pub struct Audit {
     pub quota: u32,
     pub first: i64,
     pub entries: Vec<Entry>,
+    /// The quotas that the tenant was given since, in order, each in cells, after the number of entries that
+    /// were there before.
+    pub quotas: Vec<(u32, u32)>,
 }
 
 impl Model for Audit {
@@ -77,7 +82,7 @@ impl Model for Audit {
 impl Audit {
     /// An audit with no entries, and with room for all that it takes.
     pub(crate) fn new(alloc: Global, opening: Opening) -> Mem<Audit>
-        ensures { IfOk result (λ audit. audit ≡ record { opening = opening; entries = [] }) }
+        ensures { IfOk result (λ audit. audit ≡ opened_log opening) }
     {
         let Opening {
             cluster,
@@ -92,6 +97,7 @@ impl Audit {
             quota,
             first,
             entries,
+            quotas: Vec::new(alloc),
         })
     }
 
@@ -131,5 +137,17 @@ impl Audit {
             Some(_) => self.entries.push_reserved(entry),
             None => drop(entry),
         }
+    }
+
+    /// Appends another quota, after the entries that are there, unless the audit is full. If it finds no
+    /// memory, nothing changes.
+    pub(crate) fn keep_quota(&mut self, quota: u32) -> Mem<()>
+        ensures ok { OnOk result (self.new ≡ with_change_at (turn_of self.old) quota self.old) }
+        ensures err { OnErr result (self.new ≡ self.old) }
+    {
+        if let Some(turn) = self.next_turn() {
+            self.quotas.push((turn, quota))?;
+        }
+        Ok(())
     }
 }

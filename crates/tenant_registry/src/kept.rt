@@ -1,10 +1,13 @@
-//! What lies under a tenant's lock, and how a step is served there.
-ghost use Rattle.std.specs.Prelude.{◌≡◌, ◌+◌, ◌≤◌, [], IfOk, OnOk, OnErr};
+//! What lies under a tenant's lock, how a step is served there, and another quota.
+ghost use Rattle.std.specs.Prelude.{◌≡◌, ◌+◌, ◌≤◌, false, IfErr, IfOk, OnOk, OnErr};
 ghost use Rattle.cell_arena.specs.Loan.{segments_for};
 ghost use Rattle.etcd_model.specs.Held.{Holds};
+ghost use Rattle.etcd_types.specs.Limits.{max_quota};
+ghost use Rattle.tenant_machine.specs.Reserving.{reservation};
 ghost use Rattle.tenant_machine.specs.Tenants.{tenant};
-ghost use Rattle.tenant_registry.specs.Audits.{IsAllowed, IsLawful, opening_of};
+ghost use Rattle.tenant_registry.specs.Audits.{IsAllowed, IsLawful, opened_log, opening_of};
 ghost use Rattle.tenant_registry.specs.Receipts.{is_cancel, slip_of, slot_of};
+ghost use Rattle.tenant_registry.specs.Resizing.{Resizes, Stays, lacks_segments, unresized};
 ghost use Rattle.tenant_registry.specs.Serving.{Serves};
 
 use crate::audit::{Audit, Entry, Opening};
@@ -13,6 +16,7 @@ use gateway_text::write_reply;
 use segment_pool::Stock;
 use std::alloc::Global;
 use std::marker::Model;
+use steps_core::OperatorFault;
 use tenant_machine::{Hint, Machine, segments_for};
 
 /// What a call was answered. Only `Kept::serve` makes one.
@@ -128,6 +132,8 @@ pub struct Kept {
     machine: Machine,
     audit: Audit,
     left: Stock,
+    /// How many segments are reserved, drawn ones among them.
+    reserved: u32,
     alloc: Global,
 }
 
@@ -153,7 +159,7 @@ impl Kept {
         requires allowed { IsAllowed opening }
         requires enough { segments_for opening.quota ≤ free.old.held }
         ensures holds { IfOk result (λ kept. Holds (opening_of opening) (tenant kept.machine)) }
-        ensures audit { IfOk result (λ kept. kept.audit ≡ record { opening = opening; entries = [] }) }
+        ensures audit { IfOk result (λ kept. kept.audit ≡ opened_log opening) }
         ensures moved { OnOk result (free.new.held + segments_for opening.quota ≡ free.old.held) }
         ensures err { OnErr result (free.new ≡ free.old) }
     {
@@ -168,6 +174,7 @@ impl Kept {
             machine,
             audit,
             left,
+            reserved: segments,
             alloc,
         })
     }
@@ -193,6 +200,78 @@ impl Kept {
         self.machine.hint()
     }
 
+    /// Gives the tenant another quota of so many cells, also one below what it uses, and reserves the segments
+    /// that it takes with it: they come from the free ones, or go there. Nothing else of the tenant changes.
+    /// Unless the audit is full, it keeps the quota. After a fault nothing changed but for rooms.
+    pub fn resize(&mut self, quota: u32, free: &mut Stock) -> Result<(), OperatorFault>
+        requires quota { quota ≤ max_quota }
+        ensures ok { OnOk result (Resizes quota self.old free.old self.new free.new) }
+        ensures enough { OnOk result (lacks_segments quota self.old free.old ≡ false) }
+        ensures fault { IfErr result (λ f. f ≡ unresized quota self.old free.old) }
+        ensures err { OnErr result (Stays self.old self.new) }
+        ensures free { OnErr result (free.new.held ≡ free.old.held) }
+    {
+        let segments = self.machine.reservation(quota);
+        if segments.saturating_sub(self.reserved) > free.held() {
+            return Err(OperatorFault::Short);
+        }
+        match self.reserve(quota, segments, free) {
+            Ok(()) => Ok(()),
+            Err(_) => Err(OperatorFault::Memory),
+        }
+    }
+
+    /// Gives the tenant a quota with which it takes so many segments, which are there.
+    fn reserve(&mut self, quota: u32, segments: u32, free: &mut Stock) -> Mem<()>
+        requires quota { quota ≤ max_quota }
+        requires segments { segments ≡ reservation self.old.machine quota }
+        requires enough { lacks_segments quota self.old free.old ≡ false }
+        ensures ok { OnOk result (Resizes quota self.old free.old self.new free.new) }
+        ensures err { OnErr result (Stays self.old self.new) }
+        ensures free { OnErr result (free.new.held ≡ free.old.held) }
+    {
+        let drawn = self.reserved - self.left.held();
+        let more = segments.saturating_sub(self.reserved);
+        let fewer = self.reserved.saturating_sub(segments);
+        self.machine.grow_rooms(quota)?;
+        self.left.make_room(more + drawn)?;
+        free.make_room(fewer)?;
+        self.audit.keep_quota(quota)?;
+        // From here on no memory is taken, so that nothing has to be undone.
+        free.move_to(&mut self.left, more);
+        self.left.move_to(free, fewer);
+        self.machine.set_quota(quota);
+        self.reserved = segments;
+        Ok(())
+    }
+
+    /// Ends the tenant: all its segments go to the free ones, as they are, and its audit is handed out. If
+    /// there is no memory to hold them there, nothing changes, and the tenant comes back.
+    pub(crate) fn end(self, free: &mut Stock) -> Result<Audit, Kept>
+        ensures same { IfOk result (λ audit. audit ≡ self.audit) }
+        ensures lawful { IfOk result (λ audit. IsLawful audit) }
+        ensures back { OnOk result
+            (free.new.held ≡ free.old.held + self.machine.store.share.reserved) }
+        ensures kept { IfErr result (λ kept. kept ≡ self) }
+        ensures err { OnErr result (free.new ≡ free.old) }
+    {
+        if free.make_room(self.reserved).is_err() {
+            return Err(self);
+        }
+        let Kept {
+            machine,
+            audit,
+            mut left,
+            reserved: _,
+            alloc: _,
+        } = self;
+        // A machine that is dropped would take the segments with it that it drew.
+        machine.give_up(&mut left);
+        let count = left.held();
+        left.move_to(free, count);
+        Ok(audit)
+    }
+
     /// Its audit.
     pub(crate) fn into_audit(self) -> Audit
         ensures same { result ≡ self.audit }
@@ -202,6 +281,7 @@ impl Kept {
             machine: _,
             audit,
             left: _,
+            reserved: _,
             alloc: _,
         } = self;
         audit

@@ -12,6 +12,7 @@ mod closed;
 mod gate;
 mod kept;
 mod registry;
+mod removing;
 mod seat;
 mod tally;
 mod tenant;

@@ -1,17 +1,24 @@
 //! All tenants, by name, each under a lock of its own.
-ghost use Rattle.std.specs.Prelude.{◌≡◌, ◌≢◌, ◌+◌, [], true, false, map, None, Some, Err, IfErr, IfOk};
-ghost use Rattle.std.specs.Prelude.{OnErr, OnOk, is_some, option_map, slice_get};
-ghost use Rattle.tenant_registry.specs.Adding.{new_fault, opened, unmade};
+ghost use Rattle.std.specs.Prelude.{◌≡◌, ◌≢◌, ◌+◌, ◌≤◌, [], true, false, map, None, Some, Err, IfErr, IfOk};
+ghost use Rattle.std.specs.Prelude.{OnErr, OnOk, Bool, if◌then◌else◌, is_some, option_map, slice_get};
+ghost use Rattle.etcd_types.specs.Limits.{max_quota};
+ghost use Rattle.steps_core.specs.declared.adding.OperatorFault.TheVariants.{Memory, Short};
+ghost use Rattle.tenant_registry.specs.Adding.{CanAdd, IsUnadded, new_fault, new_registry, unmade, with_tenant};
+ghost use Rattle.tenant_registry.specs.Audits.{IsLawful};
 ghost use Rattle.tenant_registry.specs.Closed.{AreClosed, HasFault, audits_of};
-ghost use Rattle.tenant_registry.specs.Registries.{has_tenant, names_of, no_seat, unserved};
+ghost use Rattle.tenant_registry.specs.Registries.{has_tenant, is_taken, names_of, no_seat, unserved};
+ghost use Rattle.tenant_registry.specs.Removing.{remove_fault, without};
+ghost use Rattle.tenant_registry.specs.Resizing.{CanResize, IsUnresized};
 ghost use Rattle.tenant_registry.specs.Seats.{Keeps, KeepsLists};
 ghost use Rattle.tenant_registry.specs.Serving.{IsServed};
 
-use crate::adding::{TenantConfig, admit, check};
+use crate::adding::{TenantConfig, admit, check, left_of};
+use crate::audit::Audit;
 use crate::close::Sheet;
 use crate::closed::{CloseFault, Closed, close};
 use crate::gate::{Gate, pass};
 use crate::kept::{Kept, Receipt, Served};
+use crate::removing::{is_one_of, take_out};
 use crate::seat::Seat;
 use crate::tally::Call;
 use crate::tenant::Tenant;
@@ -23,7 +30,7 @@ use std::alloc::Global;
 use std::marker::Model;
 use std::rt::Clock;
 use std::sync::{Mutex, Wait};
-use steps_core::OperatorFault;
+use steps_core::{OperatorFault, is_name, is_quota};
 use tenant_machine::Hint;
 
 /// Why no seat is given.
@@ -41,6 +48,8 @@ pub struct Registry {
     tenants: IndexMap<Vec<u8>, Tenant>,
     /// How many seats were given.
     given: u8,
+    /// The names of the tenants that were removed. No other gets them, since seats keep calls by names.
+    gone: Vec<Vec<u8>>,
     /// The segments that no tenant reserved.
     free: Mutex<Stock>,
     /// Empty, with room for each tenant: closing compares without memory.
@@ -49,13 +58,13 @@ pub struct Registry {
 }
 
 impl Model for Registry {
-    ghost use Rattle.tenant_registry.specs.Registries.{RegistryState, tenants_of};
+    ghost use Rattle.tenant_registry.specs.Registries.{RegistryState};
 
     ghost Value = { RegistryState };
 
-    ghost use Rattle.tenant_registry.specs.RegistryInside.{CanClose};
+    ghost use Rattle.tenant_registry.specs.RegistryInside.{CanClose, registry_of};
 
-    ghost view = { λ r. record { tenants = tenants_of r.tenants.entries; given = r.given } };
+    ghost view = { registry_of };
 
     ghost invariant = { CanClose };
 }
@@ -68,8 +77,7 @@ impl Registry {
         configs: Vec<TenantConfig>,
         segments: u32,
     ) -> Result<Registry, OperatorFault>
-        ensures opens { IfOk result
-            (λ registry. registry ≡ record { tenants = map opened configs.items; given = 0 }) }
+        ensures opens { IfOk result (λ registry. registry ≡ new_registry configs.items) }
         ensures none { OnOk result (new_fault segments configs.items ≡ None) }
         ensures fault { IfErr result (λ f. f ≡ unmade (new_fault segments configs.items)) }
     {
@@ -83,8 +91,7 @@ impl Registry {
     /// A registry of tenants that nothing speaks against.
     fn open(alloc: Global, configs: &[TenantConfig], segments: u32) -> Mem<Registry>
         requires { new_fault segments configs.now ≡ None }
-        ensures { IfOk result
-            (λ registry. registry ≡ record { tenants = map opened configs.now; given = 0 }) }
+        ensures { IfOk result (λ registry. registry ≡ new_registry configs.now) }
     {
         let mut free = Stock::new(alloc, segments)?;
         let mut tenants = IndexMap::new(alloc);
@@ -95,10 +102,86 @@ impl Registry {
         Ok(Registry {
             tenants,
             given: 0,
+            gone: Vec::new(alloc),
             free: Mutex::new(free),
             sheets,
             alloc,
         })
+    }
+
+    /// Adds a tenant at its opening, with the segments that its quota takes. A name that a tenant had which was
+    /// removed is taken. After a fault nothing changed.
+    pub fn add(&mut self, config: &TenantConfig) -> Result<(), OperatorFault>
+        ensures adds { OnOk result (self.new ≡ with_tenant self.old config.now) }
+        ensures none { OnOk result (CanAdd self.old config.now) }
+        ensures fault { IfErr result (λ f. IsUnadded self.old config.now f) }
+        ensures err { OnErr result (self.new ≡ self.old) }
+    {
+        let name = config.name.as_slice();
+        let taken = self.is_taken(name);
+        let free = self.free.get_mut();
+        let count = self.tenants.len();
+        left_of(free.held(), count, taken, config)?;
+        if self.sheets.reserve(count + 1).is_err() {
+            return Err(OperatorFault::Memory);
+        }
+        match admit(self.alloc, &mut self.tenants, free, config) {
+            Ok(()) => Ok(()),
+            Err(_) => Err(OperatorFault::Memory),
+        }
+    }
+
+    /// No tenant can get this name: one has it, or one had it that was removed.
+    fn is_taken(&self, name: &[u8]) -> bool
+        ensures { result ≡ is_taken self.now name.now }
+    {
+        self.tenants.contains_key(name) || is_one_of(self.gone.as_slice(), name)
+    }
+
+    /// Gives a tenant another quota, also one below what it uses, and reserves the segments that it takes with
+    /// it, under its lock and then the free segments'. No alarm is raised or cleared, and no revision is made.
+    /// After a fault nothing changed.
+    pub fn resize<R: Wait>(&self, rt: &R, name: &[u8], quota: u64) -> Result<(), OperatorFault>
+        ensures none { OnOk result (CanResize self.now name.now quota) }
+        ensures fault { IfErr result (λ f. IsUnresized self.now name.now quota f) }
+    {
+        if !is_name(name) {
+            return Err(OperatorFault::Name);
+        }
+        if !is_quota(quota) {
+            return Err(OperatorFault::Limits);
+        }
+        match self.tenants.get(name) {
+            Some(held) => resize(rt, &held.kept, &self.free, quota as u32),
+            None => Err(OperatorFault::NoTenant),
+        }
+    }
+
+    /// Removes a tenant with all that it has, and hands out its audit. Its segments are free again, and its
+    /// name stays taken. After a fault nothing changed.
+    pub fn remove(&mut self, name: &[u8]) -> Result<Audit, OperatorFault>
+        ensures removes { OnOk result (self.new ≡ without self.old name.now) }
+        ensures lawful { IfOk result (λ audit. IsLawful audit) }
+        ensures none { OnOk result (remove_fault self.old name.now ≡ None) }
+        ensures fault { IfErr result (λ f. f ≡ unmade (remove_fault self.old name.now)) }
+        ensures err { OnErr result (self.new ≡ self.old) }
+    {
+        if !is_name(name) {
+            return Err(OperatorFault::Name);
+        }
+        if !self.tenants.contains_key(name) {
+            return Err(OperatorFault::NoTenant);
+        }
+        if self.gone.reserve(1).is_err() || self.tenants.reserve(1).is_err() {
+            return Err(OperatorFault::Memory);
+        }
+        match take_out(&mut self.tenants, self.free.get_mut(), name) {
+            Ok((name, audit)) => {
+                self.gone.push_reserved(name);
+                Ok(audit)
+            }
+            Err(_) => Err(OperatorFault::Memory),
+        }
     }
 
     /// A tenant of this name is there.
@@ -181,6 +264,7 @@ impl Registry {
         let Registry {
             tenants,
             given: _,
+            gone: _,
             free: _,
             sheets,
             alloc,
@@ -234,4 +318,20 @@ fn serve_locked<R: Wait + Clock, G: Gate>(
     let mut kept = kept.lock(rt);
     pass(rt, gate, tenant);
     kept.serve(seat, step)
+}
+
+/// Another quota of so many cells for a tenant: its lock is taken first, and under it that of the free
+/// segments.
+fn resize<R: Wait>(
+    rt: &R,
+    kept: &Mutex<Kept>,
+    free: &Mutex<Stock>,
+    quota: u32,
+) -> Result<(), OperatorFault>
+    requires { quota ≤ max_quota }
+    ensures { IfErr result (λ f. (short : Bool) × (f ≡ (if short then Short else Memory))) }
+{
+    let mut kept = kept.lock(rt);
+    let mut free = free.lock(rt);
+    kept.resize(quota, &mut free)
 }

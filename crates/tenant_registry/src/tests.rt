@@ -1,4 +1,5 @@
 //! Calls, turns, seats and closing, by worked examples.
+mod live;
 mod threads;
 
 use crate::{

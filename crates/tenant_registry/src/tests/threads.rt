@@ -1,4 +1,5 @@
 //! Several threads call one registry.
+use super::live::is_replayed;
 use super::{call, is_lawful, put, two_tenants};
 use crate::{CloseFault, Closed, Gate, Receipt, Registry, Seat};
 use etcd_types::Mem;
@@ -38,18 +39,32 @@ fn make_calls<R: Wait + Clock + Abort>(
     work
 }
 
+fn four_seats(rt: &impl Abort, alloc: Global, registry: &mut Registry) -> Mem<Vec<Seat>> {
+    let mut seats = Vec::new(alloc);
+    for _ in 0..4 {
+        seats.push(registry.seat().expect(rt, "a seat"))?;
+    }
+    Ok(seats)
+}
+
+/// A thread for each seat, which makes 100 calls.
+fn work_of<R: Threads + Wait + Clock + Abort + Sync>(
+    rt: &R,
+    alloc: Global,
+    registry: &Registry,
+    seats: Vec<Seat>,
+) -> Mem<Vec<Work>> {
+    thread::map_vec(rt, seats, &|seat| make_calls(rt, alloc, registry, seat))
+}
+
 /// Four seats, each with a thread that makes 100 calls.
 fn work_of_four<R: Threads + Wait + Clock + Abort + Sync>(
     rt: &R,
     alloc: Global,
     registry: &mut Registry,
 ) -> Mem<Vec<Work>> {
-    let mut seats = Vec::new(alloc);
-    for _ in 0..4 {
-        seats.push(registry.seat().expect(rt, "a seat"))?;
-    }
-    let registry = &*registry;
-    thread::map_vec(rt, seats, &|seat| make_calls(rt, alloc, registry, seat))
+    let seats = four_seats(rt, alloc, registry)?;
+    work_of(rt, alloc, registry, seats)
 }
 
 /// The first tenant's entries of a seat have the texts of its receipts, in order.
@@ -203,5 +218,49 @@ fn two_tenants_overlap(rt: HostRuntime) -> Result<(), Fail> {
     let one = registry.seat().expect(&rt, "a seat");
     let two = registry.seat().expect(&rt, "a seat");
     assert!(rt; overlap(&rt, rt.alloc(), &registry, one, two));
+    Ok(())
+}
+
+/// 100 quotas for the first tenant, which its cells in use come to pass.
+fn resize_often<R: Wait>(rt: &R, registry: &Registry) -> bool {
+    for turn in 0..100 {
+        let quota = if turn % 2 == 0 { 100 } else { 1024 };
+        if registry.resize(rt, b"one", quota).is_err() {
+            return false;
+        }
+    }
+    true
+}
+
+/// Threads that make calls, and one that resizes meanwhile.
+fn work_beside_resizes<R: Threads + Wait + Clock + Abort + Sync>(
+    rt: &R,
+    alloc: Global,
+    registry: &Registry,
+    seats: Vec<Seat>,
+) -> Mem<Vec<Work>> {
+    let (work, resized) = thread::join(
+        rt,
+        || work_of(rt, alloc, registry, seats),
+        || resize_often(rt, registry),
+    );
+    assert!(rt; resized);
+    work
+}
+
+#[test]
+fn four_threads_close_beside_resizes(rt: HostRuntime) -> Result<(), Fail> {
+    let mut registry = two_tenants(rt.alloc(), 1000).expect(&rt, "two tenants");
+    let seats = four_seats(&rt, rt.alloc(), &mut registry)?;
+    let mut back = Vec::new(rt.alloc());
+    for done in work_beside_resizes(&rt, rt.alloc(), &registry, seats)? {
+        back.push(done.seat)?;
+    }
+    let closed = registry.close(back).expect(&rt, "the audits close");
+    let Some(first) = closed.audits.first() else {
+        return Err(Fail);
+    };
+    assert_eq!(rt; (first.1.entries.len(), first.1.quotas.len()), (200, 100));
+    assert!(rt; is_replayed(&rt, rt.alloc(), &first.1)?);
     Ok(())
 }

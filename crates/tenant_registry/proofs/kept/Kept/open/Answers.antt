@@ -1,6 +1,6 @@
 use Rattle.std.proofs.Common.{◌≡◌, ◌∙◌, sym, ap, arith, rules, FitsSigned, to_z-of_z}
 use Rattle.std.specs.Int.{w64}
-use Rattle.cell_arena.specs.Loan.{undrawn}
+use Rattle.cell_arena.specs.Loan.{Share, undrawn}
 use Rattle.etcd_model.specs.Pool.{StockState}
 use Rattle.tenant_registry.specs.Audits.{first_of}
 use Rattle.tenant_registry.proofs.KeptLemmas.{first_is, opened_kept}
@@ -12,8 +12,12 @@ invariant_of-result c =
     let fits : FitsSigned w64 o.first = search rules in
     let held : c.move_to.new.to.held ≡ c.segments_for-segments.result =
     omega (arith, c.move_to.ensures.to_held, ap (λ (s : StockState). s.held) c.in_ok-make_room.ensures.ok, ap (λ (s : StockState). s.held) c.in_ok-left.ensures) in
-    opened_kept c.in_ok-machine.machine c.in_ok-audit.audit c.move_to.new.to o c.segments_for-segments.result c.in_ok-audit.ensures
-    (c.in_ok-machine.ensures.holds (first_of o.first) (to_z-of_z fits ∙ first_is o.first c.requires.allowed.positive)) (c.in_ok-machine.ensures.share ∙ ap undrawn (sym c.segments_for-segments.ensures)) held
+    let share = c.in_ok-machine.ensures.share ∙ ap undrawn (sym c.segments_for-segments.ensures) in
+    record {
+      kept = opened_kept c.in_ok-machine.machine c.in_ok-audit.audit c.move_to.new.to o c.segments_for-segments.result c.in_ok-audit.ensures
+          (c.in_ok-machine.ensures.holds (first_of o.first) (to_z-of_z fits ∙ first_is o.first c.requires.allowed.positive)) share held;
+      reserved = sym (ap (λ (s : Share). s.reserved) share);
+    }
 
 pub returns-clause-holds : goal.returns-clause-holds
 returns-clause-holds c =

@@ -1,10 +1,13 @@
+use Rattle.std.proofs.Common.{◌∙◌, sym}
 use Rattle.tenant_registry.proofs.KeptLemmas.{kept_step, serves}
 use Rattle.tenant_registry.proofs.kept.Kept.serve.Goals as goal
 
 pub invariant_of-self : goal.invariant_of-self
-invariant_of-self c =
-    kept_step c.self.inside.machine c.commit-reply.new.self c.self.inside.audit c.keep.new.self c.self.inside.left c.commit-reply.new.segments c.args.seat c.args.step c.in_ok-planned.planned c.commit-reply.result
-    c.self.invariant c.in_ok-planned.ensures.plans c.commit-reply.ensures.after c.commit-reply.ensures.reply c.commit-reply.ensures.settles c.keep.ensures
+invariant_of-self c = record {
+  kept = kept_step c.self.inside.machine c.commit-reply.new.self c.self.inside.audit c.keep.new.self c.self.inside.left c.commit-reply.new.segments c.args.seat c.args.step c.in_ok-planned.planned c.commit-reply.result
+      c.self.invariant.kept c.in_ok-planned.ensures.plans c.commit-reply.ensures.after c.commit-reply.ensures.reply c.commit-reply.ensures.settles c.keep.ensures;
+  reserved = c.self.invariant.reserved ∙ sym c.commit-reply.ensures.settles.reserved;
+}
 
 pub returns-clause-ok : goal.returns-clause-ok
 returns-clause-ok c =

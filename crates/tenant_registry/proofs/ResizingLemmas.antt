@@ -1,0 +1,30 @@
+-- What speaks against another quota, by what was looked up.
+use Rattle.std.specs.Prelude.{Result, Ok, Err, OnOk, IfErr, if◌then◌else◌}
+use Rattle.std.proofs.Common.{◌≡◌, ◌∙◌, sym, ap, refl, ℕ, Bool, true, false, List, None, Some}
+use Rattle.steps_core.specs.declared.adding.OperatorFault.{OperatorFault}
+use Rattle.steps_core.specs.declared.adding.OperatorFault.TheVariants.{NoTenant, Short, Memory}
+use Rattle.steps_core.specs.Adding.{is_name, is_quota}
+use Rattle.steps_core.proofs.Resized.{by_tests}
+use Rattle.tenant_registry.specs.Adding.{unmade}
+use Rattle.tenant_registry.specs.Registries.{RegistryState, has_tenant}
+use Rattle.tenant_registry.specs.Resizing.{CanResize, IsUnresized, resize_fault}
+
+-- a tenant that is there, with a name and a quota in their limits
+by_locks : (r : RegistryState) (name : List ℕ) (quota : ℕ) (short : Bool) → is_name name ≡ true → is_quota quota ≡ true → has_tenant r name ≡ true → resize_fault r name quota short ≡ (if short then Some Short else None)
+by_locks r name quota short named within there = by_tests _ _ _ short named within there refl
+
+pub resized_there : {T E : Type 0} (r : RegistryState) (name : List ℕ) (quota : ℕ) (told : Result T E) → is_name name ≡ true → is_quota quota ≡ true → has_tenant r name ≡ true → OnOk told (CanResize r name quota)
+resized_there r name quota (Ok x) named within there = (false, by_locks r name quota false named within there)
+resized_there r name quota (Err e) named within there = tt
+
+pub unresized_there : {T : Type 0} (r : RegistryState) (name : List ℕ) (quota : ℕ) (told : Result T OperatorFault) → is_name name ≡ true → is_quota quota ≡ true → has_tenant r name ≡ true
+    → IfErr told (λ f. (short : Bool) × (f ≡ (if short then Short else Memory))) → IfErr told (λ f. IsUnresized r name quota f)
+unresized_there r name quota (Ok x) named within there h = tt
+unresized_there r name quota (Err f) named within there h = (h.0, h.1 ∙ by h.0 ∙ sym (ap unmade (by_locks r name quota h.0 named within there)))
+  where
+    by : (short : Bool) → (if short then Short else Memory) ≡ unmade (if short then Some Short else None)
+    by true = refl
+    by false = refl
+
+pub unresized_nobody : (r : RegistryState) (name : List ℕ) (quota : ℕ) → is_name name ≡ true → is_quota quota ≡ true → has_tenant r name ≡ false → IsUnresized r name quota NoTenant
+unresized_nobody r name quota named within none = (false, sym (ap unmade (by_tests _ _ _ false named within none refl)))
