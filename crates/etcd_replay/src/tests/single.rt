@@ -48,6 +48,7 @@ struct Single<S: Source> {
 }
 
 impl<S: Source> Model for Single<S> {
+    ghost use Rattle.std.specs.Prelude.{◌≡◌};
     ghost use Rattle.cell_arena.specs.Loan.{IsLent};
     ghost use Rattle.tenant_machine.specs.Tenants.{MachineState, machine_code};
 
