@@ -1,0 +1,3 @@
+mod OnLiterals
+mod Terms
+mod Rows

@@ -1,0 +1,16 @@
+-- Made by scripts/make-row-theorems of the row txn_future_revision.
+use Rattle.std.proofs.Common.{List, [], ◌∷◌, refl}
+use Rattle.etcd_model.specs.Machine.{opening}
+use Rattle.etcd_model.specs.Alone.{Turn}
+use Rattle.row_theorems.proofs.OnLiterals.{model_on_literals}
+use Rattle.row_theorems.proofs.Terms.{◌⇒◌, call, answer, IsAnsweredAlone}
+
+abbrev lines_1 : List Turn
+lines_1 =
+    call "POST" "/t/one/v3/kv/txn" "{\"success\":[{\"request_put\":{\"key\":\"YQ==\",\"value\":\"MQ==\"}},{\"request_range\":{\"key\":\"YQ==\",\"revision\":\"2\"}}]}" ⇒ answer 400 "{\"code\":11,\"error\":\"etcdserver: mvcc: required revision is a future revision\",\"message\":\"etcdserver: mvcc: required revision is a future revision\"}"
+    ∷ call "POST" "/t/one/v3/kv/range" "{\"key\":\"YQ==\"}" ⇒ answer 200 "{\"header\":{\"cluster_id\":\"7\",\"member_id\":\"1\",\"raft_term\":\"1\",\"revision\":\"1\"}}"
+    ∷ []
+
+alone_one : IsAnsweredAlone (opening 7 1024 1) "one" lines_1 2
+unfolding model_on_literals
+alone_one = (refl, refl)
