@@ -105,6 +105,7 @@ opened_table t u bare was is few slots order count last places ready drawn reser
         subst (IsSlot u.ready u.drawn (place_of u.order s)) (sym it) (record {
           listed = none_listed bare is.cells is.first is.free;
           empty = λ h. ap length is.cells;
+          bare = λ h. is.room;
           whole = λ h. absurd (omega (arith, place, drawn, was.drawn, was.reserved));
           used = λ h. absurd (omega (arith, place, drawn, was.drawn, was.reserved));
           spare = λ h. absurd (omega (arith, place, ready, was.ready, was.drawn, was.reserved));
@@ -116,6 +117,7 @@ opened_table t u bare was is few slots order count last places ready drawn reser
         record {
           listed = old.listed;
           empty = λ h. old.empty (omega (arith, place, drawn));
+          bare = λ h. old.bare (omega (arith, place, drawn));
           whole = λ h. old.whole (omega (arith, place, drawn));
           used = λ h. old.used (omega (arith, place, drawn));
           spare = λ h. old.spare (omega (arith, place, ready));

@@ -67,6 +67,7 @@ bare_slot slot place bare =
     record {
       listed = none_listed slot bare.cells bare.first bare.free;
       empty = λ h. long;
+      bare = λ h. bare.room;
       whole = λ h. absurd (omega arith);
       used = λ h. absurd (omega arith);
       spare = λ h. absurd (omega arith);

@@ -1,5 +1,5 @@
 -- A table of segments over writes.
-use Rattle.std.proofs.Common.{◌≡◌, ◌≢◌, ℕ, zero, suc, true, false, ◌+◌, ◌-◌, ◌*◌, ◌/◌, ◌%◌, ◌<◌, ◌≤◌, List, [], ◌∷◌, length, map, get_or, set, Option, None, count_by, sum_by, refl, sym, ap, ◌∙◌, inl, inr, ◌⊎◌, arith, subst}
+use Rattle.std.proofs.Common.{◌≡◌, ◌≢◌, ℕ, zero, suc, true, false, ◌+◌, ◌-◌, ◌*◌, ◌/◌, ◌%◌, ◌<◌, ◌≤◌, List, [], ◌∷◌, length, map, get_or, set, Option, None, count_by, sum_by, vec_capacity, refl, sym, ap, ◌∙◌, inl, inr, ◌⊎◌, arith, subst}
 use Rattle.std.proofs.lemmas.Bool.{cases_lt}
 use Rattle.std.proofs.lemmas.List.{nil_from_length, get_or_past, get_or_default, length-map}
 use Rattle.std.proofs.lemmas.List.Sums.{sum_by-cons, get_or-le-sum_by, count_by-le-length}
@@ -25,6 +25,7 @@ put_kept t s old new was some less here read listed fewer size left =
     (record {
       listed = listed;
       empty = λ h. absurd (omega (arith, was.ready));
+      bare = λ h. absurd (omega (arith, was.ready));
       whole = λ h. size ∙ slot.whole h;
       used = λ h. omega (arith, slot.used h);
       spare = λ h. left;
@@ -44,6 +45,7 @@ put_closed t s old new o was some less here read listed fewer size none order co
     (record {
       listed = listed;
       empty = λ h. absurd (omega (arith, was.ready));
+      bare = λ h. absurd (omega (arith, was.ready));
       whole = λ h. size ∙ slot.whole (omega (arith, was.ready));
       used = λ h. omega arith;
       spare = λ h. absurd (omega arith);
@@ -120,6 +122,7 @@ put_table t s new o was none some less here listed fewer size order count places
     (record {
       listed = listed;
       empty = λ h. absurd (omega arith);
+      bare = λ h. absurd (omega arith);
       whole = λ h. size;
       used = λ h. omega arith;
       spare = λ h. omega arith;
@@ -225,6 +228,7 @@ free_kept t s p old new was small used read not_last listed more size not_first 
     (record {
       listed = listed;
       empty = λ h. absurd (omega arith);
+      bare = λ h. absurd (omega arith);
       whole = λ h. size ∙ slot.whole h;
       used = λ h. omega (arith, had);
       spare = λ h. omega arith;
@@ -246,6 +250,7 @@ free_opened t s p old new o was small used read listed more size first order cou
     (record {
       listed = listed;
       empty = λ h. absurd (omega arith);
+      bare = λ h. absurd (omega arith);
       whole = λ h. size ∙ slot.whole in_use;
       used = λ h. omega arith;
       spare = λ h. omega arith;
@@ -321,8 +326,8 @@ pub emptied_ready : (t : Table) (s p : ℕ) (old : Slot) → IsTable t → p < 6
 emptied_ready t s p old was small used read last =
     ready_place t.ready t.drawn (place_of t.order s) old (was.slots s old (used_within t s p small used) read) (omega (arith, last))
 
-pub emptied : (t : Table) (s p : ℕ) (old new : Slot) (mid o : Order) → IsTable t → p < 64 → is_free (table_at t (s * 64 + p)) ≡ false → get_or t.slots.items s old ≡ old → old.free ≡ 63 → IsListed new → length new.cells.items ≡ 0 → new.free ≡ 0 → count_of mid ≡ count_of t.order → ((q : ℕ) → q < count_of t.order → place_of mid q ≡ swapped (place_of t.order s) (t.ready - 1) (place_of t.order q)) → IsOrder o → count_of o ≡ count_of mid → ((q : ℕ) → q < count_of mid → place_of o q ≡ swapped (t.ready - 1) (t.drawn - 1) (place_of mid q)) → IsTable (record { slots = with_item t.slots s new; order = o; ready = t.ready - 1; drawn = t.drawn - 1; reserved = t.reserved; used = t.used - 1; alloc = t.alloc })
-emptied t s p old new mid o was small used read last listed bare none count_mid places_mid order count places =
+pub emptied : (t : Table) (s p : ℕ) (old new : Slot) (mid o : Order) → IsTable t → p < 64 → is_free (table_at t (s * 64 + p)) ≡ false → get_or t.slots.items s old ≡ old → old.free ≡ 63 → IsListed new → length new.cells.items ≡ 0 → vec_capacity new.cells ≡ 0 → new.free ≡ 0 → count_of mid ≡ count_of t.order → ((q : ℕ) → q < count_of t.order → place_of mid q ≡ swapped (place_of t.order s) (t.ready - 1) (place_of t.order q)) → IsOrder o → count_of o ≡ count_of mid → ((q : ℕ) → q < count_of mid → place_of o q ≡ swapped (t.ready - 1) (t.drawn - 1) (place_of mid q)) → IsTable (record { slots = with_item t.slots s new; order = o; ready = t.ready - 1; drawn = t.drawn - 1; reserved = t.reserved; used = t.used - 1; alloc = t.alloc })
+emptied t s p old new mid o was small used read last listed bare room none count_mid places_mid order count places =
     let less = used_within t s p small used in
     let slot = was.slots s old less read in
     let in_use = used_drawn t s p old was small used read in
@@ -334,6 +339,7 @@ emptied t s p old new mid o was small used read last listed bare none count_mid 
     (record {
       listed = listed;
       empty = λ h. bare;
+      bare = λ h. room;
       whole = λ h. absurd (omega arith);
       used = λ h. absurd (omega arith);
       spare = λ h. absurd (omega (arith, was.ready));
@@ -391,6 +397,7 @@ rewritten t s p old new was small used read listed same size =
     (record {
       listed = listed;
       empty = λ h. size ∙ slot.empty h;
+      bare = λ h. absurd (omega (arith, used_drawn t s p old was small used read));
       whole = λ h. size ∙ slot.whole h;
       used = λ h. omega (arith, slot.used h);
       spare = λ h. omega (arith, slot.spare h);

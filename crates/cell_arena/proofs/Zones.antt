@@ -37,6 +37,7 @@ pub zone_same : (ready drawn place ready' drawn' place' : ℕ) (c : Slot) → Is
 zone_same ready drawn place ready' drawn' place' c was a b d e = record {
   listed = was.listed;
   empty = λ h. was.empty (e h);
+  bare = λ h. was.bare (e h);
   whole = λ h. was.whole (d h);
   used = λ h. was.used (d h);
   spare = λ h. was.spare (a h);

@@ -1,6 +1,6 @@
 -- How the cells are linked, over any look-up of them.
 use Rattle.std.specs.Prelude.{◌≡◌, ◌≢◌, ℕ, zero, suc, Bool, true, false, ◌+◌, ◌/◌, ◌^◌, ◌<◌, ◌≤◌, List, []}
-use Rattle.std.specs.Prelude.{◌∷◌, ◌++◌, length, Option, Some, None, count_by, slice_index_or, take, drop}
+use Rattle.std.specs.Prelude.{◌∷◌, ◌++◌, length, Option, Some, None, count_by, slice_index_or, take, drop, vec_capacity}
 use Rattle.cell_arena.specs.declared.cell.Cell.{Cell}
 use Rattle.cell_arena.specs.declared.cell.Cell.TheVariants.{Free, Head, Rest}
 use Rattle.cell_arena.specs.declared.cell.HeadCell.{HeadCell}
@@ -59,9 +59,10 @@ pub record IsListed (slot : Slot) : Type 0 where
   pub counted : slot.free ≡ count_by is_free slot.cells.items
   pub listed : IsFreeList (slot_at slot) (length slot.cells.items) slot.free slot.first
 
--- a slot without a segment
+-- a slot without a segment, which keeps no memory for cells
 pub record IsBare (slot : Slot) : Type 0 where
   pub cells : slot.cells.items ≡ []
+  pub room : vec_capacity slot.cells ≡ 0
   pub first : slot.first ≡ None
   pub free : slot.free ≡ 0
 

@@ -1,6 +1,6 @@
 -- A table of segments.
 use Rattle.std.specs.Prelude.{◌≡◌, ℕ, ◌+◌, ◌-◌, ◌*◌, ◌/◌, ◌%◌, ◌^◌, ◌<◌, ◌≤◌, min, List, [], map, length}
-use Rattle.std.specs.Prelude.{None, sum_by, slice_index_or}
+use Rattle.std.specs.Prelude.{None, sum_by, slice_index_or, vec_capacity}
 use Rattle.cell_arena.specs.declared.cell.Cell.{Cell}
 use Rattle.cell_arena.specs.declared.cell.Cell.TheVariants.{Free, Head, Rest}
 use Rattle.cell_arena.specs.declared.slot.Slot.{Slot}
@@ -25,10 +25,11 @@ at_slots slots n = hidden (cell_at (slice_index_or (map slot_cells slots) (n / 6
 abbrev pub table_at : Table → ℕ → Cell
 table_at t = at_slots t.slots.items
 
--- a slot at its place in the order
+-- a slot at its place in the order; one without a segment keeps no memory for cells
 pub record IsSlot (ready drawn place : ℕ) (slot : Slot) : Type 0 where
   pub listed : IsListed slot
   pub empty : drawn ≤ place → length slot.cells.items ≡ 0
+  pub bare : drawn ≤ place → vec_capacity slot.cells ≡ 0
   pub whole : place < drawn → length slot.cells.items ≡ 64
   pub used : place < drawn → slot.free < 64
   pub spare : place < ready → 0 < slot.free

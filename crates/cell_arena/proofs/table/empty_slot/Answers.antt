@@ -1,4 +1,4 @@
-use Rattle.std.proofs.Common.{◌≡◌, [], None, sym, ◌∙◌, ap, length}
+use Rattle.std.proofs.Common.{◌≡◌, [], None, sym, ◌∙◌, ap, length, vec_capacity}
 use Rattle.cell_arena.specs.declared.slot.Slot.{Slot}
 use Rattle.cell_arena.proofs.Tables.{emptied, emptied_written, place_read, none_listed, used_within}
 use Rattle.cell_arena.proofs.table.empty_slot.Goals as goal
@@ -9,10 +9,11 @@ returns-clause-table g c =
     let less = used_within c.args.table.now c.args.number c.args.place c.requires.small c.requires.used in
     let after = c.replace-of_source.ensures.after in
     let bare : c.replace-of_source.new.dest.cells.items ≡ [] = ap (λ (x : Slot). x.cells.items) after ∙ c.none-nothing.ensures.cells in
+    let room : vec_capacity c.replace-of_source.new.dest.cells ≡ 0 = ap (λ (x : Slot). vec_capacity x.cells) after ∙ c.none-nothing.ensures.room in
     let first : c.replace-of_source.new.dest.first ≡ None = ap (λ (x : Slot). x.first) after ∙ c.none-nothing.ensures.first in
     let none : c.replace-of_source.new.dest.free ≡ 0 = ap (λ (x : Slot). x.free) after ∙ c.none-nothing.ensures.free in
     emptied c.args.table.now c.args.number c.args.place c.index_mut.result.now c.replace-of_source.new.dest c.swap.new.o c.swap-2.new.o c.requires.table c.requires.small c.requires.used read (c.requires.last _ read)
-    (none_listed c.replace-of_source.new.dest bare first none) (ap length bare) none
+    (none_listed c.replace-of_source.new.dest bare first none) (ap length bare) room none
     c.swap.ensures.count (place_read c.args.table.now c.args.number c.index-at.result.now _ c.swap.new.o c.requires.table less c.index-at.ensures c.swap.ensures.places)
     c.swap-2.ensures.order c.swap-2.ensures.count c.swap-2.ensures.places
 
