@@ -6,7 +6,7 @@ use Rattle.std.specs.declared.cmp.Ordering.TheVariants.{Less}
 use Rattle.std.specs.List.{AllByRecursion}
 use Rattle.std.specs.List.Sorted.{IsStrictlySortedBy}
 use Rattle.std.proofs.lemmas.Bool.Decides.{nat_tests}
-use Rattle.std.proofs.lemmas.List.{length-take, map-id, take-take}
+use Rattle.std.proofs.lemmas.List.{length-take, length-map, map-id, take-take}
 use Rattle.std.proofs.lemmas.List.Kept.{IsStrictlySortedBy-filter}
 use Rattle.etcd_types.specs.declared.key_value.KeyValue.{KeyValue}
 use Rattle.etcd_types.specs.declared.kv.RangeReq.{RangeReq}
@@ -50,6 +50,14 @@ given_taken q rows count n by up limit few =
     given_by_key q (take n rows) count n by (sorted-take by_key n rows up) limit fewer
     ∙ ap (map (shown q)) (take-take n n rows (omega arith))
     ∙ sym (given_by_key q rows count n by up limit few)
+
+-- of the first ones none is cut away
+pub given_whole : (q : RangeReq) (rows : List KeyValue) (count n : ℕ) → is_by_key q ≡ true → IsStrictlySortedBy by_key rows → IsLimit q count n → length rows ≤ count → length (given q (take n rows)) ≡ length (take n rows)
+given_whole q rows count n by up limit few =
+    let fewer : length (take n rows) ≤ count = omega (arith, length-take n rows, few) in
+    ap length (given_by_key q (take n rows) count n by (sorted-take by_key n rows up) limit fewer)
+    ∙ length-map (take n (take n rows)) (shown q)
+    ∙ ap length (take-take n n rows (omega arith))
 
 -- ---- what is found
 

@@ -10,8 +10,8 @@ use Rattle.std.specs.List.Sorted.{IsStrictlySortedBy}
 use Rattle.etcd_model.specs.Ranges.{is_wanted}
 use Rattle.etcd_model.specs.Order.{by_key}
 use Rattle.revision_store.specs.Answering.{IsLimit, given, is_by_key, wants_all}
-use Rattle.revision_store.specs.Ranging.{row_passes}
-use Rattle.revision_store.proofs.AnsweringLaws.{given_taken, sorted-take}
+use Rattle.revision_store.specs.Ranging.{AllAreGiven, row_passes}
+use Rattle.revision_store.proofs.AnsweringLaws.{given_taken, given_whole, sorted-take}
 
 -- what holds of all elements holds of those that pass a test
 pub all_kept : {X : Type 0} (P : X → Type 0) (p : X → Bool) (xs : List X) → AllByRecursion P xs → AllByRecursion P (filter p xs)
@@ -110,13 +110,14 @@ all_pass look q (c ∷ cs) all h = ap (λ b. cond b (c ∷ filter (λ d. row_pas
 
 -- ---- those that are read
 
--- of some cells these show all that is given of the rows of all
+-- of some cells these show all that is given of the rows of all, and in the order of keys no more
 pub record IsEnough (look : ℕ → Option KeyValue) (q : RangeReq) (cs read : List ℕ) : Type 0 where
   pub ascend : IsStrictlySortedBy by_key (filter_map look read)
   pub given : given q (filter_map look read) ≡ given q (filter_map look cs)
+  pub whole : AllAreGiven q (filter_map look read)
 
-pub all_are_enough : (look : ℕ → Option KeyValue) (q : RangeReq) (cs : List ℕ) → IsStrictlySortedBy by_key (filter_map look cs) → IsEnough look q cs cs
-all_are_enough look q cs up = record { ascend = up; given = refl }
+pub all_are_enough : (look : ℕ → Option KeyValue) (q : RangeReq) (cs : List ℕ) → IsStrictlySortedBy by_key (filter_map look cs) → is_by_key q ≡ false → IsEnough look q cs cs
+all_are_enough look q cs up other = record { ascend = up; given = refl; whole = λ by. absurd (true≢false (sym by ∙ other)) }
 
 pub first_are_enough : (look : ℕ → Option KeyValue) (q : RangeReq) (cs : List ℕ) (n : ℕ) → AllShow look cs → IsStrictlySortedBy by_key (filter_map look cs) → is_by_key q ≡ true → IsLimit q (length cs) n → IsEnough look q cs (take n cs)
 first_are_enough look q cs n all up by limit = record {
@@ -124,4 +125,8 @@ first_are_enough look q cs n all up by limit = record {
   given =
       ap (given q) (filter_map-take look n cs all)
       ∙ given_taken q (filter_map look cs) (length cs) n by up limit (omega (arith, length-filter_map look cs all));
+  whole = λ first.
+      ap (λ rows. length (given q rows)) (filter_map-take look n cs all)
+      ∙ given_whole q (filter_map look cs) (length cs) n by up limit (omega (arith, length-filter_map look cs all))
+      ∙ sym (ap length (filter_map-take look n cs all));
 }

@@ -1,5 +1,6 @@
 -- The rows under some cells, and what of them a range reads.
-use Rattle.std.specs.Prelude.{ℕ, Bool, true, false, not, ◌||◌, List, filter, filter_map, Option, Some, None}
+use Rattle.std.specs.Prelude.{◌≡◌, ℕ, Bool, true, false, not, ◌||◌, List, length, filter, filter_map, Option}
+use Rattle.std.specs.Prelude.{Some, None}
 use Rattle.std.specs.Prelude.{if◌then◌else◌}
 use Rattle.etcd_types.specs.declared.key_value.KeyValue.{KeyValue}
 use Rattle.etcd_types.specs.declared.kv.RangeReq.{RangeReq}
@@ -7,6 +8,7 @@ use Rattle.etcd_types.specs.declared.kv.SortTarget.{SortTarget}
 use Rattle.etcd_types.specs.declared.kv.SortTarget.TheVariants.{Value}
 use Rattle.etcd_model.specs.Ranges.{is_wanted, without_value}
 use Rattle.key_index.specs.Links.{Cells}
+use Rattle.revision_store.specs.Answering.{given, is_by_key}
 use Rattle.revision_store.specs.Stored.{row_at}
 
 -- the rows under some cells
@@ -33,3 +35,7 @@ needs_values keys_only target = not keys_only || is_value target
 -- the row as it is read
 abbrev pub read : RangeReq → KeyValue → KeyValue
 read q row = if needs_values q.keys_only q.sort_target then row else without_value row
+
+-- no row is read to be cut off again: in the order of their keys, each of these is given
+abbrev pub AllAreGiven : RangeReq → List KeyValue → Type 0
+AllAreGiven q rows = is_by_key q ≡ true → length (given q rows) ≡ length rows

@@ -10,7 +10,8 @@ ghost use Rattle.etcd_model.specs.Reads.{revision_read, unreadable};
 ghost use Rattle.etcd_model.specs.Order.{by_key};
 ghost use Rattle.revision_store.specs.Answering.{given};
 ghost use Rattle.revision_store.specs.Pending.{AreRows};
-ghost use Rattle.revision_store.specs.Ranging.{needs_values, row_passes, read, rows_of, wanted_cells};
+ghost use Rattle.revision_store.specs.Ranging.{AllAreGiven, needs_values, row_passes, read, rows_of};
+ghost use Rattle.revision_store.specs.Ranging.{wanted_cells};
 ghost use Rattle.revision_store.specs.Recorded.{cells_of};
 ghost use Rattle.revision_store.specs.Stored.{reads, row_at};
 
@@ -217,9 +218,11 @@ fn rows_given(
     Ok(ordered(alloc, request, rows))
 }
 
-/// The rows under some cells, with their values where the range needs those.
+/// The rows under some cells, with their values where the range needs those. In the order of their keys
+/// they are those that are given, so no other is read.
 fn rows_read(alloc: Global, log: &Log, request: &RangeReq, cells: &[CellNo]) -> Mem<Vec<KeyValue>>
-    requires { AreRows (cells_of log.now.records) cells.now }
+    requires rows { AreRows (cells_of log.now.records) cells.now }
+    requires given { AllAreGiven request.now (rows_of (cells_of log.now.records) cells.now) }
     ensures { IfOk result
         (λ found. found.items ≡ map (read request.now) (rows_of (cells_of log.now.records) cells.now)) }
 {
