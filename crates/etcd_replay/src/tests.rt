@@ -253,9 +253,6 @@ fn rows_are_answered_over_each_source(rt: HostRuntime) -> Mem<()> {
     for row in &ROWS {
         assert_row_over_each(&rt, rt.alloc(), row)?;
     }
-    for row in &LIVE_ROWS {
-        assert_row_over_each(&rt, rt.alloc(), row)?;
-    }
     Ok(())
 }
 

@@ -1,21 +1,23 @@
 //! The worked rows, answered through `Registry::call` by two seats in turn.
 mod callers;
 mod opening;
+mod operator;
 
 use callers::Callers;
 use etcd_types::Mem;
 use opening::registry_of;
+use operator::OPERATOR;
 use std::alloc::Global;
 use std::process::Abort;
 use std::rt::Clock;
 use std::sync::Wait;
 use tenant_registry::Closed;
-use test_rows::{ROWS, Row};
+use test_rows::{LIVE_ROWS, ROWS, Row};
 
 /// Two callers of a script's tenants answer each line as the row says, and then the audits close.
 fn assert_row<R: Wait + Clock + Abort>(rt: &R, alloc: Global, row: &Row, audit: u32) -> Mem<()> {
-    let registry = registry_of(rt, alloc, row.script, audit)?;
-    let mut callers = Callers::new(rt, alloc, registry);
+    let registry = registry_of(rt, alloc, row.script);
+    let mut callers = Callers::new(rt, alloc, registry, audit);
     for line in row.script.as_bytes().split(|byte| *byte == b'\n') {
         callers.ask(rt, alloc, line)?;
     }
@@ -40,7 +42,10 @@ fn assert_rows<R: Wait + Clock + Abort>(rt: &R, alloc: Global, audit: u32) -> Me
     for row in &ROWS {
         assert_row(rt, alloc, row, audit)?;
     }
-    Ok(())
+    for row in &LIVE_ROWS {
+        assert_row(rt, alloc, row, audit)?;
+    }
+    assert_row(rt, alloc, &OPERATOR, audit)
 }
 
 #[test]

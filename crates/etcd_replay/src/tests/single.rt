@@ -1,6 +1,5 @@
 //! Tenants with segments of their own, each from any source, which are answered as a host answers them.
-ghost use Rattle.std.specs.Prelude.{◌≡◌, ◌≤◌, IfOk};
-ghost use Rattle.etcd_types.specs.Limits.{max_quota};
+ghost use Rattle.std.specs.Prelude.{◌≡◌, IfOk};
 
 use cell_arena::Segments;
 use etcd_types::limits::{DEFAULT_SEGMENTS, LAST_REVISION, MAX_QUOTA, MIN_QUOTA};
@@ -89,23 +88,6 @@ impl<S: Source> Single<S> {
         }))
     }
 
-    /// Another quota in cells. What is reserved and not drawn comes of a new source then.
-    fn resize(&mut self, alloc: Global, quota: u32) -> Mem<()>
-        requires quota { quota ≤ max_quota }
-    {
-        let drawn = self.reserved - self.segments.left();
-        let reserved = self.machine.reservation(quota);
-        let mut segments = S::make(alloc, reserved)?;
-        'drawing: for _ in 0..drawn {
-            let _ = segments.draw();
-        }
-        self.machine.grow_rooms(quota)?;
-        self.machine.set_quota(quota);
-        self.segments = segments;
-        self.reserved = reserved;
-        Ok(())
-    }
-
     /// The status and the body that an event is answered.
     fn answer(&mut self, alloc: Global, event: LentEvent<'_>) -> Mem<(u16, Vec<u8>)> {
         match event {
@@ -161,7 +143,7 @@ impl<S: Source> Singles<S> {
         }
     }
 
-    /// What the operator is told of a line that is no event.
+    /// What the operator is told of a tenant that comes or goes.
     pub(super) fn operate(&mut self, alloc: Global, line: LentLine<'_>) -> Mem<&'static str> {
         match line {
             LentLine::Add {
@@ -170,9 +152,8 @@ impl<S: Source> Singles<S> {
                 quota,
                 first,
             } => self.add(alloc, name, cluster, quota, first),
-            LentLine::Resize { name, quota } => self.resize(alloc, name, quota),
             LentLine::Remove { name } => Ok(self.remove(name)),
-            LentLine::Event(_) => Ok(""),
+            LentLine::Resize { .. } | LentLine::Event(_) => Ok(""),
         }
     }
 
@@ -194,25 +175,6 @@ impl<S: Source> Singles<S> {
             return Ok("no short");
         }
         self.tenants.push(single)?;
-        Ok("ok")
-    }
-
-    fn resize(&mut self, alloc: Global, name: &[u8], quota: u64) -> Mem<&'static str> {
-        if quota < MIN_QUOTA || quota > MAX_QUOTA {
-            return Ok("no limits");
-        }
-        let quota = quota as u32;
-        let unreserved = self.unreserved();
-        let Some(at) = self.place_of(name) else {
-            return Ok("no tenant");
-        };
-        let Some(single) = self.tenants.get_mut(at) else {
-            return Ok("no tenant");
-        };
-        if single.machine.reservation(quota) > single.reserved.saturating_add(unreserved) {
-            return Ok("no short");
-        }
-        single.resize(alloc, quota)?;
         Ok("ok")
     }
 

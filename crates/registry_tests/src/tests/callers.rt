@@ -1,5 +1,5 @@
 //! Two callers of a registry, who take turns.
-use super::opening::number_in;
+use super::opening::{config_in, number_in};
 use etcd_types::{Mem, Refusal, Reply, Step};
 use gateway_json::{Target, read_posted, target_of};
 use gateway_text::write_reply;
@@ -8,6 +8,7 @@ use std::mem;
 use std::process::Abort;
 use std::rt::Clock;
 use std::sync::Wait;
+use steps_core::OperatorFault;
 use tenant_registry::{Closed, OpenGate, Registry, Seat};
 
 /// A registry with two seats, and what their calls were answered.
@@ -17,17 +18,25 @@ pub(super) struct Callers {
     /// The seat that calls next.
     next: Seat,
     other: Seat,
+    /// How many entries the audit of a tenant takes that a line adds.
+    audit: u32,
     answers: Vec<u8>,
 }
 
 impl Callers {
-    pub(super) fn new(rt: &impl Abort, alloc: Global, mut registry: Registry) -> Callers {
+    pub(super) fn new(
+        rt: &impl Abort,
+        alloc: Global,
+        mut registry: Registry,
+        audit: u32,
+    ) -> Callers {
         let next = registry.seat().expect(rt, "a seat");
         let other = registry.seat().expect(rt, "a seat");
         Callers {
             registry,
             next,
             other,
+            audit,
             answers: Vec::new(alloc),
         }
     }
@@ -42,6 +51,7 @@ impl Callers {
             registry,
             next,
             other,
+            audit: _,
             answers: _,
         } = self;
         let mut seats = Vec::new(alloc);
@@ -50,15 +60,42 @@ impl Callers {
         Ok(registry.close(seats).expect(rt, "the audits close"))
     }
 
-    /// Asks a line of a script, and keeps what it is answered. A tenant that it adds is there.
+    /// Asks a line of a script, and keeps what it is answered. The registry was made for its first line.
     pub(super) fn ask<R: Wait + Clock>(&mut self, rt: &R, alloc: Global, line: &[u8]) -> Mem<()> {
         let (word, rest) = parted(line);
         match word {
             b"" => Ok(()),
-            b"add" => self.answers.extend_from_slice(b"ok\n"),
+            b"pool" => self.tell(Ok(())),
+            b"add" => {
+                let told = self.registry.add(&config_in(alloc, rest, self.audit)?);
+                self.tell(told)
+            }
+            b"resize" => {
+                let (name, quota) = parted(rest);
+                let told = self.registry.resize(rt, name, number_in(Some(quota)));
+                self.tell(told)
+            }
+            b"remove" => {
+                let told = self.registry.remove(rest);
+                self.tell(told.map(|_| ()))
+            }
             b"call" => self.ask_call(rt, alloc, rest),
             _ => self.ask_step(rt, alloc, word, rest),
         }
+    }
+
+    /// What the operator is told.
+    fn tell(&mut self, told: Result<(), OperatorFault>) -> Mem<()> {
+        let line = match told {
+            Ok(()) => "ok\n",
+            Err(OperatorFault::Name) => "no name\n",
+            Err(OperatorFault::Limits) => "no limits\n",
+            Err(OperatorFault::Taken) => "no taken\n",
+            Err(OperatorFault::NoTenant) => "no tenant\n",
+            Err(OperatorFault::Short) => "no short\n",
+            Err(OperatorFault::Memory) => "no memory\n",
+        };
+        self.answers.extend_from_slice(line.as_bytes())
     }
 
     /// `call METHOD TARGET BODY`: the path, the tenant and the body are looked at in this order.
