@@ -42,6 +42,10 @@ fn assert_rows<R: Wait + Clock + Abort>(rt: &R, alloc: Global, audit: u32) -> Me
     for row in &ROWS {
         assert_row(rt, alloc, row, audit)?;
     }
+    Ok(())
+}
+
+fn assert_live_rows<R: Wait + Clock + Abort>(rt: &R, alloc: Global, audit: u32) -> Mem<()> {
     for row in &LIVE_ROWS {
         assert_row(rt, alloc, row, audit)?;
     }
@@ -50,15 +54,18 @@ fn assert_rows<R: Wait + Clock + Abort>(rt: &R, alloc: Global, audit: u32) -> Me
 
 #[test]
 fn rows_without_audits(rt: HostRuntime) -> Mem<()> {
-    assert_rows(&rt, rt.alloc(), 0)
+    assert_rows(&rt, rt.alloc(), 0)?;
+    assert_live_rows(&rt, rt.alloc(), 0)
 }
 
 #[test]
 fn rows_over_audits_that_are_full(rt: HostRuntime) -> Mem<()> {
-    assert_rows(&rt, rt.alloc(), 1)
+    assert_rows(&rt, rt.alloc(), 1)?;
+    assert_live_rows(&rt, rt.alloc(), 1)
 }
 
 #[test]
 fn rows_over_audits_with_room(rt: HostRuntime) -> Mem<()> {
-    assert_rows(&rt, rt.alloc(), 1_000)
+    assert_rows(&rt, rt.alloc(), 1_000)?;
+    assert_live_rows(&rt, rt.alloc(), 1_000)
 }
