@@ -79,7 +79,7 @@ impl Tenant {
     /// Opens a watch of a key, from a revision on or from now on.
     pub(crate) fn open(&mut self, alloc: Global, number: u32, start: i64) -> Result<()> {
         let request = watch(alloc, number, start)?;
-        let Ok(new) = self.watchers.plan_create(alloc, &self.store, &request)? else {
+        let Ok(new) = self.watchers.plan_create(alloc, &self.store, 0, &request)? else {
             bail!("no slot is free");
         };
         let _slot = self.watchers.create(new);
@@ -109,7 +109,7 @@ impl Tenant {
         let header = self.header();
         let PlannedTake { taken, reply } = self
             .watchers
-            .plan_take(alloc, &self.store, header, slot)?;
+            .plan_take(alloc, &self.store, header, 0, slot)?;
         self.watchers.take(&self.store, taken);
         Ok(match reply {
             Reply::Events { events, .. } => events.as_slice().len(),

@@ -87,8 +87,7 @@ created_store S q None = refl
 created_store S q (Some i) = refl
 
 given_store : (S : State History) (i : ℕ) (w : Watching) (es : List Entry) (told : List Event) → (events_given history S i w es told).state.store ≡ S.store
-given_store S i w es [] = refl
-given_store S i w es (e ∷ more) = refl
+given_store S i w es told = refl
 
 taken_store : (S : State History) (i : ℕ) (o : Option (Option Watching)) → (taken history S i o).state.store ≡ S.store
 taken_store S i None = refl

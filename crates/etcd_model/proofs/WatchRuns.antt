@@ -4,7 +4,7 @@ use Rattle.std.specs.Prelude.{pos, replicate, map}
 use Rattle.std.specs.List.{range_with_len}
 use Rattle.etcd_types.specs.declared.step.Step.TheVariants.{Compact, Watch, Take, DropWatch, Tick, CatchUp}
 use Rattle.etcd_types.specs.declared.refusal.Refusal.TheVariants.{TooManyWatches}
-use Rattle.etcd_types.specs.declared.reply.Reply.TheVariants.{Compacted, Created, Events, Canceled, Quiet, Refused}
+use Rattle.etcd_types.specs.declared.reply.Reply.TheVariants.{Compacted, Created, Events, Progress, Canceled, Quiet, Refused}
 use Rattle.etcd_model.specs.Machine.{state_after}
 use Rattle.etcd_model.proofs.Terms.{◌⇒◌, IsRun, fresh, a, b, foo, bar, one, row, put, put_leased, delete, watch_of, grant, at, done, deleted, granted, events, put_event, delete_event}
 
@@ -83,3 +83,25 @@ watch_filters : IsRun fresh
     ∷ Take 200 ⇒ Quiet
     ∷ [])
 watch_filters = refl
+
+-- word that there is no event comes 600 seconds after the last response; a quiet take is none
+progress : IsRun fresh
+    (Tick 100 ⇒ Quiet
+    ∷ Watch (record (watch_of a [] (pos 0)) { progress_notify = true }) ⇒ Created (at 1) (pos 0) 0
+    ∷ Tick 699 ⇒ Quiet
+    ∷ Take 0 ⇒ Quiet
+    ∷ Tick 700 ⇒ Quiet
+    ∷ Take 0 ⇒ Progress (at 1) (pos 0)
+    ∷ Take 0 ⇒ Quiet
+    ∷ put b [] ⇒ done 2
+    ∷ Tick 1300 ⇒ Quiet
+    ∷ Take 0 ⇒ Progress (at 2) (pos 0)
+    ∷ put a one ⇒ done 3
+    ∷ Tick 1900 ⇒ Quiet
+    ∷ Take 0 ⇒ events 3 (put_event (row a 3 3 one 1) ∷ [])
+    ∷ Take 0 ⇒ Quiet
+    ∷ Watch (record (watch_of a [] (pos 10)) { progress_notify = true }) ⇒ Created (at 3) (pos 0) 1
+    ∷ Tick 2500 ⇒ Quiet
+    ∷ Take 1 ⇒ Quiet
+    ∷ [])
+progress = refl

@@ -238,6 +238,7 @@ reply_data (reply.Txn h succeeded responses) = Some (txn_data h succeeded respon
 reply_data (reply.Compacted h) = Some (bare_data h)
 reply_data (reply.Created h watch_id slot) = Some (created_data h watch_id)
 reply_data (reply.Events h watch_id events) = Some (events_data h watch_id events)
+reply_data (reply.Progress h watch_id) = Some (events_data h watch_id [])
 reply_data (reply.Canceled h watch_id compact_revision) = Some (canceled_data h watch_id compact_revision)
 reply_data (reply.Granted h id ttl) = Some (granted_data h id ttl)
 reply_data (reply.Revoked h) = Some (bare_data h)
@@ -254,6 +255,7 @@ reply_data (reply.Refused r) = Some (refusal_data r)
 abbrev pub is_stream_reply : Reply → Bool
 is_stream_reply (reply.Created header watch_id slot) = true
 is_stream_reply (reply.Events header watch_id events) = true
+is_stream_reply (reply.Progress header watch_id) = true
 is_stream_reply (reply.Canceled header watch_id compact_revision) = true
 is_stream_reply (reply.KeptAlive header id ttl) = true
 is_stream_reply r = false

@@ -9,9 +9,11 @@ use Rattle.etcd_types.specs.declared.key_value.KeyValue.{KeyValue}
 use Rattle.etcd_types.specs.declared.key_value.Event.{Event}
 use Rattle.etcd_types.specs.declared.key_value.EventKind.TheVariants.{Put, Delete}
 use Rattle.etcd_types.specs.declared.watch.WatchReq.{WatchReq}
-use Rattle.etcd_types.specs.declared.reply.Reply.TheVariants.{Created, Events, Canceled, Quiet, Refused}
+use Rattle.etcd_types.specs.declared.reply.Header.{Header}
+use Rattle.etcd_types.specs.declared.reply.Reply.{Reply}
+use Rattle.etcd_types.specs.declared.reply.Reply.TheVariants.{Created, Events, Progress, Canceled, Quiet, Refused}
 use Rattle.etcd_types.specs.declared.refusal.Refusal.TheVariants.{TooManyWatches}
-use Rattle.etcd_types.specs.Limits.{response_revisions}
+use Rattle.etcd_types.specs.Limits.{progress_seconds, response_revisions}
 use Rattle.etcd_model.specs.declared.state.Watch.{Watch}
 use Rattle.etcd_model.specs.History.{Change, Set, Del, Entry, key_of}
 use Rattle.etcd_model.specs.Interval.{is_in}
@@ -28,8 +30,9 @@ abbrev pub watched_key : List ℕ → List ℕ
 watched_key [] = 0 ∷ []
 watched_key (b ∷ bs) = b ∷ bs
 
-abbrev pub watch_of : ℕ → WatchReq → Watch
-watch_of now q = record {
+-- a watch that is made at a moment, which counts as that of its first response
+abbrev pub watch_of : ℕ → ℕ → WatchReq → Watch
+watch_of now moment q = record {
   key = watched_key q.key;
   range_end = q.range_end;
   no_put = q.no_put;
@@ -37,6 +40,8 @@ watch_of now q = record {
   prev_kv = q.prev_kv;
   id = q.watch_id;
   next = start now q.start_revision;
+  progress_notify = q.progress_notify;
+  told = moment;
 }
 
 abbrev pub passes_filters : Watch → Change → Bool
@@ -67,6 +72,23 @@ watch_told now w es =
     let rs = revisions es in
     record w { next = next_after now w.next (take response_revisions rs) (drop response_revisions rs) }
 
+-- A watch is to be told that there is no event: it asked for that, a take without events leaves it at the
+-- revision after the current one, since it doesn't wait for a later start, and 600 seconds or more have gone
+-- by since its last response.
+abbrev pub is_due : ℕ → ℕ → Watch → Bool
+is_due now moment w =
+    w.progress_notify && (nat_le w.next (now + 1) && nat_le (w.told + progress_seconds) moment)
+
+-- what a watch is told: events, or where there are none, that, if it is due
+abbrev pub response : Header → ℤ → Bool → List Event → Reply
+response h id due [] = if due then Progress h id else Quiet
+response h id due (e ∷ es) = Events h id (e ∷ es)
+
+-- the moment of the last response, after one more take: a quiet one is no response
+abbrev pub last_told : ℕ → ℕ → Reply → ℕ
+last_told moment told Quiet = told
+last_told moment told reply = moment
+
 -- of a deleted key only the key and the revision are shown
 abbrev pub bare : List ℕ → ℕ → KeyValue
 bare key r = record {
@@ -89,7 +111,7 @@ module _ {X : Type 0} (asks : Asks X) where
   abbrev pub created : State X → WatchReq → Option ℕ → Outcome X
   created t q None = stays asks t (Refused TooManyWatches)
   created t q (Some i) = record {
-    state = with_slot t i (Some (watch_of (current asks t) q));
+    state = with_slot t i (Some (watch_of (current asks t) t.moment q));
     reply = Created (header asks t) q.watch_id i;
   }
 
@@ -109,16 +131,15 @@ module _ {X : Type 0} (asks : Asks X) where
     prev_kv = row_before t w.prev_kv e;
   }
 
-  -- the events of the first revisions that have any; quiet where there are none
+  -- the events of the first revisions that have any
   abbrev pub events_given : State X → ℕ → Watch → List Entry → List Event → Outcome X
-  events_given t i w es [] = record {
-    state = with_slot t i (Some (watch_told (current asks t) w es));
-    reply = Quiet;
-  }
-  events_given t i w es (e ∷ more) = record {
-    state = with_slot t i (Some (watch_told (current asks t) w es));
-    reply = Events (header asks t) w.id (e ∷ more);
-  }
+  events_given t i w es events =
+      let reply = response (header asks t) w.id (is_due (current asks t) t.moment w) events in
+      let told = last_told t.moment w.told reply in
+      record {
+        state = with_slot t i (Some (record (watch_told (current asks t) w es) { told = told }));
+        reply = reply;
+      }
 
   -- a watch that missed what a compaction took is cancelled
   abbrev pub taken : State X → ℕ → Option (Option Watch) → Outcome X

@@ -54,6 +54,10 @@ pub struct Watch {
     pub id: i64,
     /// The first revision that it was not told of.
     pub next: u64,
+    /// Asks for a response now and then where there is no event.
+    pub progress_notify: bool,
+    /// The moment of its last response, in seconds.
+    pub told: u64,
 }
 
 /// One tenant, over its store.

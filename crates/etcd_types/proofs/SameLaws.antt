@@ -226,6 +226,7 @@ reply_tells (reply_of.Txn head ran rs) (reply_of.Txn head' ran' rs') h = search 
 reply_tells (reply_of.Compacted head) (reply_of.Compacted head') h = ap reply_of.Compacted (header_tells head head' h)
 reply_tells (reply_of.Created head id slot) (reply_of.Created head' id' slot') h = search answers
 reply_tells (reply_of.Events head id es) (reply_of.Events head' id' es') h = search answers
+reply_tells (reply_of.Progress head id) (reply_of.Progress head' id') h = search answers
 reply_tells (reply_of.Canceled head id r) (reply_of.Canceled head' id' r') h = search answers
 reply_tells (reply_of.Granted head id ttl) (reply_of.Granted head' id' ttl') h = search answers
 reply_tells (reply_of.Revoked head) (reply_of.Revoked head') h = ap reply_of.Revoked (header_tells head head' h)

@@ -3,7 +3,7 @@ use Rattle.std.specs.Prelude.{ℕ, ℤ}
 use Rattle.etcd_types.specs.declared.limits.TheConstants.{LAST_MOMENT, RESPONSE_REVISIONS, MAX_OPS, MAX_TTL}
 use Rattle.etcd_types.specs.declared.limits.TheConstants.{LAST_REVISION, LAST_LEASE_ID, CELL_BYTES}
 use Rattle.etcd_types.specs.declared.limits.TheConstants.{WATCH_SLOTS, MAX_BODY, MAX_SCRIPT_LINE, MAX_NAME}
-use Rattle.etcd_types.specs.declared.limits.TheConstants.{MIN_QUOTA, MAX_QUOTA}
+use Rattle.etcd_types.specs.declared.limits.TheConstants.{MIN_QUOTA, MAX_QUOTA, PROGRESS_SECONDS}
 
 abbrev pub max_ops : ℕ
 max_ops = MAX_OPS
@@ -28,6 +28,9 @@ watch_slots = WATCH_SLOTS
 
 abbrev pub response_revisions : ℕ
 response_revisions = RESPONSE_REVISIONS
+
+abbrev pub progress_seconds : ℕ
+progress_seconds = PROGRESS_SECONDS
 
 abbrev pub max_body : ℕ
 max_body = MAX_BODY

@@ -30,6 +30,8 @@ pub const MAX_OPS: usize = 128;
 pub const WATCH_SLOTS: usize = 64;
 /// Revisions of a watch response.
 pub const RESPONSE_REVISIONS: usize = 16;
+/// Seconds without a response after which a watch that asks for it is told that there is no event.
+pub const PROGRESS_SECONDS: u64 = 600;
 /// Changes that a watch keeps at hand.
 pub const RING_ENTRIES: usize = 256;
 /// Bytes of a call's body.

@@ -104,6 +104,11 @@ pub enum Reply {
         watch_id: i64,
         events: List<Event>,
     },
+    /// No event up to the header's revision.
+    Progress {
+        header: Header,
+        watch_id: i64,
+    },
     Canceled {
         header: Header,
         watch_id: i64,
@@ -213,6 +218,10 @@ impl CopyOf for Reply {
                 header: *header,
                 watch_id: *watch_id,
                 events: events.copy_of(alloc)?,
+            },
+            Reply::Progress { header, watch_id } => Reply::Progress {
+                header: *header,
+                watch_id: *watch_id,
             },
             Reply::Canceled {
                 header,

@@ -1,5 +1,5 @@
 -- Every reply is read back.
-use Rattle.std.proofs.Common.{◌≡◌, Some, refl, sym, ap, ◌∙◌, subst}
+use Rattle.std.proofs.Common.{◌≡◌, [], Some, refl, sym, ap, ◌∙◌, subst}
 use Rattle.std.specs.Prelude.{IfSome}
 use Rattle.std.specs.Str.{IsUtf8}
 use Rattle.std.proofs.lemmas.Str.{IsUtf8-nil}
@@ -46,6 +46,7 @@ reads_back (reply.Txn h succeeded responses) = text (reply.Txn h succeeded respo
 reads_back (reply.Compacted h) = text (reply.Compacted h) (bare_data h) refl (bare_fits h 125) refl
 reads_back (reply.Created h watch_id slot) = line (reply.Created h watch_id slot) (created_data h watch_id) refl (created_fits h watch_id 124) refl
 reads_back (reply.Events h watch_id events) = line (reply.Events h watch_id events) (events_data h watch_id events) refl (events_fits h watch_id events 122) refl
+reads_back (reply.Progress h watch_id) = line (reply.Progress h watch_id) (events_data h watch_id []) refl (events_fits h watch_id [] 122) refl
 reads_back (reply.Canceled h watch_id compact_revision) = line (reply.Canceled h watch_id compact_revision) (canceled_data h watch_id compact_revision) refl (canceled_fits h watch_id compact_revision 124) refl
 reads_back (reply.Granted h id ttl) = text (reply.Granted h id ttl) (granted_data h id ttl) refl (granted_fits h id ttl 125) refl
 reads_back (reply.Revoked h) = text (reply.Revoked h) (bare_data h) refl (bare_fits h 125) refl

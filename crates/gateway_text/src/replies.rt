@@ -46,6 +46,7 @@ fn write_body(out: &mut String, reply: &Reply) -> Mem<()>
         }
         Reply::Created { .. }
         | Reply::Events { .. }
+        | Reply::Progress { .. }
         | Reply::Canceled { .. }
         | Reply::KeptAlive { .. } => write_stream_reply(out, reply),
         Reply::Compacted(header) | Reply::Revoked(header) | Reply::Defragmented(header) => {

@@ -29,6 +29,7 @@ pub(crate) fn write_stream_reply(out: &mut String, reply: &Reply) -> Mem<()>
             watch_id,
             events,
         } => write_events(out, header, watch_id, events.as_slice()),
+        Reply::Progress { header, watch_id } => write_events(out, header, watch_id, &[]),
         Reply::Canceled {
             header,
             watch_id,

@@ -229,6 +229,28 @@ fn watch_events(rt: HostRuntime) -> Mem<()> {
 }
 
 #[test]
+fn watch_progress(rt: HostRuntime) -> Mem<()> {
+    let numbered = Reply::Progress {
+        header: header(2),
+        watch_id: 5,
+    };
+    assert_line(
+        &rt,
+        numbered,
+        r#"{"result":{"header":{"cluster_id":"7","member_id":"1","raft_term":"1","revision":"2"},"watch_id":"5"}}"#,
+    )?;
+    let bare = Reply::Progress {
+        header: header(2),
+        watch_id: 0,
+    };
+    assert_line(
+        &rt,
+        bare,
+        r#"{"result":{"header":{"cluster_id":"7","member_id":"1","raft_term":"1","revision":"2"}}}"#,
+    )
+}
+
+#[test]
 fn one_lease(rt: HostRuntime) -> Mem<()> {
     let granted = Reply::Granted {
         header: header(1),

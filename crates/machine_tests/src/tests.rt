@@ -15,9 +15,9 @@ mod told;
 use alarm_rule::{Case, OF_ANOTHER_MEMBER, OF_THIS_MEMBER};
 use etcd_types::{AlarmReq, CopyOf, Header, Mem, Reply, Step};
 use scripts::{
-    Ask, BRANCHES_AT_A_FULL_QUOTA, BRANCHES_UNDER_THE_ALARM, FULL_OF_LEASES, HINTED, LEASES, Line,
-    NO_WATCH, NOT_OFFERED, PAST_FOUR_CELLS, PUT, PUT_AGAIN, QUOTA_AND_ALARM, RAISE, REFUSALS,
-    UNDER_THE_ALARM, WATCHES, WITHIN_FOUR_CELLS,
+    Ask, BRANCHES_AT_A_FULL_QUOTA, BRANCHES_UNDER_THE_ALARM, DUE, FULL_OF_LEASES, HINTED,
+    HintedLine, LEASES, Line, NO_WATCH, NOT_OFFERED, PAST_FOUR_CELLS, PUT, PUT_AGAIN,
+    QUOTA_AND_ALARM, RAISE, REFUSALS, UNDER_THE_ALARM, WATCHES, WITHIN_FOUR_CELLS,
 };
 use std::alloc::Global;
 use std::process::Abort;
@@ -130,6 +130,15 @@ fn assert_hint(
     Ok(())
 }
 
+fn assert_hinted(rt: &impl Abort, alloc: Global, lines: &[HintedLine]) -> Mem<()> {
+    let mut tenant = Tenant::new(alloc, 64)?;
+    for (number, (ask, told, hinted)) in lines.iter().enumerate() {
+        assert_line(rt, alloc, &mut tenant, number, &(*ask, *told))?;
+        assert_hint(rt, alloc, &tenant, number, hinted)?;
+    }
+    Ok(())
+}
+
 /// A case of the alarm's rule, of one member, with the alarm off and on before it.
 fn assert_case(rt: &impl Abort, alloc: Global, member: u64, case: &Case) -> Mem<()> {
     let request = AlarmReq {
@@ -221,12 +230,12 @@ fn leases_fill_a_quota(rt: HostRuntime) -> Mem<()> {
 
 #[test]
 fn hints_leave_no_watch_out(rt: HostRuntime) -> Mem<()> {
-    let mut tenant = Tenant::new(rt.alloc(), 64)?;
-    for (number, (ask, told, hinted)) in HINTED.iter().enumerate() {
-        assert_line(&rt, rt.alloc(), &mut tenant, number, &(*ask, *told))?;
-        assert_hint(&rt, rt.alloc(), &tenant, number, hinted)?;
-    }
-    Ok(())
+    assert_hinted(&rt, rt.alloc(), &HINTED)
+}
+
+#[test]
+fn hints_tell_what_is_due(rt: HostRuntime) -> Mem<()> {
+    assert_hinted(&rt, rt.alloc(), &DUE)
 }
 
 #[test]

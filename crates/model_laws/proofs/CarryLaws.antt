@@ -25,7 +25,7 @@ use Rattle.etcd_types.specs.declared.refusal.Refusal.{Refusal}
 use Rattle.etcd_types.specs.declared.refusal.Refusal.TheVariants.{Compacted as CompactedRefusal, Future, NoSpace, UsedUp}
 use Rattle.etcd_types.specs.declared.reply.Header.{Header}
 use Rattle.etcd_types.specs.declared.reply.Reply.{Reply}
-use Rattle.etcd_types.specs.declared.reply.Reply.TheVariants.{Txn as TxnReply, Compacted, Created, Events, Canceled, Granted, Revoked, KeptAlive, TimeToLive as TimeReply, Leases as LeasesReply, Alarms as AlarmsReply, Status as StatusReply, Defragmented, Quiet, Refused}
+use Rattle.etcd_types.specs.declared.reply.Reply.TheVariants.{Txn as TxnReply, Compacted, Created, Canceled, Granted, Revoked, KeptAlive, TimeToLive as TimeReply, Leases as LeasesReply, Alarms as AlarmsReply, Status as StatusReply, Defragmented, Quiet, Refused}
 use Rattle.etcd_types.specs.Limits.{last_revision, last_lease_id, last_moment, cell_bytes}
 use Rattle.etcd_model.specs.declared.state.Lease.{Lease}
 use Rattle.etcd_model.specs.declared.state.Watch.{Watch as Watching}
@@ -39,7 +39,7 @@ use Rattle.etcd_model.specs.Operations.{op_refusal, ops_refusal, op_reply, pendi
 use Rattle.etcd_model.specs.declared.state.State.{State}
 use Rattle.etcd_model.specs.Tenant.{Asks, Outcome, reads, header, used, stays}
 use Rattle.etcd_model.specs.Leases.{lease_at, attached, finish, tick, run_out, put_lease, granted_ttl}
-use Rattle.etcd_model.specs.Watches.{created, events_given, taken, watch_told, watch_of, with_slot, free_slot, first_of, event_of, bare}
+use Rattle.etcd_model.specs.Watches.{created, events_given, is_due, last_told, response, taken, watch_told, watch_of, with_slot, free_slot, first_of, event_of, bare}
 use Rattle.etcd_model.specs.Fields.{fields, refused_if}
 use Rattle.etcd_model.specs.Stepping.{writes, chooses_id, may_add, adds, with_header, compact_refusal, compacted_at, grant_id, counter_after, look_up, pending, single, transaction, compaction, grant, revoke, kept_alive, time_left, alarm_of, outcome, decided, early, before_space, within_quota, unless_alarmed, machine}
 use Rattle.etcd_model.specs.Held.{over, outcome_over}
@@ -158,7 +158,7 @@ module _ {X Y : Type 0} (ax : Asks X) (ay : Asks Y) (h : X → Y) where
 
   same_created : (t : State X) → Carries t.store → (q : WatchReq) (o : Option ℕ) → created ay (over h t) q o ≡ outcome_over h (created ax t q o)
   same_created t k q None = refl
-  same_created t k q (Some i) = ap (λ (l : Look). let o : Outcome Y = record { state = record (over h t) { slots = slice_set t.slots i (Some (watch_of (l []).current q)) }; reply = Created (head t (l [])) q.watch_id i } in o) k.look
+  same_created t k q (Some i) = ap (λ (l : Look). let o : Outcome Y = record { state = record (over h t) { slots = slice_set t.slots i (Some (watch_of (l []).current t.moment q)) }; reply = Created (head t (l [])) q.watch_id i } in o) k.look
 
   same_event : (t : State X) → Carries t.store → (w : Watching) (e : Entry) (c : Change) → event_of ay (over h t) w e c ≡ event_of ax t w e c
   same_event t k w e (Set key value lease) = ap (λ (f : List ℕ → ℕ → Option KeyValue). let v : Event = record { kind = PutEvent; kv = unwrap_or (f key e.revision) (bare key e.revision); prev_kv = if w.prev_kv then f (key_of e.change) (e.revision - 1) else None } in v) k.row_at
@@ -171,8 +171,9 @@ module _ {X Y : Type 0} (ax : Asks X) (ay : Asks Y) (h : X → Y) where
       ∙ ap (λ (vs : List Event). event_of ax t w e e.change ∷ vs) (same_events t k w es)
 
   same_given : (t : State X) → Carries t.store → (i : ℕ) (w : Watching) (es : List Entry) (vs : List Event) → events_given ay (over h t) i w es vs ≡ outcome_over h (events_given ax t i w es vs)
-  same_given t k i w es [] = ap (λ (l : Look). let o : Outcome Y = record { state = record (over h t) { slots = slice_set t.slots i (Some (watch_told (l []).current w es)) }; reply = Quiet } in o) k.look
-  same_given t k i w es (v ∷ vs) = ap (λ (l : Look). let o : Outcome Y = record { state = record (over h t) { slots = slice_set t.slots i (Some (watch_told (l []).current w es)) }; reply = Events (head t (l [])) w.id (v ∷ vs) } in o) k.look
+  same_given t k i w es vs = ap (λ (l : Look).
+      let reply = response (head t (l [])) w.id (is_due (l []).current t.moment w) vs in
+      let o : Outcome Y = record { state = record (over h t) { slots = slice_set t.slots i (Some (record (watch_told (l []).current w es) { told = last_told t.moment w.told reply })) }; reply = reply } in o) k.look
 
   either_over : (b : Bool) (x y : Outcome X) → (if b then outcome_over h x else outcome_over h y) ≡ outcome_over h (if b then x else y)
   either_over true x y = refl

@@ -69,8 +69,7 @@ module _ (P : State History → Type 0) (S : State History) (same : P S) (slot :
   quiet_created q (Some i) = slot i _
 
   quiet_given : (i : ℕ) (w : Watching) (es : List Entry) (vs : List Event) → P (events_given machine.history S i w es vs).state
-  quiet_given i w es [] = slot i _
-  quiet_given i w es (v ∷ vs) = slot i _
+  quiet_given i w es vs = slot i _
 
   quiet_taken : (i : ℕ) (o : Option (Option Watching)) → P (taken machine.history S i o).state
   quiet_taken i None = same

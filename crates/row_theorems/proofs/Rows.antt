@@ -30,6 +30,7 @@ mod watch_of_300_puts
 mod watch_of_300_puts_with_catchup
 mod watch_and_compaction
 mod watch_and_compaction_with_catchup
+mod progress
 mod adding_and_paths
 mod full_neighbour
 mod full_neighbour_alone

@@ -31,7 +31,7 @@ pub watch_refused : (m : MachineState) (q : WatchReq) (r : Refusal) (p : Plan) �
 watch_refused m q r p none is planned =
     subst (Does m p) (sym (refused_past_gate (tenant m) (Watch q) r (full m q none ∙ ap Some (sym is)))) (does_as m p _ _ planned (record { reply = refl; state = refl }))
 
-pub watch_does : (m : MachineState) (q : WatchReq) (new : Opening) (p : Plan) → position is_none (watches m.watchers) ≡ Some new.slot → new.watch.watch ≡ watch_of m.store.kept.current q
+pub watch_does : (m : MachineState) (q : WatchReq) (new : Opening) (p : Plan) → position is_none (watches m.watchers) ≡ Some new.slot → new.watch.watch ≡ watch_of m.store.kept.current m.moment q
     → p ≡ record { effect = WatchEffect new; reply = opened m q.watch_id new.slot } → Does m p (past_gate (tenant m) (Watch q))
 watch_does m q new p free is planned =
     let t = tenant m in
@@ -41,8 +41,8 @@ watch_does m q new p free is planned =
 
 -- ---- a take
 
-pub take_does : (m : MachineState) (slot : ℕ) (h : Header) (planned : PlannedTake) (p : Plan) → h ≡ header_at m (pos m.store.kept.current) → PlansTake m.watchers m.store h slot planned
+pub take_does : (m : MachineState) (slot : ℕ) (h : Header) (planned : PlannedTake) (p : Plan) → h ≡ header_at m (pos m.store.kept.current) → PlansTake m.watchers m.store h m.moment slot planned
     → p ≡ record { effect = TakeEffect planned.taken; reply = planned.reply } → Does m p (past_gate (tenant m) (Take slot))
 take_does m slot h planned p header plans is =
-    let here : IsTenant (tenant m) m.store m.watchers h = record { store = refl; slots = refl; header = sym header } in
+    let here : IsTenant (tenant m) m.store m.watchers h m.moment = record { store = refl; slots = refl; header = sym header; moment = refl } in
     does_as m p _ _ is (record { reply = plans.reply (tenant m) here; state = sym (plans.state (tenant m) here) })

@@ -14,6 +14,7 @@ use Rattle.etcd_types.specs.declared.alarm.AlarmKind.{AlarmKind}
 use Rattle.etcd_types.specs.declared.alarm.AlarmKind.TheVariants.{Any, NoSpace as SpaceAlarm}
 use Rattle.etcd_types.specs.declared.refusal.Refusal.{Refusal}
 use Rattle.etcd_types.specs.declared.refusal.Refusal.TheVariants.{NoKey, ValueGiven, LeaseGiven, TooManyOps, DuplicateKey, TtlTooLarge, NotOffered, NoSpace, UsedUp, LeaseExists, LeaseNotFound, TooManyWatches, Compacted, Future, KeyNotFound, Memory}
+use Rattle.etcd_types.specs.declared.reply.Header.{Header}
 use Rattle.etcd_types.specs.declared.reply.Reply.{Reply}
 use Rattle.etcd_types.specs.declared.reply.Reply.TheVariants.{Canceled, Refused}
 use Rattle.etcd_model.specs.declared.state.Lease.{Lease}
@@ -23,9 +24,9 @@ use Rattle.etcd_model.specs.declared.state.State.{State}
 use Rattle.etcd_model.specs.Reads.{Reads, unreadable}
 use Rattle.etcd_model.specs.Fields.{fields, refused_if}
 use Rattle.etcd_model.specs.Operations.{branch, first_refusal, op_refusal, ops_refusal}
-use Rattle.etcd_model.specs.Tenant.{Asks, Outcome, header, reads}
+use Rattle.etcd_model.specs.Tenant.{Asks, Outcome, current, header, reads}
 use Rattle.etcd_model.specs.Stepping.{alarm_of, before_space, decided, early, kept_alive, look_up, machine, outcome, time_left, unless_alarmed, within_quota}
-use Rattle.etcd_model.specs.Watches.{created, events_given, taken}
+use Rattle.etcd_model.specs.Watches.{created, events_given, is_due, response, taken}
 
 -- a refusal, if there is one, is not for want of memory
 abbrev OfRequest : Option Refusal → Type 0
@@ -120,8 +121,12 @@ module _ {X : Type 0} (asks : Asks X) where
   created_speaks t q (Some i) = λ e. cc
 
   given_speaks : (t : State X) (i : ℕ) (w : WatchState) (es : List Entry) (events : List Event) → Speaks (events_given asks t i w es events).reply
-  given_speaks t i w es [] = λ e. cc
-  given_speaks t i w es (event ∷ events) = λ e. cc
+  given_speaks t i w es events = response_speaks (header asks t) w.id (is_due (current asks t) t.moment w) events
+    where
+      response_speaks : (h : Header) (id : ℤ) (due : Bool) (events : List Event) → Speaks (response h id due events)
+      response_speaks h id true [] = λ e. cc
+      response_speaks h id false [] = λ e. cc
+      response_speaks h id due (event ∷ events) = λ e. cc
 
   either_speaks : (b : Bool) (o p : Outcome X) → Speaks o.reply → Speaks p.reply → Speaks (cond b o p).reply
   either_speaks true o p x y = x

@@ -24,7 +24,7 @@ impl Machine {
         ensures fits { IfOk result (λ p. Fits self.now p) }
     {
         Ok(
-            match self.watchers.plan_create(alloc, &self.store, request)? {
+            match self.watchers.plan_create(alloc, &self.store, self.moment, request)? {
                 Ok(new) => self.opening(new, request.watch_id),
                 Err(refusal) => Planned::refused(refusal),
             },
@@ -46,14 +46,14 @@ impl Machine {
         }
     }
 
-    /// What the watch of a slot is told next.
+    /// What the watch of a slot is told next, at the moment of the clock.
     pub(crate) fn plan_take(&self, alloc: Global, slot: u8) -> Mem<Planned>
         ensures does { IfOk result (λ p. Does self.now p (past_gate (tenant self.now) (Take slot))) }
         ensures fits { IfOk result (λ p. Fits self.now p) }
     {
         let planned = self
             .watchers
-            .plan_take(alloc, &self.store, self.header(), slot)?;
+            .plan_take(alloc, &self.store, self.header(), self.moment, slot)?;
         Ok(Planned {
             effect: Effect::Take(planned.taken),
             reply: planned.reply,
@@ -86,7 +86,7 @@ impl Machine {
 impl Machine {
     /// Which takes may not be quiet. It promises nothing.
     pub fn hint(&self) -> Hint {
-        self.watchers.hint(&self.store)
+        self.watchers.hint(&self.store, self.moment)
     }
 }
 

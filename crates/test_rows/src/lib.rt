@@ -330,23 +330,6 @@ ok
 200 {"header":{"cluster_id":"9","member_id":"1","raft_term":"1","revision":"4"}}
 "#,
     },
-    // full_neighbour_alone
-    Row {
-        script: r#"add two 9 1024 1
-call POST /t/two/v3/kv/put {"key":"Zm9v","value":"YmFy"}
-call POST /t/two/v3/kv/put {"key":"Zm9v","value":"YmFy"}
-call POST /t/two/v3/kv/range {"key":"Zm9v"}
-call POST /t/two/v3/kv/put {"key":"Zm9v","value":"YmFy"}
-call POST /t/two/v3/maintenance/alarm {}
-"#,
-        answers: r#"ok
-200 {"header":{"cluster_id":"9","member_id":"1","raft_term":"1","revision":"2"}}
-200 {"header":{"cluster_id":"9","member_id":"1","raft_term":"1","revision":"3"}}
-200 {"count":"1","header":{"cluster_id":"9","member_id":"1","raft_term":"1","revision":"3"},"kvs":[{"create_revision":"2","key":"Zm9v","mod_revision":"3","value":"YmFy","version":"2"}]}
-200 {"header":{"cluster_id":"9","member_id":"1","raft_term":"1","revision":"4"}}
-200 {"header":{"cluster_id":"9","member_id":"1","raft_term":"1","revision":"4"}}
-"#,
-    },
     // watch_filters
     Row {
         script: r#"add one 7 1024 1
@@ -368,6 +351,47 @@ call POST /t/one/v3/watch {}
 204
 501 {"code":12,"error":"etcd_host: not offered","message":"etcd_host: not offered"}
 400 {"code":3,"error":"etcd_host: the body can't be read","message":"etcd_host: the body can't be read"}
+"#,
+    },
+    // progress
+    Row {
+        script: r#"add one 7 1024 1
+tick one 100
+call POST /t/one/v3/watch {"create_request":{"key":"YQ==","progress_notify":true}}
+tick one 699
+take one 0
+tick one 700
+take one 0
+take one 0
+call POST /t/one/v3/kv/put {"key":"Yg=="}
+tick one 1300
+take one 0
+call POST /t/one/v3/kv/put {"key":"YQ==","value":"MQ=="}
+tick one 1900
+take one 0
+take one 0
+call POST /t/one/v3/watch {"create_request":{"key":"YQ==","progress_notify":true,"start_revision":"10"}}
+tick one 2500
+take one 1
+"#,
+        answers: r#"ok
+204
+200 {"result":{"created":true,"header":{"cluster_id":"7","member_id":"1","raft_term":"1","revision":"1"}}}
+204
+204
+204
+200 {"result":{"header":{"cluster_id":"7","member_id":"1","raft_term":"1","revision":"1"}}}
+204
+200 {"header":{"cluster_id":"7","member_id":"1","raft_term":"1","revision":"2"}}
+204
+200 {"result":{"header":{"cluster_id":"7","member_id":"1","raft_term":"1","revision":"2"}}}
+200 {"header":{"cluster_id":"7","member_id":"1","raft_term":"1","revision":"3"}}
+204
+200 {"result":{"events":[{"kv":{"create_revision":"3","key":"YQ==","mod_revision":"3","value":"MQ==","version":"1"}}],"header":{"cluster_id":"7","member_id":"1","raft_term":"1","revision":"3"}}}
+204
+200 {"result":{"created":true,"header":{"cluster_id":"7","member_id":"1","raft_term":"1","revision":"3"}}}
+204
+204
 "#,
     },
     // watch_and_compaction_with_catchup

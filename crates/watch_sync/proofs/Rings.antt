@@ -39,10 +39,10 @@ goes_on w v s cs xs r whole top are more is agrees = subst (λ (u : WatchState).
 
 -- ---- a response
 
-pub told_agrees : (w v : WatchState) (s : StoreState) (next : ℕ) → w.watch.next ≤ next → Rises s.kept.changes → s.kept.compacted ≤ w.watch.next → Agrees w s
-    → v.watch ≡ with_next w.watch next → (NotesRise w.ring → v.ring ≡ notes_from next w.ring)
+pub told_agrees : (w v : WatchState) (s : StoreState) (next told : ℕ) → w.watch.next ≤ next → Rises s.kept.changes → s.kept.compacted ≤ w.watch.next → Agrees w s
+    → v.watch ≡ with_next w.watch next told → (NotesRise w.ring → v.ring ≡ notes_from next w.ring)
     → w.position ≤ v.position → (v.position ≤ next) ⊎ (v.position ≡ w.position) → v.position ≤ s.kept.current + 1 → Agrees v s
-told_agrees w v s next later rises whole agrees watch_is ring up way top =
+told_agrees w v s next told later rises whole agrees watch_is ring up way top =
     let filled = agrees.filled whole in
     let xs = s.kept.changes in
     let rises_ahead = rises_filter (is_ahead_of w.watch) (before w.position xs) (rises_filter (λ x. nat_lt x.revision w.position) xs rises) in

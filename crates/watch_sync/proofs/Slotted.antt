@@ -88,12 +88,12 @@ pub slot_agrees : (store : StoreState) (slots : List (Option WatchState)) (i : �
 slot_agrees store slots i o new lt step all = All-set (OneAgrees store) slots i new (step (all i o lt)) all
 
 -- a watch that was told of what is before a later revision
-pub told_watch : (slots : List (Option WatchState)) (i next : ℕ) (o new : Option WatchState) → watch_in slots i ≡ o → of_watch new ≡ option_map (λ w. with_next w.watch next) o → watches (slice_set slots i new) ≡ slots_after (watches slots) (Told i next)
-told_watch slots i next o new at same =
+pub told_watch : (slots : List (Option WatchState)) (i next told : ℕ) (o new : Option WatchState) → watch_in slots i ≡ o → of_watch new ≡ option_map (λ w. with_next w.watch next told) o → watches (slice_set slots i new) ≡ slots_after (watches slots) (Told i next told)
+told_watch slots i next told o new at same =
     watch_set slots i new
-    ∙ ap (slice_set (watches slots) i) (same ∙ both o ∙ ap (option_map (λ (w : Watch). with_next w next)) (sym (watch_in-map slots i ∙ ap of_watch at)))
+    ∙ ap (slice_set (watches slots) i) (same ∙ both o ∙ ap (option_map (λ (w : Watch). with_next w next told)) (sym (watch_in-map slots i ∙ ap of_watch at)))
   where
-    both : (p : Option WatchState) → option_map (λ (w : WatchState). with_next w.watch next) p ≡ option_map (λ (w : Watch). with_next w next) (of_watch p)
+    both : (p : Option WatchState) → option_map (λ (w : WatchState). with_next w.watch next told) p ≡ option_map (λ (w : Watch). with_next w next told) (of_watch p)
     both None = refl
     both (Some w) = refl
 

@@ -1,5 +1,5 @@
 -- The events of kept changes.
-use Rattle.std.proofs.Common.{◌≡◌, ℕ, ◌+◌, ◌<◌, ◌≤◌, List, [], ◌∷◌, ◌++◌, append_assoc, length, get_or, drop, map, true, false, ◌&&◌, refl, sym, ap, ◌∙◌, subst, arith, inl, inr}
+use Rattle.std.proofs.Common.{◌≡◌, ℕ, ◌+◌, ◌<◌, ◌≤◌, List, [], ◌∷◌, ◌++◌, append_assoc, length, get_or, drop, map, Bool, true, false, ◌&&◌, refl, sym, ap, ◌∙◌, subst, arith, inl, inr}
 use Rattle.std.specs.Prelude.{ℤ, Option, Some, None, IfSome, IsSome, is_some, nat_le, nat_lt, option_and_then, option_map, unwrap_or, if◌then◌else◌}
 use Rattle.std.specs.List.{AllByRecursion, cons_option}
 use Rattle.std.specs.Option.{option_map_or}
@@ -11,12 +11,12 @@ use Rattle.etcd_types.specs.declared.key_value.Event.{Event}
 use Rattle.etcd_types.specs.declared.key_value.EventKind.TheVariants.{Put, Delete}
 use Rattle.etcd_types.specs.declared.key_value.KeyValue.{KeyValue}
 use Rattle.etcd_types.specs.declared.reply.Header.{Header}
-use Rattle.etcd_types.specs.declared.reply.Reply.TheVariants.{Events, Quiet}
+use Rattle.etcd_types.specs.declared.reply.Reply.TheVariants.{Events}
 use Rattle.etcd_model.specs.declared.state.Watch.{Watch}
 use Rattle.etcd_model.specs.Changes.{Recorded, Rises, change_by, is_up_to, live}
 use Rattle.etcd_model.specs.Store.{Store, kept_store}
 use Rattle.etcd_model.specs.Watches as model
-use Rattle.etcd_model.specs.Watches.{bare}
+use Rattle.etcd_model.specs.Watches.{bare, response}
 use Rattle.model_laws.specs.Apart.{AreApart, is_same_place}
 use Rattle.model_laws.specs.Recording.{IsIn}
 use Rattle.model_laws.proofs.LastIsLaws.{all_in, last_is}
@@ -28,7 +28,7 @@ use Rattle.revision_store.specs.Stored.{StoreState, cells, row_at}
 use Rattle.watch_sync.specs.declared.noted.Noted.{Noted}
 use Rattle.watch_sync.specs.Ahead.{AreNotes, ahead, is_put_at, revision_at}
 use Rattle.watch_sync.specs.Gathering.{first_changes}
-use Rattle.watch_sync.specs.Telling.{IsKept, event_of, events_at, reply_of, row_asked, with_store}
+use Rattle.watch_sync.specs.Telling.{IsKept, event_of, events_at, row_asked, with_store}
 use Rattle.watch_sync.proofs.Changes.{all_filtered, picked_from}
 use Rattle.watch_sync.proofs.Rings.{wants}
 
@@ -180,12 +180,12 @@ kept_here s ns i n lt is all =
 
 -- ---- the answer
 
-pub quiet_reply : (v : Cells) (s : Store) (w : Watch) (h : Header) (id : ℤ) (ns : List Noted) (xs : List Recorded) → length ns ≡ 0 → AreNotes v ns xs → Quiet ≡ reply_of h id (map (event_of s w) xs)
-quiet_reply v s w h id [] [] none are = refl
-quiet_reply v s w h id [] (x ∷ xs) none are = absurd are
-quiet_reply v s w h id (n ∷ ns) xs none are = absurd (omega (arith, none))
+pub no_events : (v : Cells) (s : Store) (w : Watch) (h : Header) (id : ℤ) (due : Bool) (ns : List Noted) (xs : List Recorded) → length ns ≡ 0 → AreNotes v ns xs → response h id due [] ≡ response h id due (map (event_of s w) xs)
+no_events v s w h id due [] [] none are = refl
+no_events v s w h id due [] (x ∷ xs) none are = absurd are
+no_events v s w h id due (n ∷ ns) xs none are = absurd (omega (arith, none))
 
-pub events_reply : (v : Cells) (s : Store) (w : Watch) (h : Header) (id : ℤ) (ns : List Noted) (xs : List Recorded) (es : List Event) → 0 < length ns → AreNotes v ns xs → es ≡ events_at v s w ns → Events h id es ≡ reply_of h id (map (event_of s w) xs)
-events_reply v s w h id [] xs es some are is = absurd (omega (arith, some))
-events_reply v s w h id (n ∷ ns) [] es some are is = absurd are
-events_reply v s w h id (n ∷ ns) (x ∷ xs) es some are is = ap (λ (ds : List Event). Events h id ds) (is ∙ events_are v s w (n ∷ ns) (x ∷ xs) are)
+pub events_reply : (v : Cells) (s : Store) (w : Watch) (h : Header) (id : ℤ) (due : Bool) (ns : List Noted) (xs : List Recorded) (es : List Event) → 0 < length ns → AreNotes v ns xs → es ≡ events_at v s w ns → Events h id es ≡ response h id due (map (event_of s w) xs)
+events_reply v s w h id due [] xs es some are is = absurd (omega (arith, some))
+events_reply v s w h id due (n ∷ ns) [] es some are is = absurd are
+events_reply v s w h id due (n ∷ ns) (x ∷ xs) es some are is = ap (λ (ds : List Event). Events h id ds) (is ∙ events_are v s w (n ∷ ns) (x ∷ xs) are)

@@ -6,6 +6,7 @@ use Rattle.std.specs.List.{AllByRecursion}
 use Rattle.etcd_model.specs.declared.state.Watch.{Watch}
 use Rattle.etcd_model.specs.Changes.{since}
 use Rattle.etcd_model.specs.Store as kept
+use Rattle.etcd_model.specs.Watches.{is_due}
 use Rattle.key_index.specs.Compaction.{IsCompacted}
 use Rattle.key_index.specs.Links.{change_at}
 use Rattle.revision_store.specs.Stored.{StoreState, cells}
@@ -32,22 +33,23 @@ with_ring w ring = record { watch = w.watch; ring = ring; position = w.position 
 abbrev pub moved_to : WatchState → ℕ → WatchState
 moved_to w position = record { watch = w.watch; ring = w.ring; position = position }
 
--- the watch from another revision on
-abbrev pub with_next : Watch → ℕ → Watch
-with_next w next = record w { next = next }
+-- the watch from another revision on, with the moment of its last response
+abbrev pub with_next : Watch → ℕ → ℕ → Watch
+with_next w next told = record w { next = next; told = told }
 
-abbrev pub from_next : WatchState → ℕ → WatchState
-from_next w next = record { watch = with_next w.watch next; ring = w.ring; position = w.position }
+abbrev pub from_next : WatchState → ℕ → ℕ → WatchState
+from_next w next told = record { watch = with_next w.watch next told; ring = w.ring; position = w.position }
 
 -- after a compaction a watch that missed what it took keeps no note
 abbrev pub cut_to : StoreState → WatchState → WatchState
 cut_to store w = if nat_le store.kept.compacted w.watch.next then w else with_ring w []
 
--- it has notes, is behind, or is to be cancelled: else its take is quiet
-abbrev pub may_tell : StoreState → WatchState → Bool
-may_tell store w =
+-- it has notes, is behind, is to be cancelled, or is to be told that there is no event: else its take is quiet
+abbrev pub may_tell : StoreState → ℕ → WatchState → Bool
+may_tell store moment w =
     nat_lt 0 (length w.ring)
-    || (nat_le w.position store.kept.current || not (nat_le store.kept.compacted w.watch.next))
+    || (nat_le w.position store.kept.current || (not (nat_le store.kept.compacted w.watch.next)
+    || is_due store.kept.current moment w.watch))
 
 -- the new store is the old one, compacted at a revision
 pub record Compacts (old new : StoreState) (revision : ℕ) : Type 0 where

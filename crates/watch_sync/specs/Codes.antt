@@ -8,18 +8,22 @@ use Rattle.watch_sync.specs.Agreeing.{WatchState}
 
 abbrev pub watch_code : Coded Watch
 watch_code =
-    code_by ((List ℕ × List ℕ) × ((Bool × (Bool × Bool)) × (ℤ × ℕ)))
+    code_by ((List ℕ × List ℕ) × (((Bool × Bool) × (Bool × Bool)) × (ℤ × (ℕ × ℕ))))
     (coded× (coded× bytes_code bytes_code)
-    (coded× (coded× coded_bool (coded× coded_bool coded_bool)) (coded× coded_ℤ coded_ℕ)))
-    (λ w. ((w.key, w.range_end), ((w.no_put, (w.no_delete, w.prev_kv)), (w.id, w.next))))
+    (coded× (coded× (coded× coded_bool coded_bool) (coded× coded_bool coded_bool))
+    (coded× coded_ℤ (coded× coded_ℕ coded_ℕ))))
+    (λ w. ((w.key, w.range_end),
+        (((w.no_put, w.no_delete), (w.prev_kv, w.progress_notify)), (w.id, (w.next, w.told)))))
     (λ p. record {
       key = p.0.0;
       range_end = p.0.1;
-      no_put = p.1.0.0;
-      no_delete = p.1.0.1.0;
-      prev_kv = p.1.0.1.1;
+      no_put = p.1.0.0.0;
+      no_delete = p.1.0.0.1;
+      prev_kv = p.1.0.1.0;
       id = p.1.1.0;
-      next = p.1.1.1;
+      next = p.1.1.1.0;
+      progress_notify = p.1.0.1.1;
+      told = p.1.1.1.1;
     })
     (λ _. refl)
 

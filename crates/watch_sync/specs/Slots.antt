@@ -27,9 +27,9 @@ abbrev pub AllAgree : List (Option WatchState) → StoreState → Type 0
 AllAgree slots store = All (OneAgrees store) slots
 
 -- the take of the slot may not be quiet
-abbrev pub hinted : StoreState → Option WatchState → Bool
-hinted store None = false
-hinted store (Some w) = may_tell store w
+abbrev pub hinted : StoreState → ℕ → Option WatchState → Bool
+hinted store moment None = false
+hinted store moment (Some w) = may_tell store moment w
 
 -- whatever store the old watches agree with, the new ones agree with it too
 abbrev pub StillAgree : List (Option WatchState) → List (Option WatchState) → Type 0
@@ -50,8 +50,8 @@ watch_in slots slot = option_and_then (λ o. o) (slice_get slots slot)
 abbrev pub slots_after : List (Option Watch) → Taken → List (Option Watch)
 slots_after slots Nothing = slots
 slots_after slots (Canceled slot) = slice_set slots slot None
-slots_after slots (Told slot next) =
-    slice_set slots slot (option_map (λ w. with_next w next) (watch_in slots slot))
+slots_after slots (Told slot next last) =
+    slice_set slots slot (option_map (λ w. with_next w next last) (watch_in slots slot))
 
 -- the watch missed nothing that a compaction took, and goes on from a later revision
 pub record GoesOn (store : StoreState) (next : ℕ) (w : WatchState) : Type 0 where
@@ -62,14 +62,15 @@ pub record GoesOn (store : StoreState) (next : ℕ) (w : WatchState) : Type 0 wh
 abbrev pub FitsTake : List (Option WatchState) → StoreState → Taken → Type 0
 FitsTake slots store Nothing = Unit {0}
 FitsTake slots store (Canceled slot) = Unit {0}
-FitsTake slots store (Told slot next) = IfSome (watch_in slots slot) (GoesOn store next)
+FitsTake slots store (Told slot next last) = IfSome (watch_in slots slot) (GoesOn store next)
 
--- a tenant over a store and some watches, which answers under a header
-pub record IsTenant (t : State Store) (s : StoreState) (ws : List (Option WatchState)) (h : Header) :
-    Type 0 where
+-- a tenant over a store and some watches, which answers under a header, at a moment
+pub record IsTenant
+    (t : State Store) (s : StoreState) (ws : List (Option WatchState)) (h : Header) (at : ℕ) : Type 0 where
   pub store : t.store ≡ s.kept
   pub slots : t.slots ≡ watches ws
   pub header : header kept_store t ≡ h
+  pub moment : t.moment ≡ at
 
 -- what a take makes of a tenant, and what it answers
 abbrev pub take_of : State Store → ℕ → Outcome Store
@@ -77,9 +78,9 @@ take_of t slot = model.taken kept_store t slot (slice_get t.slots slot)
 
 -- what is planned is the take of each such tenant
 pub record PlansTake
-    (slots : List (Option WatchState)) (store : StoreState) (h : Header) (slot : ℕ) (p : PlannedTake)
+    (slots : List (Option WatchState)) (store : StoreState) (h : Header) (moment slot : ℕ) (p : PlannedTake)
     : Type 0 where
   pub fits : FitsTake slots store p.taken
-  pub reply : (t : State Store) → IsTenant t store slots h → p.reply ≡ (take_of t slot).reply
-  pub state : (t : State Store) → IsTenant t store slots h
+  pub reply : (t : State Store) → IsTenant t store slots h moment → p.reply ≡ (take_of t slot).reply
+  pub state : (t : State Store) → IsTenant t store slots h moment
       → (take_of t slot).state ≡ record t { slots = slots_after (watches slots) p.taken }

@@ -1,11 +1,8 @@
 -- The events of changes, read from the cells of their records.
-use Rattle.std.specs.Prelude.{◌≡◌, ℕ, ℤ, ◌-◌, ◌≤◌, false, List, [], ◌∷◌, filter_map, Option, Some, None}
+use Rattle.std.specs.Prelude.{◌≡◌, ℕ, ◌-◌, ◌≤◌, false, List, [], filter_map, Option, Some, None}
 use Rattle.std.specs.Prelude.{option_map, if◌then◌else◌}
 use Rattle.etcd_types.specs.declared.key_value.Event.{Event}
 use Rattle.etcd_types.specs.declared.key_value.KeyValue.{KeyValue}
-use Rattle.etcd_types.specs.declared.reply.Header.{Header}
-use Rattle.etcd_types.specs.declared.reply.Reply.{Reply}
-use Rattle.etcd_types.specs.declared.reply.Reply.TheVariants.{Events, Quiet}
 use Rattle.etcd_model.specs.declared.state.State.{State}
 use Rattle.etcd_model.specs.declared.state.Watch.{Watch}
 use Rattle.etcd_model.specs.Changes.{Recorded, change_of, entry_of}
@@ -40,11 +37,6 @@ event_of store w x = model.event_of kept_store (with_store store) w (entry_of x)
 -- the events of noted changes
 abbrev pub events_at : Cells → Store → Watch → List Noted → List Event
 events_at cells store w notes = filter_map (λ n. option_map (event_of store w) (change_at cells n.cell)) notes
-
--- the answer with some events; quiet where there are none
-abbrev pub reply_of : Header → ℤ → List Event → Reply
-reply_of h id [] = Quiet
-reply_of h id (e ∷ es) = Events h id (e ∷ es)
 
 -- under the cell is a kept change, from the compaction on
 pub record IsKept (store : StoreState) (c : ℕ) : Type 0 where

@@ -34,11 +34,14 @@ impl OpenWatch {
         store.compacted() <= self.next()
     }
 
-    /// Whether it has notes, is behind, or is to be cancelled.
-    pub fn may_tell(&self, store: &Store) -> bool
-        ensures { result ≡ may_tell store.now self.now }
+    /// Whether it has notes, is behind, is to be cancelled, or is to be told that there is no event.
+    pub fn may_tell(&self, store: &Store, moment: u64) -> bool
+        ensures { result ≡ may_tell store.now moment self.now }
     {
-        self.ring_len() > 0 || self.position() <= store.current() || !self.is_whole(store)
+        self.ring_len() > 0
+            || self.position() <= store.current()
+            || !self.is_whole(store)
+            || self.is_due(store, moment)
     }
 
     /// Whether it is to be told of the change under a cell.

@@ -68,16 +68,16 @@ impl OpenWatch {
         Ok(())
     }
 
-    /// Goes on at a later revision, after a response.
-    pub fn told(&mut self, store: &Store, next: u64)
+    /// Goes on at a later revision, with the moment of the last response.
+    pub fn told(&mut self, store: &Store, next: u64, last: u64)
         requires whole { store.now.kept.compacted ≤ self.old.watch.next }
         requires later { self.old.watch.next ≤ next }
         requires agrees { Agrees self.old store.now }
         ensures agrees { Agrees self.new store.now }
-        ensures watch { self.new.watch ≡ with_next self.old.watch next }
+        ensures watch { self.new.watch ≡ with_next self.old.watch next last }
     {
         self.drop_below(next);
-        self.set_next(next);
+        self.set_next(next, last);
         let reached = next.min(store.current() + 1);
         if self.position() < reached {
             self.move_to(reached);

@@ -7,6 +7,9 @@
 //! current revision, and behind if it is less. A watch that missed what a compaction took is to be cancelled,
 //! and its ring is empty; so no note is of a record that is gone.
 //!
+//! A watch that asks for it is told that there is no event, where there is none, if 600 seconds or more have gone by
+//! since its last response and it waits for no later start. A take that is quiet is no response.
+//!
 //! **The life of one watch.** It is of all keys, and its ring has room for 256 notes.
 //!
 //! | step | ring | position | next | because |

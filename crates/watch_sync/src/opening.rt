@@ -33,10 +33,10 @@ fn start(current: u64, revision: i64) -> u64
     }
 }
 
-/// The watch that a request asks for.
-fn watch_of(alloc: Global, current: u64, request: &WatchReq) -> Mem<Watch>
+/// The watch that a request asks for at a moment.
+fn watch_of(alloc: Global, current: u64, moment: u64, request: &WatchReq) -> Mem<Watch>
     requires { current < 2 ^ 63 }
-    ensures { IfOk result (λ watch. watch ≡ watch_of current request.now) }
+    ensures { IfOk result (λ watch. watch ≡ watch_of current moment request.now) }
 {
     Ok(Watch {
         key: watched_key(alloc, &request.key)?,
@@ -46,17 +46,25 @@ fn watch_of(alloc: Global, current: u64, request: &WatchReq) -> Mem<Watch>
         prev_kv: request.prev_kv,
         id: request.watch_id,
         next: start(current, request.start_revision),
+        progress_notify: request.progress_notify,
+        told: moment,
     })
 }
 
 impl OpenWatch {
-    /// The watch that a request asks for, with an empty ring.
-    pub fn open(alloc: Global, store: &Store, request: &WatchReq) -> Mem<OpenWatch>
-        ensures watch { IfOk result (λ new. new.watch ≡ watch_of store.now.kept.current request.now) }
+    /// The watch that a request asks for at a moment, with an empty ring.
+    pub fn open(
+        alloc: Global,
+        store: &Store,
+        moment: u64,
+        request: &WatchReq,
+    ) -> Mem<OpenWatch>
+        ensures watch { IfOk result (λ new. new.watch
+            ≡ watch_of store.now.kept.current moment request.now) }
         ensures agrees { IfOk result (λ new. Agrees new store.now) }
     {
         let current = store.current();
-        let watch = watch_of(alloc, current, request)?;
+        let watch = watch_of(alloc, current, moment, request)?;
         let ring = HeapCircularBuffer::with_capacity(alloc, RING_ENTRIES)?;
         let position = watch.next.min(current + 1);
         Ok(OpenWatch::new(watch, ring, position))

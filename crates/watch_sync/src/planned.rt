@@ -35,8 +35,8 @@ pub enum Taken {
     Nothing,
     /// The watch of a slot goes.
     Canceled(u8),
-    /// The watch of a slot was told of all below this revision.
-    Told { slot: u8, next: u64 },
+    /// The watch of a slot was told of all below a revision, and had its last response at a moment.
+    Told { slot: u8, next: u64, last: u64 },
 }
 
 /// A take that is decided.

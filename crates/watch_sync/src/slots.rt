@@ -45,26 +45,26 @@ fn cut(slot: &mut Option<OpenWatch>, store: &Store)
     }
 }
 
-/// Whether a take may not be quiet.
-pub(crate) fn may_tell(slot: &Option<OpenWatch>, store: &Store) -> bool
-    ensures { result ≡ hinted store.now slot.now }
+/// Whether a take at a moment may not be quiet.
+pub(crate) fn may_tell(slot: &Option<OpenWatch>, store: &Store, moment: u64) -> bool
+    ensures { result ≡ hinted store.now moment slot.now }
 {
     match slot {
-        Some(watch) => watch.may_tell(store),
+        Some(watch) => watch.may_tell(store, moment),
         None => false,
     }
 }
 
-/// Goes on at a later revision, after a response.
-pub(crate) fn told(slot: &mut Option<OpenWatch>, store: &Store, next: u64)
+/// Goes on at a later revision, with the moment of the last response.
+pub(crate) fn told(slot: &mut Option<OpenWatch>, store: &Store, next: u64, last: u64)
     requires agrees { OneAgrees store.now slot.old }
     requires on { IfSome slot.old (GoesOn store.now next) }
     ensures agrees { OneAgrees store.now slot.new }
     ensures watch { option_map (λ w. w.watch) slot.new
-        ≡ option_map (λ w. with_next w.watch next) slot.old }
+        ≡ option_map (λ w. with_next w.watch next last) slot.old }
 {
     if let Some(watch) = slot {
-        watch.told(store, next);
+        watch.told(store, next, last);
     }
 }
 

@@ -2,6 +2,7 @@
 ghost use Rattle.std.specs.Prelude.{◌≡◌, ◌<◌, ◌^◌, List, Option, Some, IfOk, pos, slice_get};
 ghost use Rattle.std.specs.Option.{option_copied};
 ghost use Rattle.etcd_types.specs.declared.reply.Reply.TheVariants.{Canceled};
+ghost use Rattle.etcd_model.specs.Watches.{last_told};
 ghost use Rattle.watch_sync.specs.Agreeing.{Agrees, WatchState};
 ghost use Rattle.watch_sync.specs.Slots.{AllAgree, PlansTake, watch_in};
 
@@ -34,11 +35,29 @@ impl OpenWatch {
         }
     }
 
-    /// What a take of the watch, which has this slot, makes of it, and what it is answered.
-    fn plan(&self, alloc: Global, store: &Store, header: Header, slot: u8) -> Mem<PlannedTake>
+    /// The moment of the last response, after a take that is answered so.
+    fn last_told(&self, moment: u64, reply: &Reply) -> u64
+        ensures { result ≡ last_told moment self.now.watch.told reply.now }
+    {
+        match reply {
+            Reply::Quiet => self.told_at(),
+            _ => moment,
+        }
+    }
+
+    /// What a take of the watch, which has this slot, makes of it at a moment, and what it is answered.
+    fn plan(
+        &self,
+        alloc: Global,
+        store: &Store,
+        header: Header,
+        moment: u64,
+        slot: u8,
+    ) -> Mem<PlannedTake>
         requires { Agrees self.now store.now }
         ensures { IfOk result (λ planned. (slots : List (Option WatchState))
-            → slice_get slots slot ≡ Some (Some self.now) → PlansTake slots store.now header slot planned) }
+            → slice_get slots slot ≡ Some (Some self.now)
+            → PlansTake slots store.now header moment slot planned) }
     {
         if self.next() < store.compacted() {
             let reply = self.cancel(store, header);
@@ -47,9 +66,10 @@ impl OpenWatch {
                 reply,
             });
         }
-        let (reply, next) = self.tell(alloc, store, header)?;
+        let (reply, next) = self.tell(alloc, store, header, moment)?;
+        let last = self.last_told(moment, &reply);
         Ok(PlannedTake {
-            taken: Taken::Told { slot, next },
+            taken: Taken::Told { slot, next, last },
             reply,
         })
     }
@@ -66,20 +86,21 @@ impl Watchers {
         }
     }
 
-    /// What a slot is told next, and what its watch is then: nothing if it is free or there is no event, a
-    /// cancel if a compaction took what it was still to be told of.
+    /// What a slot is told next, and what its watch is then: nothing if it is free or there is no event, unless
+    /// that is to be told, and a cancel if a compaction took what it was still to be told of.
     pub fn plan_take(
         &self,
         alloc: Global,
         store: &Store,
         header: Header,
+        moment: u64,
         slot: u8,
     ) -> Mem<PlannedTake>
         requires { AllAgree self.now store.now }
-        ensures { IfOk result (PlansTake self.now store.now header slot) }
+        ensures { IfOk result (PlansTake self.now store.now header moment slot) }
     {
         match self.watch(slot) {
-            Some(watch) => watch.plan(alloc, store, header, slot),
+            Some(watch) => watch.plan(alloc, store, header, moment, slot),
             None => Ok(PlannedTake {
                 taken: Taken::Nothing,
                 reply: Reply::Quiet,

@@ -1,19 +1,21 @@
 //! The events that a watch is told, read from the cells of their records.
-ghost use Rattle.std.specs.Prelude.{◌≡◌, ◌≤◌, IfOk, IfSome, IsSome, false, map, true};
+ghost use Rattle.std.specs.Prelude.{◌≡◌, ◌+◌, ◌≤◌, [], IfOk, IfSome, IsSome, false, map, nat_le, true};
 ghost use Rattle.std.specs.List.{AllByRecursion};
+ghost use Rattle.etcd_types.specs.Limits.{progress_seconds};
 ghost use Rattle.etcd_types.specs.declared.reply.Reply.TheVariants.{Events};
-ghost use Rattle.etcd_model.specs.Watches.{bare};
+ghost use Rattle.etcd_model.specs.Watches.{bare, is_due, response};
 ghost use Rattle.key_index.specs.Links.{change_at};
 ghost use Rattle.revision_store.specs.Stored.{cells};
 ghost use Rattle.watch_sync.specs.Ahead.{ahead, is_put_at};
 ghost use Rattle.watch_sync.specs.Agreeing.{Agrees};
 ghost use Rattle.watch_sync.specs.Gathering.{first_changes, next_told};
-ghost use Rattle.watch_sync.specs.Telling.{IsKept, event_of, events_at, reply_of, row_asked};
+ghost use Rattle.watch_sync.specs.Telling.{IsKept, event_of, events_at, row_asked};
 
 use crate::noted::Noted;
 use crate::wanting::{is_put_at, revision_at};
 use crate::watch::OpenWatch;
 use etcd_model::state::Watch;
+use etcd_types::limits::PROGRESS_SECONDS;
 use etcd_types::{CellNo, Event, EventKind, Header, KeyValue, List, Mem, Reply};
 use revision_store::Store;
 use std::alloc::Global;
@@ -111,6 +113,35 @@ pub(crate) fn events_of(
 }
 
 impl OpenWatch {
+    /// Whether its last response was so long ago that word of no event is due.
+    fn has_waited(&self, moment: u64) -> bool
+        ensures { result ≡ nat_le (self.now.watch.told + progress_seconds) moment }
+    {
+        moment.saturating_sub(self.told_at()) >= PROGRESS_SECONDS
+    }
+
+    /// Whether it is to be told that there is no event.
+    pub fn is_due(&self, store: &Store, moment: u64) -> bool
+        ensures { result ≡ is_due store.now.kept.current moment self.now.watch }
+    {
+        self.asks_progress() && self.next() <= store.current() + 1 && self.has_waited(moment)
+    }
+
+    /// The answer where there is no event.
+    fn no_event(&self, store: &Store, header: Header, moment: u64) -> Reply
+        ensures { result ≡ response header self.now.watch.id
+            (is_due store.now.kept.current moment self.now.watch) [] }
+    {
+        if self.is_due(store, moment) {
+            Reply::Progress {
+                header,
+                watch_id: self.watch.id,
+            }
+        } else {
+            Reply::Quiet
+        }
+    }
+
     /// The answer with some events.
     fn reply(&self, header: Header, events: List<Event>) -> Reply
         ensures { result ≡ Events header self.now.watch.id events }
@@ -131,12 +162,18 @@ impl OpenWatch {
         events_of(alloc, store, &self.watch, notes)
     }
 
-    /// What the watch is told next, and the revision at which it goes on after that.
-    pub fn tell(&self, alloc: Global, store: &Store, header: Header) -> Mem<(Reply, u64)>
+    /// What the watch is told next at a moment, and the revision at which it goes on after that.
+    pub fn tell(
+        &self,
+        alloc: Global,
+        store: &Store,
+        header: Header,
+        moment: u64,
+    ) -> Mem<(Reply, u64)>
         requires whole { store.now.kept.compacted ≤ self.now.watch.next }
         requires agrees { Agrees self.now store.now }
-        ensures reply { IfOk result (λ told. told.0 ≡ reply_of header self.now.watch.id
-            (map (event_of store.now.kept self.now.watch)
+        ensures reply { IfOk result (λ told. told.0 ≡ response header self.now.watch.id
+            (is_due store.now.kept.current moment self.now.watch) (map (event_of store.now.kept self.now.watch)
             (first_changes (ahead self.now.watch store.now.kept.changes)))) }
         ensures next { IfOk result (λ told. told.1
             ≡ next_told store.now.kept.current self.now.watch (ahead self.now.watch store.now.kept.changes)) }
@@ -146,7 +183,7 @@ impl OpenWatch {
         let next = found.next(store.current(), self.next());
         let notes = found.notes();
         if notes.is_empty() {
-            return Ok((Reply::Quiet, next));
+            return Ok((self.no_event(store, header, moment), next));
         }
         let events = self.events(alloc, store, notes)?;
         let reply = self.reply(header, events);

@@ -68,6 +68,20 @@ impl OpenWatch {
         self.watch.next
     }
 
+    /// The moment of its last response.
+    pub fn told_at(&self) -> u64
+        ensures { result ≡ self.now.watch.told }
+    {
+        self.watch.told
+    }
+
+    /// Whether it asks for word of progress.
+    pub fn asks_progress(&self) -> bool
+        ensures { result ≡ self.now.watch.progress_notify }
+    {
+        self.watch.progress_notify
+    }
+
     /// Puts a note behind the others, if there is a place for it.
     pub fn push(&mut self, note: Noted) -> bool
         ensures room { IsTrue result → self.new ≡ with_ring self.old (self.old.ring ++ note ∷ []) }
@@ -103,9 +117,10 @@ impl OpenWatch {
         self.position = position;
     }
 
-    pub fn set_next(&mut self, next: u64)
-        ensures { self.new ≡ from_next self.old next }
+    pub fn set_next(&mut self, next: u64, told: u64)
+        ensures { self.new ≡ from_next self.old next told }
     {
         self.watch.next = next;
+        self.watch.told = told;
     }
 }

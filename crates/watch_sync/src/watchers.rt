@@ -60,34 +60,35 @@ impl Watchers {
         Ok(Watchers { slots })
     }
 
-    /// Which takes may not be quiet.
-    pub fn hint(&self, store: &Store) -> Hint {
+    /// Which takes may not be quiet at a moment.
+    pub fn hint(&self, store: &Store, moment: u64) -> Hint {
         let mut slots = [false; WATCH_SLOTS];
         for (is_told, slot) in slots.iter_mut().zip(self.slots.iter()) {
-            *is_told = may_tell(slot, store);
+            *is_told = may_tell(slot, store, moment);
         }
         Hint { slots }
     }
 
-    /// A watch that is to be opened, with its ring, or the refusal if no slot is free, which takes no memory.
+    /// A watch that is to be opened at a moment, with its ring, or the refusal if no slot is free, which takes no memory.
     pub fn plan_create(
         &self,
         alloc: Global,
         store: &Store,
+        moment: u64,
         request: &WatchReq,
     ) -> Mem<Result<NewWatch, Refusal>>
         ensures slot { IfOk result (λ answer. MatchResult answer
             (λ new. position is_none (watches self.now) ≡ Some new.slot)
             (λ refusal. (position is_none (watches self.now) ≡ None) × (refusal ≡ TooManyWatches))) }
         ensures watch { IfOk result (λ answer. IfOk answer
-            (λ new. new.watch.watch ≡ watch_of store.now.kept.current request.now)) }
+            (λ new. new.watch.watch ≡ watch_of store.now.kept.current moment request.now)) }
         ensures agrees { IfOk result (λ answer. IfOk answer (λ new. Agrees new.watch store.now)) }
         ensures sure { position is_none (watches self.now) ≡ None → IsOk result }
     {
         let Some(slot) = free_slot(&self.slots) else {
             return Ok(Err(Refusal::TooManyWatches));
         };
-        let watch = OpenWatch::open(alloc, store, request)?;
+        let watch = OpenWatch::open(alloc, store, moment, request)?;
         Ok(Ok(NewWatch {
             slot: slot as u8,
             watch,
@@ -157,10 +158,10 @@ impl Watchers {
         match taken {
             Taken::Nothing => {}
             Taken::Canceled(slot) => self.drop_watch(slot),
-            Taken::Told { slot, next } => {
+            Taken::Told { slot, next, last } => {
                 let slot = slot as usize;
                 if slot < self.slots.len() {
-                    told(&mut self.slots[slot], store, next);
+                    told(&mut self.slots[slot], store, next, last);
                 }
             }
         }

@@ -30,6 +30,8 @@ pub(super) enum Ask {
     TimeToLive(i64),
     /// Of `foo`, from a revision on.
     Watch(i64),
+    /// The same, of a watch that asks for word of progress.
+    WatchProgress(i64),
     Take(u8),
     DropWatch(u8),
     CatchUp(u32),
@@ -230,6 +232,27 @@ pub(super) const HINTED: [HintedLine; 26] = [
     (PUT_OF_ANOTHER_KEY_AND_LEASE_1, "10", ""),
     (Ask::Tick(5), "quiet", ""),
     (Ask::Range(0), "11: 1", ""),
+];
+
+/// A watch that asks for word of progress is hinted at while that is due: 600 seconds after its last answer that was
+/// not quiet, unless its start is ahead.
+pub(super) const DUE: [HintedLine; 16] = [
+    (Ask::Tick(100), "quiet", ""),
+    (Ask::WatchProgress(0), "1: slot 0", ""),
+    (Ask::Tick(699), "quiet", ""),
+    (Ask::Take(0), "quiet", ""),
+    (Ask::Tick(700), "quiet", "0 "),
+    (Ask::Take(0), "1: progress", ""),
+    (Ask::Take(0), "quiet", ""),
+    (PUT_OF_ANOTHER_KEY, "2", ""),
+    (Ask::Tick(1300), "quiet", "0 "),
+    (Ask::Take(0), "2: progress", ""),
+    (PUT, "3", "0 "),
+    (Ask::Tick(1900), "quiet", "0 "),
+    (Ask::Take(0), "3: 1 events", ""),
+    (Ask::WatchProgress(10), "3: slot 1", ""),
+    (Ask::Tick(2500), "quiet", "0 "),
+    (Ask::Take(1), "quiet", "0 "),
 ];
 
 /// No slot is taken: takes, drops and catch-ups change nothing.

@@ -28,7 +28,8 @@ pub(super) fn step_of(alloc: Global, ask: Ask) -> Mem<Step> {
         Ask::Revoke(id) => Ok(Step::Revoke(id)),
         Ask::KeepAlive(id) => Ok(Step::KeepAlive(id)),
         Ask::TimeToLive(id) => Ok(Step::TimeToLive { id, keys: true }),
-        Ask::Watch(start) => watch_step(alloc, start),
+        Ask::Watch(start) => watch_step(alloc, start, false),
+        Ask::WatchProgress(start) => watch_step(alloc, start, true),
         Ask::Take(slot) => Ok(Step::Take(slot)),
         Ask::DropWatch(slot) => Ok(Step::DropWatch(slot)),
         Ask::CatchUp(changes) => Ok(Step::CatchUp(changes)),
@@ -81,7 +82,7 @@ fn range_step(alloc: Global, revision: i64) -> Mem<Step> {
     }))
 }
 
-fn watch_step(alloc: Global, start: i64) -> Mem<Step> {
+fn watch_step(alloc: Global, start: i64, progress_notify: bool) -> Mem<Step> {
     Ok(Step::Watch(WatchReq {
         key: List::from_slice(alloc, b"foo")?,
         range_end: List::new(alloc),
@@ -90,7 +91,7 @@ fn watch_step(alloc: Global, start: i64) -> Mem<Step> {
         no_delete: false,
         prev_kv: false,
         watch_id: 0,
-        progress_notify: false,
+        progress_notify,
     }))
 }
 

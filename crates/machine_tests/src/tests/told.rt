@@ -6,7 +6,7 @@ use tenant_machine::Hint;
 /// The revision, and then what the answer says: how many keys, which branch is taken and how many answers it
 /// has, whether the alarm is listed, the bytes of the quota and those in use, a lease and its seconds, the
 /// seconds left with those granted and how many keys, how many leases, the slot of a watch, how many events it
-/// is told, or that it is canceled. A refusal is its name.
+/// is told, that there is none, or that it is canceled. A refusal is its name.
 pub(super) fn text_of(alloc: Global, reply: &Reply) -> Mem<String> {
     match reply {
         Reply::Range { header, count, .. } => numbered(alloc, header, *count),
@@ -43,6 +43,7 @@ pub(super) fn text_of(alloc: Global, reply: &Reply) -> Mem<String> {
         Reply::Leases { header, ids } => numbered(alloc, header, ids.as_slice().len() as u64),
         Reply::Created { header, slot, .. } => opened(alloc, header, *slot),
         Reply::Events { header, events, .. } => told(alloc, header, events.as_slice().len()),
+        Reply::Progress { header, .. } => progress(alloc, header),
         Reply::Canceled { header, .. } => canceled(alloc, header),
         Reply::Quiet => String::from_str(alloc, "quiet"),
         Reply::Refused(refusal) => format!(in alloc; "{refusal:?}"),
@@ -73,6 +74,11 @@ fn opened(alloc: Global, header: &Header, slot: u8) -> Mem<String> {
 fn told(alloc: Global, header: &Header, events: usize) -> Mem<String> {
     let revision = header.revision;
     format!(in alloc; "{revision}: {events} events")
+}
+
+fn progress(alloc: Global, header: &Header) -> Mem<String> {
+    let revision = header.revision;
+    format!(in alloc; "{revision}: progress")
 }
 
 fn canceled(alloc: Global, header: &Header) -> Mem<String> {

@@ -8,4 +8,4 @@ pub plan-requires : goal.plan-requires
 plan-requires c = agrees_in c.args.store.now c.args.self.now c.args.slot c.in-Some.watch.now c.requires (open_slot c.args.self.now c.args.slot c.in-Some.watch.now (sym c.in-Some.ensures))
 
 pub returns-in-None : goal.returns-in-None
-returns-in-None c = plans_quiet c.args.self.now c.args.store.now c.args.header c.args.slot (slice_get c.args.self.now c.args.slot) refl (sym c.in-None.ensures)
+returns-in-None c = plans_quiet c.args.self.now c.args.store.now c.args.header c.args.moment c.args.slot (slice_get c.args.self.now c.args.slot) refl (sym c.in-None.ensures)

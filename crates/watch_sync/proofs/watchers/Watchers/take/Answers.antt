@@ -12,6 +12,6 @@ pub returns-then-slot-len-clause-watches : goal.returns-then-slot-len-clause-wat
 returns-then-slot-len-clause-watches c =
     let items = c.self.inside.slots.items in
     let lt : c.in-Told.slot < length items = omega arith in
-    told_watch items c.in-Told.slot c.in-Told.next c.index_mut.result.now c.told.new.slot (watch_read items c.in-Told.slot c.index_mut.result.now lt c.index_mut.ensures.value) c.told.ensures.watch
-    ∙ ap (λ (ws : List (Option WatchState)). slots_after (watches ws) (Told c.in-Told.slot c.in-Told.next)) c.self.view_is
+    told_watch items c.in-Told.slot c.in-Told.next c.in-Told.last c.index_mut.result.now c.told.new.slot (watch_read items c.in-Told.slot c.index_mut.result.now lt c.index_mut.ensures.value) c.told.ensures.watch
+    ∙ ap (λ (ws : List (Option WatchState)). slots_after (watches ws) (Told c.in-Told.slot c.in-Told.next c.in-Told.last)) c.self.view_is
     ∙ ap (slots_after (watches c.args.self.now)) (sym c.in-Told.is)
