@@ -1,5 +1,5 @@
 //! How a step is decided.
-ghost use Rattle.std.specs.Prelude.{◌≡◌, ◌<◌, None, true, false, is_some, IfOk, IsOk};
+ghost use Rattle.std.specs.Prelude.{◌≡◌, ◌<◌, None, true, false, is_none, is_some, IfOk, IfSome, IsOk};
 ghost use Rattle.etcd_model.specs.Store.{kept_store};
 ghost use Rattle.etcd_model.specs.Fields.{refused_if};
 ghost use Rattle.etcd_model.specs.Stepping.{chooses_id, look_up, may_add, used_up, writes};
@@ -55,7 +55,8 @@ impl Machine {
             || (self.leases.counter() >= LAST_LEASE_ID && chooses_id(step))
     }
 
-    /// Decides a step that the gate lets through.
+    /// Decides a step that the gate lets through. One that takes no memory is decided where no allocator
+    /// is lent.
     fn decide(&self, alloc: Global, step: &Step) -> Mem<Planned>
         requires gate { gate (tenant self.now) step.now ≡ None }
         ensures does { IfOk result (λ p. Does self.now p (past_gate (tenant self.now) step.now)) }
@@ -63,25 +64,59 @@ impl Machine {
         ensures sure { takes_memory step.now ≡ false → IsOk result }
         ensures stopped { is_some (look_up kept_store (tenant self.now) step.now) ≡ true → IsOk result }
     {
+        match self.decide_without_memory(step) {
+            Some(planned) => Ok(planned),
+            None => self.decide_with_memory(alloc, step),
+        }
+    }
+
+    /// Decides a step that takes no memory, and no other.
+    fn decide_without_memory(&self, step: &Step) -> Option<Planned>
+        requires gate { gate (tenant self.now) step.now ≡ None }
+        ensures does { IfSome result (λ p. Does self.now p (past_gate (tenant self.now) step.now)) }
+        ensures fits { IfSome result (λ p. Fits self.now p) }
+        ensures takes { is_none result ≡ takes_memory step.now }
+    {
+        match step {
+            Step::Range(_)
+            | Step::Put(_)
+            | Step::Delete(_)
+            | Step::Txn(_)
+            | Step::TimeToLive { .. }
+            | Step::Leases
+            | Step::Watch(_)
+            | Step::Take(_) => None,
+            Step::Compact(revision) => Some(self.plan_compaction(*revision)),
+            Step::Grant(request) => Some(self.plan_grant(request)),
+            Step::KeepAlive(id) => Some(self.plan_keep_alive(*id)),
+            Step::Revoke(id) => Some(self.plan_revoke(*id)),
+            Step::DropWatch(slot) => Some(self.plan_drop(*slot)),
+            Step::CatchUp(budget) => Some(self.plan_catch_up(*budget)),
+            Step::Alarm(request) => Some(self.plan_alarm(request)),
+            Step::Status => Some(self.plan_status()),
+            Step::Defragment => Some(self.plan_defragment()),
+            Step::Tick(moment) => Some(plan_tick(*moment)),
+        }
+    }
+
+    /// Decides a step that takes memory.
+    fn decide_with_memory(&self, alloc: Global, step: &Step) -> Mem<Planned>
+        requires gate { gate (tenant self.now) step.now ≡ None }
+        requires takes { takes_memory step.now ≡ true }
+        ensures does { IfOk result (λ p. Does self.now p (past_gate (tenant self.now) step.now)) }
+        ensures fits { IfOk result (λ p. Fits self.now p) }
+        ensures stopped { is_some (look_up kept_store (tenant self.now) step.now) ≡ true → IsOk result }
+    {
         match step {
             Step::Range(request) => self.plan_range(alloc, request),
             Step::Put(request) => self.plan_put(alloc, request),
             Step::Delete(request) => self.plan_delete(alloc, request),
             Step::Txn(request) => self.plan_txn(alloc, request),
-            Step::Compact(revision) => Ok(self.plan_compaction(*revision)),
-            Step::Grant(request) => Ok(self.plan_grant(request)),
-            Step::KeepAlive(id) => Ok(self.plan_keep_alive(*id)),
-            Step::Revoke(id) => Ok(self.plan_revoke(*id)),
             Step::TimeToLive { id, keys } => self.plan_time_to_live(alloc, *id, *keys),
             Step::Leases => self.plan_leases(alloc),
             Step::Watch(request) => self.plan_watch(alloc, request),
             Step::Take(slot) => self.plan_take(alloc, *slot),
-            Step::DropWatch(slot) => Ok(self.plan_drop(*slot)),
-            Step::CatchUp(budget) => Ok(self.plan_catch_up(*budget)),
-            Step::Alarm(request) => Ok(self.plan_alarm(request)),
-            Step::Status => Ok(self.plan_status()),
-            Step::Defragment => Ok(self.plan_defragment()),
-            Step::Tick(moment) => Ok(plan_tick(*moment)),
+            _ => unreachable!(),
         }
     }
 }
