@@ -1,11 +1,12 @@
 //! The calls, and the steps that their bodies ask for.
-ghost use Rattle.std.specs.Prelude.{◌≡◌, Ok, Err, nat_lt, length, if◌then◌else◌};
+ghost use Rattle.std.specs.Prelude.{◌≡◌, Ok, Err, IfSome, nat_lt, length, if◌then◌else◌};
 ghost use Rattle.serde_json.specs.View.{view};
 ghost use Rattle.etcd_types.specs.Limits.{max_body};
 ghost use Rattle.etcd_types.specs.declared.refusal.Refusal.TheVariants.{TooLarge};
 ghost use Rattle.etcd_model.specs.Members.{IsAnswer};
-ghost use Rattle.etcd_model.specs.Calls.{check_fields, read_call, read_members, read_posted};
+ghost use Rattle.etcd_model.specs.Calls.{call_of, check_fields, read_call, read_members, read_posted};
 ghost use Rattle.etcd_model.specs.Calls.{read_step};
+ghost use Rattle.gateway_json.specs.Unread.{oversize, refused_unread, unknown};
 
 use crate::body::read_body;
 use crate::kv::{read_compaction, read_delete, read_put, read_range};
@@ -68,7 +69,8 @@ fn check_size(body: &[u8]) -> Result<(), Refusal>
 /// read, else for its fields.
 #[tactic(auto, unfolding(etcd_model::specs::Calls::read_step))]
 pub fn read_step(alloc: Global, call: Call, body: &[u8]) -> Result<Step, Refusal>
-    ensures { IsAnswer result (read_step call body.now) }
+    ensures step { IsAnswer result (read_step call body.now) }
+    ensures unread { IfSome (oversize body.now) (λ refusal. result ≡ Err refusal) }
 {
     check_size(body)?;
     let value = read_body(alloc, body)?;
@@ -78,7 +80,8 @@ pub fn read_step(alloc: Global, call: Call, body: &[u8]) -> Result<Step, Refusal
 /// The step that a path, what follows `/v3/`, and a body ask for, or why they are refused.
 #[tactic(auto, unfolding(etcd_model::specs::Calls::read_call))]
 pub fn read_call(alloc: Global, path: &[u8], body: &[u8]) -> Result<Step, Refusal>
-    ensures { IsAnswer result (read_call path.now body.now) }
+    ensures step { IsAnswer result (read_call path.now body.now) }
+    ensures unread { IfSome (unknown (call_of path.now) (oversize body.now)) (λ refusal. result ≡ Err refusal) }
 {
     match call_of(path) {
         Some(call) => read_step(alloc, call, body),
@@ -89,7 +92,8 @@ pub fn read_call(alloc: Global, path: &[u8], body: &[u8]) -> Result<Step, Refusa
 /// `read_call` of a request with a method: any but `POST` is refused, after the path and before the
 /// body.
 pub fn read_posted(alloc: Global, method: &[u8], path: &[u8], body: &[u8]) -> Result<Step, Refusal>
-    ensures { IsAnswer result (read_posted method.now path.now body.now) }
+    ensures step { IsAnswer result (read_posted method.now path.now body.now) }
+    ensures unread { IfSome (refused_unread method.now path.now body.now) (λ refusal. result ≡ Err refusal) }
 {
     let Some(call) = call_of(path) else {
         return Err(Refusal::NoPath);

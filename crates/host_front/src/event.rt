@@ -59,6 +59,7 @@ pub enum LentEvent<'a> {
 }
 
 impl HostEvent {
+    /// The same event, with its bytes lent.
     pub fn lend(&self) -> LentEvent<'_>
         ensures { lent_event result ≡ event_of self.now }
     {

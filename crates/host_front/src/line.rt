@@ -59,6 +59,7 @@ pub enum LineAnswer {
 }
 
 impl HostLine {
+    /// The same line, with its bytes lent.
     pub fn lend(&self) -> LentLine<'_>
         ensures { lent_line result ≡ line_of self.now }
     {
