@@ -7,7 +7,7 @@ use serde_json::Value;
 use std::alloc::{AllocError, Global};
 use tenant_registry::{TenantConfig, check};
 
-/// How many threads serve calls where nothing is said.
+/// How many workers there are where nothing is said.
 const DEFAULT_WORKERS: u64 = 4;
 
 /// Where to listen, with how many workers, and which tenants there are.
@@ -17,7 +17,7 @@ pub struct Config {
     pub listen: String,
     /// How many segments the pool has.
     pub segments: u32,
-    /// How many threads serve calls, from 1 to 32.
+    /// How many threads serve the calls that the loops leave to them, from 1 to 32.
     pub workers: usize,
     /// How many connections are served before the end; without it there is none.
     pub connections: Option<u32>,

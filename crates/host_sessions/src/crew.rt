@@ -46,14 +46,21 @@ impl<R: Wait + Clock + Drop, G: Gate> Station<'_, R, G> {
 }
 
 /// Frees the slots of watches that ended after the pump did.
-fn free_slots<R: Wait + Clock + Drop, G: Gate>(
-    rt: &R,
-    caller: &mut Caller<'_, R, G>,
+fn free_slots<R: Wait + Clock + Copy + Drop, G: Gate>(
+    rt: R,
+    registry: &Registry,
+    gate: &G,
+    seats: &mut Vec<Seat>,
     desks: &[Mutex<Desk<R>>],
 ) {
+    let Some(seat) = seats.pop() else {
+        return;
+    };
+    let mut caller = Caller::new(rt, registry, gate, seat);
     for desk in desks {
-        drop_closed(caller, &mut *desk.lock(rt));
+        drop_closed(&mut caller, &mut *desk.lock(&rt));
     }
+    let _ = seats.push(caller.into_seat());
 }
 
 /// Runs a function that brings connections, or their jobs, and serves them by a thread for each seat: the clock, the
@@ -95,31 +102,16 @@ where
                 break;
             }
         }
-        let mut served = if crew.is_whole(roles) && loops.is_empty() {
+        let brought = if crew.is_whole(roles) && loops.is_empty() {
             bring(jobs)
         } else {
             drop(jobs);
             drop(bring);
             Err(ServeFault::Memory)
         };
-        let Crew { loops, others } = crew;
-        let mut back = Vec::new(alloc);
-        for thread in loops {
-            let (seat, end) = thread.join(&rt);
-            let _ = back.push(seat);
-            served = served.and(end);
-        }
-        floor.rota.end(&rt, roles);
-        for thread in others {
-            let (seat, _) = thread.join(&rt);
-            let _ = back.push(seat);
-        }
-        served?;
-        if let Some(seat) = back.pop() {
-            let mut caller = Caller::new(rt, registry, gate, seat);
-            free_slots(&rt, &mut caller, floor.desks.as_slice());
-            let _ = back.push(caller.into_seat());
-        }
+        let (mut back, served) = crew.dismiss(&rt, alloc, &floor.rota, roles);
+        brought.and(served)?;
+        free_slots(rt, registry, gate, &mut back, floor.desks.as_slice());
         Ok(back)
     })
 }
@@ -162,6 +154,31 @@ impl Crew {
             (Ok(thread), Ends::Last) => self.others.push(thread).is_ok(),
             (Err(_), _) => false,
         }
+    }
+
+    /// Waits for the loops, ends the turns, and waits for the others. It gives back their seats, and how the loops
+    /// ended.
+    fn dismiss<R: Threads + Wait>(
+        self,
+        rt: &R,
+        alloc: Global,
+        rota: &Rota,
+        roles: usize,
+    ) -> (Vec<Seat>, Result<(), ServeFault>) {
+        let Crew { loops, others } = self;
+        let mut seats = Vec::new(alloc);
+        let mut served = Ok(());
+        for thread in loops {
+            let (seat, end) = thread.join(rt);
+            let _ = seats.push(seat);
+            served = served.and(end);
+        }
+        rota.end(rt, roles);
+        for thread in others {
+            let (seat, _) = thread.join(rt);
+            let _ = seats.push(seat);
+        }
+        (seats, served)
     }
 
     /// There is a thread for each role, and a worker among them.

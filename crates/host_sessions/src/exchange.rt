@@ -181,21 +181,8 @@ impl<I: Drop, R: Wait + Copy + Drop> Future for Exchange<I, R> {
                 return Poll::Ready(answer.into_response(self.alloc));
             }
         }
-        if let Stage::Handed(handed) = &mut self.stage {
-            let told = ready!(handed.told.poll(cx));
-            let route = handed.route;
-            match told {
-                Ok(Told::Answered(answer)) => {
-                    return Poll::Ready(answer.into_response(self.alloc));
-                }
-                Ok(Told::Back(step)) => {
-                    if let Some(answer) = self.queue(route, Ask::Step(step)) {
-                        return Poll::Ready(answer.into_response(self.alloc));
-                    }
-                }
-                // The loop ended for want of memory.
-                Err(_) => return Poll::Ready(Err(hyper::Error::from(AllocError))),
-            }
+        if let Some(response) = ready!(self.poll_handed(cx)) {
+            return Poll::Ready(response);
         }
         if let Stage::Queueing(_) = &self.stage
             && !ready!(self.poll_room(cx))
@@ -288,6 +275,31 @@ impl<I: Drop, R: Wait + Copy + Drop> Exchange<I, R> {
             Offered::Refused => return Some(Answer::no_memory()),
         }
         None
+    }
+
+    /// What the loop told of a call that it was handed. One that it gave back is left in its tenant's queue.
+    fn poll_handed(
+        &mut self,
+        cx: &mut Context<'_>,
+    ) -> Poll<Option<Result<Response<AnswerBody<R>>, hyper::Error>>>
+        ensures registered { OnPending result (IsArmed cx.new) }
+        ensures kept { Keeps cx.old cx.new }
+    {
+        let Stage::Handed(handed) = &mut self.stage else {
+            return Poll::Ready(None);
+        };
+        let told = ready!(handed.told.poll(cx));
+        let route = handed.route;
+        let answer = match told {
+            Ok(Told::Answered(answer)) => Some(answer),
+            Ok(Told::Back(step)) => self.queue(route, Ask::Step(step)),
+            // The loop ended for want of memory.
+            Err(_) => return Poll::Ready(Some(Err(hyper::Error::from(AllocError)))),
+        };
+        match answer {
+            Some(answer) => Poll::Ready(Some(answer.into_response(self.alloc))),
+            None => Poll::Ready(None),
+        }
     }
 
     /// Leaves the job in the queue once there is room; `false` where there is no memory for it.
