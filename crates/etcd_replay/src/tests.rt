@@ -257,6 +257,14 @@ fn rows_are_answered_over_each_source(rt: HostRuntime) -> Mem<()> {
 }
 
 #[test]
+fn live_rows_are_answered_over_each_source(rt: HostRuntime) -> Mem<()> {
+    for row in &LIVE_ROWS {
+        assert_row_over_each(&rt, rt.alloc(), row)?;
+    }
+    Ok(())
+}
+
+#[test]
 fn shuffled_tenants_are_answered_as_alone(rt: HostRuntime) -> Mem<()> {
     let mut replay = Replay::new();
     let mut one = Part::new(rt.alloc(), "one")?;

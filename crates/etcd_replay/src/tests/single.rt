@@ -1,5 +1,6 @@
 //! Tenants with segments of their own, each from any source, which are answered as a host answers them.
-ghost use Rattle.std.specs.Prelude.{◌≡◌, IfOk};
+ghost use Rattle.std.specs.Prelude.{◌≡◌, ◌+◌, ◌≤◌, IfOk, IfSome, true};
+ghost use Rattle.etcd_types.specs.Limits.{max_quota, min_quota};
 
 use cell_arena::Segments;
 use etcd_types::limits::{DEFAULT_SEGMENTS, LAST_REVISION, MAX_QUOTA, MIN_QUOTA};
@@ -70,12 +71,7 @@ impl<S: Source> Single<S> {
         quota: u64,
         first: u64,
     ) -> Mem<Option<Single<S>>> {
-        if cluster == 0
-            || quota < MIN_QUOTA
-            || quota > MAX_QUOTA
-            || first == 0
-            || first > LAST_REVISION
-        {
+        if cluster == 0 || !is_quota(quota) || first == 0 || first > LAST_REVISION {
             return Ok(None);
         }
         let quota = quota as u32;
@@ -86,6 +82,25 @@ impl<S: Source> Single<S> {
             segments: S::make(alloc, reserved)?,
             reserved,
         }))
+    }
+
+    /// Takes another quota, over a new source from which as many segments are drawn as were of the old one.
+    fn resize(&mut self, alloc: Global, quota: u32, unreserved: u32) -> Mem<&'static str>
+        requires { quota ≤ max_quota }
+    {
+        let reserved = self.machine.reservation(quota);
+        if reserved.saturating_sub(self.reserved) > unreserved {
+            return Ok("no short");
+        }
+        let drawn = self.reserved.saturating_sub(self.segments.left());
+        let Some(segments) = drawn_from(S::make(alloc, reserved)?, reserved, drawn) else {
+            return Ok("no source");
+        };
+        self.machine.grow_rooms(quota)?;
+        self.machine.set_quota(quota);
+        self.segments = segments;
+        self.reserved = reserved;
+        Ok("ok")
     }
 
     /// The status and the body that an event is answered.
@@ -127,6 +142,31 @@ impl<S: Source> Single<S> {
     }
 }
 
+fn is_quota(quota: u64) -> bool
+    ensures least { result ≡ true → min_quota ≤ quota }
+    ensures greatest { result ≡ true → quota ≤ max_quota }
+{
+    quota >= MIN_QUOTA && quota <= MAX_QUOTA
+}
+
+/// The source once so many of its segments are drawn, if it counts them.
+fn drawn_from<S: Source>(source: S, reserved: u32, drawn: u32) -> Option<S>
+    ensures left { IfSome result (λ lent. (S.loan lent).left + drawn ≡ reserved) }
+    ensures room { IfSome result (λ lent. drawn ≤ (S.loan lent).room) }
+{
+    let mut source = source;
+    for _ in 0..drawn {
+        if source.left() > 0 {
+            drop(source.draw());
+        }
+    }
+    if drawn <= reserved && source.left() == reserved - drawn && source.room() >= drawn {
+        Some(source)
+    } else {
+        None
+    }
+}
+
 /// Tenants by name.
 #[derive(Drop)]
 pub(super) struct Singles<S: Source> {
@@ -152,8 +192,9 @@ impl<S: Source> Singles<S> {
                 quota,
                 first,
             } => self.add(alloc, name, cluster, quota, first),
+            LentLine::Resize { name, quota } => self.resize(alloc, name, quota),
             LentLine::Remove { name } => Ok(self.remove(name)),
-            LentLine::Resize { .. } | LentLine::Event(_) => Ok(""),
+            LentLine::Event(_) => Ok(""),
         }
     }
 
@@ -176,6 +217,19 @@ impl<S: Source> Singles<S> {
         }
         self.tenants.push(single)?;
         Ok("ok")
+    }
+
+    fn resize(&mut self, alloc: Global, name: &[u8], quota: u64) -> Mem<&'static str> {
+        if !is_quota(quota) {
+            return Ok("no limits");
+        }
+        let unreserved = self.unreserved();
+        for single in self.tenants.iter_mut() {
+            if single.name.as_slice() == name {
+                return single.resize(alloc, quota as u32, unreserved);
+            }
+        }
+        Ok("no tenant")
     }
 
     fn remove(&mut self, name: &[u8]) -> &'static str {
