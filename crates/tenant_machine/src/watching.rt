@@ -24,7 +24,10 @@ impl Machine {
         ensures fits { IfOk result (λ p. Fits self.now p) }
     {
         Ok(
-            match self.watchers.plan_create(alloc, &self.store, self.moment, request)? {
+            match self
+                .watchers
+                .plan_create(alloc, &self.store, self.moment, request)?
+            {
                 Ok(new) => self.opening(new, request.watch_id),
                 Err(refusal) => Planned::refused(refusal),
             },

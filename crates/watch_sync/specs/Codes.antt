@@ -12,8 +12,10 @@ watch_code =
     (coded× (coded× bytes_code bytes_code)
     (coded× (coded× (coded× coded_bool coded_bool) (coded× coded_bool coded_bool))
     (coded× coded_ℤ (coded× coded_ℕ coded_ℕ))))
-    (λ w. ((w.key, w.range_end),
-        (((w.no_put, w.no_delete), (w.prev_kv, w.progress_notify)), (w.id, (w.next, w.told)))))
+    (λ w. (
+      (w.key, w.range_end),
+      (((w.no_put, w.no_delete), (w.prev_kv, w.progress_notify)), (w.id, (w.next, w.told))),
+    ))
     (λ p. record {
       key = p.0.0;
       range_end = p.0.1;

@@ -53,12 +53,7 @@ fn watch_of(alloc: Global, current: u64, moment: u64, request: &WatchReq) -> Mem
 
 impl OpenWatch {
     /// The watch that a request asks for at a moment, with an empty ring.
-    pub fn open(
-        alloc: Global,
-        store: &Store,
-        moment: u64,
-        request: &WatchReq,
-    ) -> Mem<OpenWatch>
+    pub fn open(alloc: Global, store: &Store, moment: u64, request: &WatchReq) -> Mem<OpenWatch>
         ensures watch { IfOk result (λ new. new.watch
             ≡ watch_of store.now.kept.current moment request.now) }
         ensures agrees { IfOk result (λ new. Agrees new store.now) }
