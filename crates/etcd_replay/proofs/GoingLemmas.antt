@@ -3,11 +3,10 @@ use Rattle.std.proofs.Common.{◌≡◌, ◌≢◌, ◌∙◌, sym, ap, subst, r
 use Rattle.std.proofs.lemmas.Bool.{true≢false}
 use Rattle.std.proofs.lemmas.Grind.{flat_map-append}
 use Rattle.std.proofs.KnownBytes.{Appends-kept, Appends-nil, Appends-trans}
-use Rattle.std.specs.Io.KnownBytes.{Appends, Keeps}
+use Rattle.std.specs.Io.KnownBytes.{Appends, Keeps, append_known}
 use Rattle.std.specs.Io.BufRead.{take_through, drop_through, strip_last, DropsThrough}
 use Rattle.etcd_types.specs.Limits.{max_script_line}
 use Rattle.host_front.specs.declared.line.LineAnswer.{LineAnswer}
-use Rattle.host_front.specs.declared.line.LineAnswer.TheVariants.{Done}
 use Rattle.host_front.specs.Lines.{LineTurn, line_turn}
 use Rattle.host_front.specs.Living.{AreLived}
 use Rattle.host_front.proofs.Lived.{all_lived, lived_push}
@@ -18,13 +17,15 @@ use Rattle.etcd_replay.specs.declared.fault.ReplayFault.TheVariants as fault
 use Rattle.etcd_replay.specs.declared.lines.Taken.{Taken}
 use Rattle.etcd_replay.specs.declared.lines.Taken.TheVariants.{Line, TooLong}
 use Rattle.steps_core.specs.Hosts.{HostState}
-use Rattle.etcd_replay.specs.Script.{Asked, Pool, Live, is_first, lines_of, read_line, read_lines, read_words}
+use Rattle.etcd_replay.specs.Script.{Asked, Pool, Live, lines_of, read_line, read_lines, read_words}
 use Rattle.etcd_replay.specs.Answers.{answer_line}
 use Rattle.etcd_replay.specs.Replaying.{Tells, asked_in, first_host, told_in}
 use Rattle.etcd_replay.specs.Lines.{BeginsTooLong, BeginsWithLine}
-use Rattle.etcd_replay.specs.Written.{EndsAtLine, EndsEarly, Replays, Wrote}
+use Rattle.etcd_replay.specs.Fronts.{AppendsFront}
+use Rattle.etcd_replay.specs.Written.{EndsAtLine, EndsCut, EndsEarly, Replays, Wrote}
 use Rattle.etcd_replay.specs.Going.{Going}
 use Rattle.etcd_replay.proofs.FirstLine.{first_line, at_end}
+use Rattle.etcd_replay.proofs.FrontLemmas.{appends_known, front_behind, front_of_all}
 use Rattle.etcd_replay.proofs.ReadLemmas.{first_is, pool_is_first, read_push}
 use Rattle.etcd_replay.proofs.TurnLemmas.{none_told, read_more, told_more}
 
@@ -188,7 +189,54 @@ pub going_among : (o now old new : Option (List ℕ)) (host : HostState) (n : �
 going_among None now old new host n going = tt
 going_among (Some script) now old new host n going =
     let g : Going script now old new host n = going in
-    record { before = g.done; rest = lines_of g.rest; lines = g.lines; wrote = so_far script now old new host n g }
+    record { before = g.done; rest = lines_of g.rest; lines = g.lines; answered = so_far script now old new host n g }
+
+-- the answers of the lines that are done are written whole
+pub going_whole : (o now old new : Option (List ℕ)) (host : HostState) (n : ℕ) → IfSome o (λ script. Going script now old new host n)
+    → IfSome o (λ script. EndsCut script old new)
+going_whole None now old new host n going = tt
+going_whole (Some script) now old new host n going =
+    let g : Going script now old new host n = going in
+    record {
+      before = g.done;
+      rest = lines_of g.rest;
+      lines = g.lines;
+      answered = record {
+        pool = g.pool;
+        turns = g.turns;
+        last = host;
+        read = g.read;
+        lived = all_lived (first_host g.pool) host g.turns g.lived;
+        text = front_of_all old new (flat_map answer_line (told_in g.pool g.turns)) g.text;
+      };
+    }
+
+-- the answer of one more line is not written whole
+pub going_cut : (o now next old mid new : Option (List ℕ)) (before after : HostState) (n : ℕ) (line : List ℕ) (q : Asked) (a : LineAnswer)
+    → IfSome o (λ script. Going script now old mid before n) → BeginsWithLine now line → DropsThrough now next 10 → line ≢ []
+    → read_line (n == 0) (strip_last 10 line) ≡ Some q → Tells before q a after → AppendsFront mid new (answer_line a)
+    → IfSome o (λ script. EndsCut script old new)
+going_cut None now next old mid new before after n line q a going taken drops some is tells cut = tt
+going_cut (Some script) now next old mid new before after n line q a going taken drops some is tells cut =
+    let g : Going script now old mid before n = going in
+    let whole : Going script next old (append_known mid (answer_line a)) after (n + 1) =
+    going_asked script now next old mid (append_known mid (answer_line a)) before after n line g taken drops some q a is tells
+    (appends_known mid (answer_line a)) in
+    record {
+      before = whole.done;
+      rest = lines_of whole.rest;
+      lines = whole.lines;
+      answered = record {
+        pool = whole.pool;
+        turns = whole.turns;
+        last = after;
+        read = whole.read;
+        lived = all_lived (first_host whole.pool) after whole.turns whole.lived;
+        text =
+            front_behind old mid new (flat_map answer_line (told_in g.pool g.turns))
+            (flat_map answer_line (told_in whole.pool whole.turns)) (answer_line a) g.text whole.text cut;
+      };
+    }
 
 -- a fault that is not that of a line
 pub going_fault : {T : Type 0} (r : Result T ReplayFault) (f : ReplayFault) (o now old new : Option (List ℕ))
@@ -196,7 +244,7 @@ pub going_fault : {T : Type 0} (r : Result T ReplayFault) (f : ReplayFault) (o n
     → IfSome o (λ script. Going script now old new host n) → Replays o old new r
 going_fault (Ok end) f o now old new host n is named going = absurd (true≢false (sym is.0))
 going_fault (Err (fault.Line m)) f o now old new host n is named going = absurd (named m (sym is.1))
-going_fault (Err fault.Io) f o now old new host n is named going = tt
+going_fault (Err fault.Io) f o now old new host n is named going = going_whole o now old new host n going
 going_fault (Err fault.Memory) f o now old new host n is named going = going_among o now old new host n going
 
 -- ---- a line that is too long

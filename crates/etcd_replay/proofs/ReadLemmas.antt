@@ -11,7 +11,7 @@ use Rattle.etcd_types.specs.declared.limits.TheConstants.{MAX_SEGMENTS}
 use Rattle.etcd_types.specs.declared.step.Step.{Step}
 use Rattle.etcd_types.specs.declared.step.Step.TheVariants.{Take, DropWatch, Tick, CatchUp}
 use Rattle.host_front.specs.declared.front.Front.{Front}
-use Rattle.host_front.specs.Lines.{Line, Remove, Resize}
+use Rattle.host_front.specs.Lines.{Resize}
 use Rattle.etcd_replay.specs.Script.{Asked, Pool, Live, Parts, call_asked, in_place, is_first, removed_by}
 use Rattle.etcd_replay.specs.Script.{number_of, parts_of, pool_of, read_line, read_lines, read_word, read_words}
 use Rattle.etcd_replay.specs.Script.{read_pool, read_add, read_resize, read_remove, read_call_line, read_take, read_drop, read_tick}

@@ -1,13 +1,11 @@
 -- One more line of a script, by what it asks for and what it is answered.
-use Rattle.std.proofs.Common.{◌≡◌, ◌∙◌, ap, refl, ℕ, List, [], ◌∷◌, ◌++◌, length, map, flat_map, arith}
+use Rattle.std.proofs.Common.{◌≡◌, ◌∙◌, ap, refl, ℕ, List, [], ◌∷◌, ◌++◌, map}
 use Rattle.std.proofs.Common.{Option, None, Some}
 use Rattle.std.proofs.lemmas.List.{map-append}
-use Rattle.host_front.specs.declared.line.LineAnswer.{LineAnswer}
 use Rattle.host_front.specs.declared.line.LineAnswer.TheVariants.{Done}
 use Rattle.host_front.specs.Lines.{LineTurn}
-use Rattle.etcd_replay.specs.Script.{Asked, Live, Pool}
-use Rattle.etcd_replay.specs.Answers.{answer_line}
-use Rattle.etcd_replay.specs.Replaying.{asked_in, asked_live, told_in, told_live}
+use Rattle.etcd_replay.specs.Script.{Live, Pool}
+use Rattle.etcd_replay.specs.Replaying.{asked_in, told_in}
 
 asked_more : (pool : Option ℕ) (xs : List LineTurn) (x : LineTurn)
     → asked_in pool (xs ++ x ∷ []) ≡ asked_in pool xs ++ Live x.line ∷ []

@@ -3,6 +3,7 @@ pub mod Lines
 pub mod Parted
 pub mod Answers
 pub mod Replaying
+pub mod Fronts
 pub mod Written
 pub mod Going
 pub mod Faults

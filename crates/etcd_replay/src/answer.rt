@@ -1,10 +1,11 @@
 //! What is answered to a line of a script.
-ghost use Rattle.std.specs.Prelude.{◌≡◌, OnOk};
+ghost use Rattle.std.specs.Prelude.{◌≡◌, OnErr, OnOk};
 ghost use Rattle.std.specs.Io.KnownBytes.{Appends};
 ghost use Rattle.etcd_replay.specs.Answers.{answer_line, body_line, word_of};
+ghost use Rattle.etcd_replay.specs.Fronts.{AppendsFront};
 
 use host_front::LineAnswer;
-use std::io::{self, Write};
+use std::io::{self, ErrorKind, Write};
 use steps_core::OperatorFault;
 
 fn word(fault: OperatorFault) -> &'static str
@@ -20,20 +21,41 @@ fn word(fault: OperatorFault) -> &'static str
     }
 }
 
-/// Writes the answer line. It takes no memory.
+/// Writes the bytes, or a front of them where the writer fails.
+fn write_bytes<W: Write>(writer: &mut W, bytes: &[u8]) -> io::Result<()>
+    ensures whole { OnOk result (Appends (W.contents writer.old) (W.contents writer.new) bytes.now) }
+    ensures cut { OnErr result (AppendsFront (W.contents writer.old) (W.contents writer.new) bytes.now) }
+{
+    let mut rest = bytes;
+    for _ in 0..u64::MAX {
+        if rest.is_empty() {
+            return Ok(());
+        }
+        match writer.write(rest) {
+            Ok(0) => return Err(io::Error::from(ErrorKind::WriteZero)),
+            Ok(taken) => rest = &rest[taken..],
+            Err(error) if error.kind() == ErrorKind::Interrupted => {}
+            Err(error) => return Err(error),
+        }
+    }
+    Err(io::Error::from(ErrorKind::Other))
+}
+
+/// Writes the answer line, or a front of it where the writer fails. It takes no memory.
 pub(crate) fn write_answer<W: Write>(writer: &mut W, answer: &LineAnswer) -> io::Result<()>
-    ensures { OnOk result (Appends (W.contents writer.old) (W.contents writer.new) (answer_line answer.now)) }
+    ensures whole { OnOk result (Appends (W.contents writer.old) (W.contents writer.new) (answer_line answer.now)) }
+    ensures cut { OnErr result (AppendsFront (W.contents writer.old) (W.contents writer.new) (answer_line answer.now)) }
 {
     match answer {
-        LineAnswer::Done => writer.write_all(b"ok\n"),
+        LineAnswer::Done => write_bytes(writer, b"ok\n"),
         LineAnswer::No(fault) => {
-            writer.write_all(b"no ")?;
-            writer.write_all(word(*fault).as_bytes())?;
-            writer.write_all(b"\n")
+            write_bytes(writer, b"no ")?;
+            write_bytes(writer, word(*fault).as_bytes())?;
+            write_bytes(writer, b"\n")
         }
         LineAnswer::Event(answer) => {
             let mut digits = itoa::Buffer::new();
-            writer.write_all(digits.format(answer.status()).as_bytes())?;
+            write_bytes(writer, digits.format(answer.status()).as_bytes())?;
             write_body(writer, answer.body())
         }
     }
@@ -41,14 +63,16 @@ pub(crate) fn write_answer<W: Write>(writer: &mut W, answer: &LineAnswer) -> io:
 
 /// Writes a space and the body, where there is one, and a newline unless the body ends with one.
 fn write_body<W: Write>(writer: &mut W, body: &[u8]) -> io::Result<()>
-    ensures { OnOk result (Appends (W.contents writer.old) (W.contents writer.new) (body_line body.now)) }
+    ensures whole { OnOk result (Appends (W.contents writer.old) (W.contents writer.new) (body_line body.now)) }
+    ensures cut { OnErr result (AppendsFront (W.contents writer.old) (W.contents writer.new) (body_line body.now)) }
 {
-    if !body.is_empty() {
-        writer.write_all(b" ")?;
-        writer.write_all(body)?;
+    if body.is_empty() {
+        return write_bytes(writer, b"\n");
     }
+    write_bytes(writer, b" ")?;
+    write_bytes(writer, body)?;
     match body {
         [.., b'\n'] => Ok(()),
-        _ => writer.write_all(b"\n"),
+        _ => write_bytes(writer, b"\n"),
     }
 }

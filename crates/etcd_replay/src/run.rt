@@ -14,7 +14,7 @@ use std::io::{BufRead, Write};
 /// time.
 ///
 /// The writer is flushed before the reader may wait for more of the script. After an early end that is left
-/// to the caller.
+/// to the caller. Where the reader or the writer failed, what was written is a front of the answers.
 ///
 /// It ends early at the first line that can't be read, at a fault of the reader or the writer, after
 /// 4,294,967,295 lines, and where a line or the pool can't be held.

@@ -6,7 +6,7 @@ use Rattle.etcd_replay.proofs.ReadLemmas.{line_in_place}
 use Rattle.etcd_replay.specs.Going.{Going}
 use Rattle.etcd_replay.specs.Script.{asked_by, read_line}
 use Rattle.etcd_replay.proofs.GoingLemmas.{going_first, going_more, going_ends, going_stops, going_among}
-use Rattle.etcd_replay.proofs.GoingLemmas.{going_long, going_fault, going_kept, line_taken, empty_is, full_is}
+use Rattle.etcd_replay.proofs.GoingLemmas.{going_cut, going_whole, going_long, going_fault, going_kept, line_taken, empty_is, full_is}
 use Rattle.std.specs.Prelude.{◌==◌}
 use borrow.Author.Tests.{eqb-true}
 use Rattle.etcd_replay.proofs.run.run_lines.Goals as goal
@@ -70,7 +70,7 @@ loop-n-preserved g c =
       going =
           going_more _ _ _ _ _ _ _ _ _ _ (asked_by c.in-Some.asked) c.in-Ok.answer going
           (c.in_ok-take_line.ensures.line line) (c.in_ok-take_line.ensures.rest line) some is
-          c.in-Ok.ensures c.in-Ok-write_answer.ensures;
+          c.in-Ok.ensures c.in-Ok-write_answer.ensures.whole;
       first = λ zero. absurd (omega (arith, zero));
     }
 
@@ -79,3 +79,19 @@ answer-requires g c =
     let text = c.without_newline.ensures ∙ ap (strip_last 10) c.deref.ensures.value in
     let is = ap (read_line (c.loop-n.n == 0)) (sym text) ∙ sym c.in-Some.ensures in
     line_in_place _ (c.loop-n.n == 0) _ _ is (λ zero. c.loop-n.invariant.first (eqb-true _ 0 zero))
+
+pub returns-in_default-write_answer : goal.returns-in_default-write_answer
+returns-in_default-write_answer g c =
+    let going = going_kept _ _ _ _ _ _ _ c.loop-n.invariant.going c.in_ok-take_line.ensures.written in
+    let line = ap Ok (line_taken c.in_ok-take_line.field-0 c.in_default.not-TooLong) in
+    let len : vec_len c.take_line.new.line ≡ length c.take_line.new.line.items =
+    omega (arith, c.take_line.new.line.ok.0) in
+    let some = full_is _ _ len (sym c.is_empty.ensures ∙ c.if-is_empty.false) in
+    let text = c.without_newline.ensures ∙ ap (strip_last 10) c.deref.ensures.value in
+    let is = ap (read_line (c.loop-n.n == 0)) (sym text) ∙ sym c.in-Some.ensures in
+    going_cut _ _ _ _ _ _ _ _ _ _ (asked_by c.in-Some.asked) c.in-Ok.answer going
+    (c.in_ok-take_line.ensures.line line) (c.in_ok-take_line.ensures.rest line) some is
+    c.in-Ok.ensures c.in_default-write_answer.ensures.cut
+
+pub returns : goal.returns
+returns g c = going_whole _ _ _ _ _ _ c.loop-n.invariant.going
