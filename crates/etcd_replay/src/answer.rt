@@ -22,6 +22,8 @@ fn word(fault: OperatorFault) -> &'static str
 }
 
 /// Writes the bytes, or a front of them where the writer fails.
+///
+/// The library's `write_all` does the same, and does not say what was written where it fails.
 fn write_bytes<W: Write>(writer: &mut W, bytes: &[u8]) -> io::Result<()>
     ensures whole { OnOk result (Appends (W.contents writer.old) (W.contents writer.new) bytes.now) }
     ensures cut { OnErr result (AppendsFront (W.contents writer.old) (W.contents writer.new) bytes.now) }

@@ -1,5 +1,6 @@
 use Rattle.std.proofs.Common.{◌∙◌, refl, ap, decimal}
-use Rattle.cell_arena.proofs.Fronts.{held_err, on_err}
+use Rattle.std.proofs.lemmas.Result.{on_err_weaker}
+use Rattle.cell_arena.proofs.Fronts.{held_err}
 use Rattle.etcd_replay.specs.Answers.{word_of}
 use Rattle.etcd_replay.proofs.AnswerLemmas.{no_cut, word_cut, end_cut, status_cut, told_cut}
 use Rattle.etcd_replay.proofs.answer.write_answer.Goals as goal
@@ -21,7 +22,7 @@ returns-in_err-write_bytes-in-Event-clause-cut g c =
 
 pub returns-in_ok-write_bytes-in-No-2-clause-cut : goal.returns-in_ok-write_bytes-in-No-2-clause-cut
 returns-in_ok-write_bytes-in-No-2-clause-cut g c =
-    on_err _ _ _
+    on_err_weaker _
     (end_cut c.args.answer.now c.in-No.fault c.as_bytes.result.now c.in-No.is (c.as_bytes.ensures.value ∙ c.word.ensures) _ _ _ _
     c.in_ok-write_bytes-in-No.ensures.whole c.in_ok-write_bytes-in-No-2.ensures.whole)
     c.write_bytes-in-No-3.ensures.cut
@@ -29,7 +30,7 @@ returns-in_ok-write_bytes-in-No-2-clause-cut g c =
 pub returns-in_ok-write_bytes-in-Event-clause-cut : goal.returns-in_ok-write_bytes-in-Event-clause-cut
 returns-in_ok-write_bytes-in-Event-clause-cut g c =
     let text = c.as_bytes-in-Event.ensures.value ∙ c.format.ensures.text ∙ ap decimal c.status.ensures in
-    on_err _ _ _
+    on_err_weaker _
     (told_cut c.args.answer.now c.in-Event.answer _ c.in-Event.is text _ _ _ c.body.result.now c.body.ensures
     c.in_ok-write_bytes-in-Event.ensures.whole)
     c.write_body.ensures.cut

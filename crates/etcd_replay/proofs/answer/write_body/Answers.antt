@@ -1,6 +1,7 @@
 use Rattle.std.proofs.Common.{rules, ◌≡◌, sym, refl, false}
 use Rattle.std.specs.Io.BufRead.{ends_with_byte}
-use Rattle.cell_arena.proofs.Fronts.{held_err, on_err}
+use Rattle.std.proofs.lemmas.Result.{on_err_weaker}
+use Rattle.cell_arena.proofs.Fronts.{held_err}
 use Rattle.etcd_replay.proofs.AnswerLemmas.{space_cut, body_cut, newline_cut}
 use Rattle.etcd_replay.proofs.GoingLemmas.{full_is}
 use Rattle.etcd_replay.proofs.answer.write_body.Goals as goal
@@ -19,6 +20,6 @@ pub returns-in_default-clause-cut : goal.returns-in_default-clause-cut
 returns-in_default-clause-cut g c =
     let some = full_is _ c.args.body.now refl (sym c.if-is_empty.ensures) in
     let unended : ends_with_byte 10 c.args.body.now ≡ false = search rules in
-    on_err _ _ _
+    on_err_weaker _
     (newline_cut _ _ _ _ c.args.body.now some unended c.in_ok-write_bytes.ensures.whole c.in_ok-write_bytes-2.ensures.whole)
     c.write_bytes-in_default.ensures.cut
