@@ -29,8 +29,6 @@ mod list;
 mod moves;
 mod place;
 mod search;
-#[cfg(test)]
-mod tests;
 mod walk;
 
 pub use list::ChunkList;

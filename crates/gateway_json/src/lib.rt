@@ -3,8 +3,6 @@
 
 mod body;
 mod call;
-#[cfg(test)]
-mod call_tests;
 mod choice;
 mod kv;
 mod lease;
@@ -14,8 +12,6 @@ mod member;
 mod names;
 mod paths;
 mod spelling;
-#[cfg(test)]
-mod tests;
 mod txn;
 mod watch;
 

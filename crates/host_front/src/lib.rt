@@ -10,8 +10,6 @@ mod front;
 mod law;
 mod line;
 mod living;
-#[cfg(test)]
-mod tests;
 
 pub use answer::Answer;
 pub use event::{HostEvent, LentEvent};

@@ -30,8 +30,6 @@ mod index;
 pub mod record_list;
 mod records;
 mod search;
-#[cfg(test)]
-mod tests;
 
 pub use compaction::kept_as_defined;
 pub use index::KeyIndex;

@@ -43,8 +43,6 @@ mod ending;
 mod granting;
 mod keys;
 mod places;
-#[cfg(test)]
-mod tests;
 
 pub use attachments::Attachment;
 pub use book::{Booked, LeaseBook};

@@ -8,12 +8,14 @@ ghost use Rattle.cell_arena.specs.Loan.{IsLent};
 ghost use Rattle.test_segments.specs.Shelf.{loan_of};
 
 mod alarm_rule;
+mod responses;
 mod scripts;
 mod steps;
 mod told;
 
 use alarm_rule::{Case, OF_ANOTHER_MEMBER, OF_THIS_MEMBER};
 use etcd_types::{AlarmReq, CopyOf, Header, Mem, Reply, Step};
+use responses::{RESPONSES, Response};
 use scripts::{
     Ask, BRANCHES_AT_A_FULL_QUOTA, BRANCHES_UNDER_THE_ALARM, DUE, FULL_OF_LEASES, HINTED,
     HintedLine, LEASES, Line, NO_WATCH, NOT_OFFERED, PAST_FOUR_CELLS, PUT, PUT_AGAIN,
@@ -101,6 +103,19 @@ fn assert_told(rt: &impl Abort, alloc: Global, quota: u32, lines: &[Line]) -> Me
     let mut tenant = Tenant::new(alloc, quota)?;
     for (number, line) in lines.iter().enumerate() {
         assert_line(rt, alloc, &mut tenant, number, line)?;
+    }
+    Ok(())
+}
+
+/// A new tenant puts the keys of each revision, and then a watch of them is opened and taken from.
+fn assert_response(rt: &impl Abort, alloc: Global, response: &Response) -> Mem<()> {
+    let mut tenant = Tenant::new(alloc, 64)?;
+    for count in response.puts {
+        tenant.told(alloc, Ask::PutKeys(*count))?;
+    }
+    tenant.told(alloc, Ask::WatchKeys)?;
+    for (number, wanted) in response.takes.iter().enumerate() {
+        assert_line(rt, alloc, &mut tenant, number, &(Ask::Take(0), *wanted))?;
     }
     Ok(())
 }
@@ -285,4 +300,12 @@ fn refuses_what_is_looked_up(rt: HostRuntime) -> Mem<()> {
 #[test]
 fn watches_are_told_and_canceled(rt: HostRuntime) -> Mem<()> {
     assert_told(&rt, rt.alloc(), 64, &WATCHES)
+}
+
+#[test]
+fn a_response_has_sixteen_revisions(rt: HostRuntime) -> Mem<()> {
+    for response in &RESPONSES {
+        assert_response(&rt, rt.alloc(), response)?;
+    }
+    Ok(())
 }

@@ -1,5 +1,6 @@
-//! The worked rows, answered through `Registry::call` by two seats in turn.
+//! The worked rows, answered through `Registry::call` by two seats in turn, and what no row asks.
 mod callers;
+mod calls;
 mod opening;
 mod operator;
 

@@ -9,8 +9,6 @@ mod host;
 mod removing;
 mod resizing;
 mod tenant;
-#[cfg(test)]
-mod tests;
 
 pub use adding::{OperatorFault, is_name, is_quota, within_limits};
 pub use host::Host;

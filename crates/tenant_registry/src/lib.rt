@@ -16,8 +16,6 @@ mod removing;
 mod seat;
 mod tally;
 mod tenant;
-#[cfg(test)]
-mod tests;
 
 pub use adding::{TenantConfig, check};
 pub use audit::{Audit, Entry, Opening};

@@ -36,8 +36,6 @@ mod planned;
 mod slots;
 mod taking;
 mod telling;
-#[cfg(test)]
-mod tests;
 mod wanting;
 mod watch;
 mod watchers;

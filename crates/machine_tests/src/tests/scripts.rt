@@ -32,6 +32,10 @@ pub(super) enum Ask {
     Watch(i64),
     /// The same, of a watch that asks for word of progress.
     WatchProgress(i64),
+    /// A transaction that puts so many keys, three at most.
+    PutKeys(usize),
+    /// Of those keys, from the first change on.
+    WatchKeys,
     Take(u8),
     DropWatch(u8),
     CatchUp(u32),

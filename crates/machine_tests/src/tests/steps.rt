@@ -28,8 +28,10 @@ pub(super) fn step_of(alloc: Global, ask: Ask) -> Mem<Step> {
         Ask::Revoke(id) => Ok(Step::Revoke(id)),
         Ask::KeepAlive(id) => Ok(Step::KeepAlive(id)),
         Ask::TimeToLive(id) => Ok(Step::TimeToLive { id, keys: true }),
-        Ask::Watch(start) => watch_step(alloc, start, false),
-        Ask::WatchProgress(start) => watch_step(alloc, start, true),
+        Ask::Watch(start) => watch_step(alloc, b"foo", b"", start, false),
+        Ask::WatchProgress(start) => watch_step(alloc, b"foo", b"", start, true),
+        Ask::PutKeys(count) => put_keys(alloc, count),
+        Ask::WatchKeys => watch_step(alloc, b"a", b"d", 2, false),
         Ask::Take(slot) => Ok(Step::Take(slot)),
         Ask::DropWatch(slot) => Ok(Step::DropWatch(slot)),
         Ask::CatchUp(changes) => Ok(Step::CatchUp(changes)),
@@ -82,16 +84,36 @@ fn range_step(alloc: Global, revision: i64) -> Mem<Step> {
     }))
 }
 
-fn watch_step(alloc: Global, start: i64, progress_notify: bool) -> Mem<Step> {
+fn watch_step(
+    alloc: Global,
+    key: &[u8],
+    range_end: &[u8],
+    start: i64,
+    progress_notify: bool,
+) -> Mem<Step> {
     Ok(Step::Watch(WatchReq {
-        key: List::from_slice(alloc, b"foo")?,
-        range_end: List::new(alloc),
+        key: List::from_slice(alloc, key)?,
+        range_end: List::from_slice(alloc, range_end)?,
         start_revision: start,
         no_put: false,
         no_delete: false,
         prev_kv: false,
         watch_id: 0,
         progress_notify,
+    }))
+}
+
+/// A transaction that compares nothing and puts the first of three keys.
+fn put_keys(alloc: Global, count: usize) -> Mem<Step> {
+    let mut success = List::new(alloc);
+    for key in ["a", "b", "c"].iter().take(count) {
+        let put = put_request(alloc, Put { key: *key, ..BAR })?;
+        success.push(Op::Put(put))?;
+    }
+    Ok(Step::Txn(TxnReq {
+        compare: List::new(alloc),
+        success,
+        failure: List::new(alloc),
     }))
 }
 

@@ -1,0 +1,5 @@
+//! Tests of what is read of a request's body.
+#![tactic(auto)]
+
+#[cfg(test)]
+mod tests;

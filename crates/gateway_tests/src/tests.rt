@@ -1,0 +1,3 @@
+//! Texts, targets and bodies, and the steps that they are read as.
+mod bodies;
+mod calls;

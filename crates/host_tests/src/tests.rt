@@ -1,0 +1,3 @@
+//! What a host answers, asked in steps and in bytes.
+mod front;
+mod steps;

@@ -1,0 +1,147 @@
+//! Calls, turns, seats and closing, by worked examples.
+mod live;
+mod threads;
+
+use etcd_types::limits::{LAST_REVISION, MAX_QUOTA, MAX_SEATS, MIN_QUOTA};
+use etcd_types::{List, Mem, PutReq, Step};
+use segment_pool::Stock;
+use std::alloc::Global;
+use std::process::Abort;
+use std::rt::Clock;
+use std::sync::Wait;
+use std::test::Fail;
+use steps_core::OperatorFault;
+use tenant_machine::{Machine, segments_for};
+use tenant_registry::{
+    Audit, CloseFault, Closed, OpenGate, Receipt, Registry, Seat, SeatFault, TenantConfig,
+};
+
+/// The status and body of the first put of a tenant of cluster 7.
+const FIRST_PUT: &str =
+    r#"{"header":{"cluster_id":"7","member_id":"1","raft_term":"1","revision":"2"}}"#;
+
+fn put(alloc: Global) -> Mem<Step> {
+    Ok(Step::Put(PutReq {
+        key: List::from_slice(alloc, b"foo")?,
+        value: List::from_slice(alloc, b"bar")?,
+        lease: 0,
+        prev_kv: false,
+        ignore_value: false,
+        ignore_lease: false,
+    }))
+}
+
+fn config(alloc: Global, name: &str, cluster: u64, quota: u64, audit: u32) -> Mem<TenantConfig> {
+    Ok(TenantConfig {
+        name: Vec::from_slice(alloc, name.as_bytes())?,
+        cluster,
+        quota,
+        first: 1,
+        audit,
+    })
+}
+
+/// Two tenants: one of cluster 7 and 1,024 cells, two of cluster 8 and 2,048.
+fn two_tenants(alloc: Global, audit: u32) -> Result<Registry, OperatorFault> {
+    let mut configs = Vec::new(alloc);
+    let (Ok(one), Ok(two)) = (
+        config(alloc, "one", 7, 1024, audit),
+        config(alloc, "two", 8, 2048, audit),
+    ) else {
+        return Err(OperatorFault::Memory);
+    };
+    let (Ok(()), Ok(())) = (configs.push(one), configs.push(two)) else {
+        return Err(OperatorFault::Memory);
+    };
+    Registry::new(alloc, configs, 64)
+}
+
+/// A put on a tenant, which has a receipt.
+fn call<R: Wait + Clock + Abort>(
+    rt: &R,
+    alloc: Global,
+    registry: &Registry,
+    seat: &mut Seat,
+    tenant: &[u8],
+) -> Receipt {
+    let step = put(alloc).expect(rt, "memory");
+    registry
+        .call(rt, seat, &OpenGate, tenant, step)
+        .expect(rt, "the tenant is there")
+}
+
+/// The machine, run over an audit's steps from its opening, gives its replies.
+fn is_lawful(alloc: Global, audit: &Audit) -> Mem<bool> {
+    if audit.cluster == 0
+        || u64::from(audit.quota) < MIN_QUOTA
+        || u64::from(audit.quota) > MAX_QUOTA
+        || audit.first < 1
+        || audit.first as u64 > LAST_REVISION
+    {
+        return Ok(false);
+    }
+    let segments = segments_for(audit.quota);
+    let mut machine = Machine::new(alloc, audit.cluster, audit.quota, audit.first)?;
+    let mut stock = Stock::new(alloc, segments)?;
+    stock.make_room(segments)?;
+    for entry in &audit.entries {
+        let reply = machine.step(alloc, &mut stock, &entry.step);
+        if !reply.same_as(&entry.reply) {
+            return Ok(false);
+        }
+    }
+    Ok(true)
+}
+
+#[test]
+fn a_full_audit_serves_on(rt: HostRuntime) -> Result<(), Fail> {
+    let mut registry = two_tenants(rt.alloc(), 2).expect(&rt, "two tenants");
+    let mut seat = registry.seat().expect(&rt, "a seat");
+    let first = call(&rt, rt.alloc(), &registry, &mut seat, b"one");
+    assert_eq!(rt; (first.turn(), first.status()), (Some(0), 200));
+    assert!(rt; first.body() == FIRST_PUT.as_bytes());
+    let second = call(&rt, rt.alloc(), &registry, &mut seat, b"one");
+    assert_eq!(rt; second.turn(), Some(1));
+    let third = call(&rt, rt.alloc(), &registry, &mut seat, b"one");
+    assert_eq!(rt; (third.turn(), third.status()), (None, 200));
+    assert_eq!(rt; (seat.made(b"one"), seat.missed(b"one")), (2, 1));
+    assert_eq!(rt; (seat.made(b"two"), seat.missed(b"two")), (0, 0));
+    let seats = vec![in rt.alloc(); seat]?;
+    let Closed { audits } = registry.close(seats).expect(&rt, "the audits close");
+    assert_eq!(rt; audits.len(), 2);
+    assert_eq!(rt; audits[0].1.entries.len(), 2);
+    assert_eq!(rt; (audits[1].1.cluster, audits[1].1.quota), (8, 2048));
+    Ok(())
+}
+
+#[test]
+fn who_is_there(rt: HostRuntime) -> Result<(), Fail> {
+    let mut registry = two_tenants(rt.alloc(), 0).expect(&rt, "two tenants");
+    assert!(rt; registry.has(b"two") && !registry.has(b"three"));
+    let mut seat = registry.seat().expect(&rt, "a seat");
+    let refused = registry.call(&rt, &mut seat, &OpenGate, b"three", put(rt.alloc())?);
+    assert!(rt; matches!(&refused, Err(etcd_types::Refusal::NoTenant)));
+    assert_eq!(rt; seat.missed(b"three"), 0);
+    Ok(())
+}
+
+#[test]
+fn seats_are_64(rt: HostRuntime) -> Result<(), Fail> {
+    let mut registry = two_tenants(rt.alloc(), 0).expect(&rt, "two tenants");
+    for _ in 0..MAX_SEATS {
+        assert!(rt; registry.seat().is_ok());
+    }
+    assert!(rt; matches!(&registry.seat(), Err(SeatFault::Full)));
+    Ok(())
+}
+
+#[test]
+fn seats_of_two_registries(rt: HostRuntime) -> Result<(), Fail> {
+    let mut registry = two_tenants(rt.alloc(), 8).expect(&rt, "two tenants");
+    let mut other = two_tenants(rt.alloc(), 8).expect(&rt, "two tenants");
+    let mut seats = Vec::new(rt.alloc());
+    seats.push(registry.seat().expect(&rt, "a seat"))?;
+    seats.push(other.seat().expect(&rt, "a seat"))?;
+    assert!(rt; matches!(&registry.close(seats), Err(CloseFault::Double(0))));
+    Ok(())
+}

@@ -1,0 +1,264 @@
+//! Several threads call one registry.
+use super::live::is_replayed;
+use super::{call, is_lawful, put, two_tenants};
+use etcd_types::Mem;
+use gateway_text::write_reply;
+use std::alloc::Global;
+use std::process::Abort;
+use std::rt::Clock;
+use std::sync::Wait;
+use std::sync::atomic::{AtomicBool, Ordering};
+use std::test::Fail;
+use std::thread::{self, Threads};
+use std::time::Duration;
+use tenant_registry::{CloseFault, Closed, Gate, Receipt, Registry, Seat};
+
+/// A caller's seat, with the receipts of its calls on the first tenant.
+#[derive(Drop)]
+struct Work {
+    seat: Seat,
+    receipts: Vec<Receipt>,
+}
+
+/// 100 calls of one seat, on two tenants in turn.
+fn make_calls<R: Wait + Clock + Abort>(
+    rt: &R,
+    alloc: Global,
+    registry: &Registry,
+    seat: Seat,
+) -> Work {
+    let mut work = Work {
+        seat,
+        receipts: Vec::new(alloc),
+    };
+    for _ in 0..50 {
+        let receipt = call(rt, alloc, registry, &mut work.seat, b"one");
+        work.receipts.push(receipt).expect(rt, "memory");
+        call(rt, alloc, registry, &mut work.seat, b"two");
+    }
+    work
+}
+
+fn four_seats(rt: &impl Abort, alloc: Global, registry: &mut Registry) -> Mem<Vec<Seat>> {
+    let mut seats = Vec::new(alloc);
+    for _ in 0..4 {
+        seats.push(registry.seat().expect(rt, "a seat"))?;
+    }
+    Ok(seats)
+}
+
+/// A thread for each seat, which makes 100 calls.
+fn work_of<R: Threads + Wait + Clock + Abort + Sync>(
+    rt: &R,
+    alloc: Global,
+    registry: &Registry,
+    seats: Vec<Seat>,
+) -> Mem<Vec<Work>> {
+    thread::map_vec(rt, seats, &|seat| make_calls(rt, alloc, registry, seat))
+}
+
+/// Four seats, each with a thread that makes 100 calls.
+fn work_of_four<R: Threads + Wait + Clock + Abort + Sync>(
+    rt: &R,
+    alloc: Global,
+    registry: &mut Registry,
+) -> Mem<Vec<Work>> {
+    let seats = four_seats(rt, alloc, registry)?;
+    work_of(rt, alloc, registry, seats)
+}
+
+/// The first tenant's entries of a seat have the texts of its receipts, in order.
+fn told_in_order(alloc: Global, closed: &Closed, number: usize, receipts: &[Receipt]) -> Mem<bool> {
+    let mut told = receipts.iter();
+    let Some(first) = closed.audits.first() else {
+        return Ok(false);
+    };
+    for entry in &first.1.entries {
+        if usize::from(entry.seat) == number {
+            let (status, body) = write_reply(alloc, &entry.reply)?;
+            match told.next() {
+                Some(receipt) if receipt.status() == status && receipt.body() == body.as_slice() =>
+                    {}
+                _ => return Ok(false),
+            }
+        }
+    }
+    Ok(told.next().is_none())
+}
+
+#[test]
+fn four_threads_close(rt: HostRuntime) -> Result<(), Fail> {
+    let mut registry = two_tenants(rt.alloc(), 1000).expect(&rt, "two tenants");
+    let mut seats = Vec::new(rt.alloc());
+    let mut receipts = Vec::new(rt.alloc());
+    for done in work_of_four(&rt, rt.alloc(), &mut registry)? {
+        let Work {
+            seat,
+            receipts: told,
+        } = done;
+        assert_eq!(rt; (seat.made(b"one"), seat.made(b"two")), (50, 50));
+        seats.push(seat)?;
+        receipts.push(told)?;
+    }
+    let closed = registry.close(seats).expect(&rt, "the audits close");
+    for audit in &closed.audits {
+        assert_eq!(rt; audit.1.entries.len(), 200);
+        assert!(rt; is_lawful(rt.alloc(), &audit.1)?);
+    }
+    for (number, told) in receipts.iter().enumerate() {
+        assert!(rt; told_in_order(rt.alloc(), &closed, number, told.as_slice())?);
+    }
+    Ok(())
+}
+
+/// The audit of a tenant has so many entries, and the seats have so many calls of it.
+fn is_mismatch(told: &Result<Closed, CloseFault>, name: &[u8], entries: u32, calls: u64) -> bool {
+    match told {
+        Err(
+            CloseFault::Mismatch {
+                tenant,
+                audit,
+                seats,
+            },
+        ) => tenant.as_slice() == name && *audit == entries && *seats == calls,
+        _ => false,
+    }
+}
+
+#[test]
+fn a_seat_that_is_kept_back_is_missed(rt: HostRuntime) -> Result<(), Fail> {
+    let mut registry = two_tenants(rt.alloc(), 1000).expect(&rt, "two tenants");
+    let mut seats = Vec::new(rt.alloc());
+    for done in work_of_four(&rt, rt.alloc(), &mut registry)? {
+        seats.push(done.seat)?;
+    }
+    let _kept_back = seats.pop();
+    let told = registry.close(seats);
+    assert!(rt; is_mismatch(&told, b"one", 200, 150));
+    Ok(())
+}
+
+/// Holds calls on the first tenant until another call was answered.
+#[derive(Drop)]
+struct Until<'a> {
+    /// A call on the first tenant is held, under its lock.
+    held: &'a AtomicBool,
+    answered: &'a AtomicBool,
+    last: &'a AtomicBool,
+}
+
+impl Gate for Until<'_> {
+    fn wait_more(&self, tenant: &[u8], turn: u32) -> bool {
+        if turn >= 9_999 {
+            self.last.store(true, Ordering::SeqCst);
+        }
+        if tenant != b"one".as_slice() {
+            return false;
+        }
+        self.held.store(true, Ordering::SeqCst);
+        !self.answered.load(Ordering::SeqCst)
+    }
+}
+
+/// Waits until this is so, ten seconds at most.
+fn wait_for<R: Clock>(rt: &R, so: &AtomicBool) {
+    for _ in 0..10_000 {
+        if so.load(Ordering::SeqCst) {
+            return;
+        }
+        thread::sleep(rt, Duration::from_millis(1));
+    }
+}
+
+fn held_call<R: Wait + Clock + Abort>(
+    rt: &R,
+    alloc: Global,
+    registry: &Registry,
+    mut seat: Seat,
+    gate: &Until,
+    tenant: &[u8],
+) -> bool {
+    let step = put(alloc).expect(rt, "memory");
+    registry.call(rt, &mut seat, gate, tenant, step).is_ok()
+}
+
+/// Two calls on two tenants: the first is held under its lock until the second, which begins later, was
+/// answered.
+fn overlap<R: Threads + Wait + Clock + Abort + Sync>(
+    rt: &R,
+    alloc: Global,
+    registry: &Registry,
+    one: Seat,
+    two: Seat,
+) -> bool {
+    let held = AtomicBool::new(false);
+    let answered = AtomicBool::new(false);
+    let last = AtomicBool::new(false);
+    let gate = Until {
+        held: &held,
+        answered: &answered,
+        last: &last,
+    };
+    let (first, second) = thread::join(
+        rt,
+        || held_call(rt, alloc, registry, one, &gate, b"one"),
+        || {
+            wait_for(rt, &held);
+            let told = held_call(rt, alloc, registry, two, &gate, b"two");
+            answered.store(true, Ordering::SeqCst);
+            told
+        },
+    );
+    first && second && !last.load(Ordering::SeqCst)
+}
+
+#[test]
+fn two_tenants_overlap(rt: HostRuntime) -> Result<(), Fail> {
+    let mut registry = two_tenants(rt.alloc(), 1).expect(&rt, "two tenants");
+    let one = registry.seat().expect(&rt, "a seat");
+    let two = registry.seat().expect(&rt, "a seat");
+    assert!(rt; overlap(&rt, rt.alloc(), &registry, one, two));
+    Ok(())
+}
+
+/// 100 quotas for the first tenant, which its cells in use come to pass.
+fn resize_often<R: Wait>(rt: &R, registry: &Registry) -> bool {
+    for turn in 0..100 {
+        let quota = if turn % 2 == 0 { 100 } else { 1024 };
+        if registry.resize(rt, b"one", quota).is_err() {
+            return false;
+        }
+    }
+    true
+}
+
+/// Threads that make calls, and one that resizes meanwhile.
+fn work_beside_resizes<R: Threads + Wait + Clock + Abort + Sync>(
+    rt: &R,
+    alloc: Global,
+    registry: &Registry,
+    seats: Vec<Seat>,
+) -> Mem<Vec<Work>> {
+    let (work, resized) = thread::join(
+        rt,
+        || work_of(rt, alloc, registry, seats),
+        || resize_often(rt, registry),
+    );
+    assert!(rt; resized);
+    work
+}
+
+#[test]
+fn four_threads_close_beside_resizes(rt: HostRuntime) -> Result<(), Fail> {
+    let mut registry = two_tenants(rt.alloc(), 1000).expect(&rt, "two tenants");
+    let seats = four_seats(&rt, rt.alloc(), &mut registry)?;
+    let mut back = Vec::new(rt.alloc());
+    for done in work_beside_resizes(&rt, rt.alloc(), &registry, seats)? {
+        back.push(done.seat)?;
+    }
+    let closed = registry.close(back).expect(&rt, "the audits close");
+    let (_, audit) = closed.audits.first().expect(&rt, "an audit");
+    assert_eq!(rt; (audit.entries.len(), audit.quotas.len()), (200, 100));
+    assert!(rt; is_replayed(&rt, rt.alloc(), audit)?);
+    Ok(())
+}
