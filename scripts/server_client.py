@@ -164,9 +164,9 @@ class Answer(NamedTuple):
 
 
 class Connection:
-    """A connection, with what has come and was not looked at yet."""
+    """A connection, with what has come and was not looked at yet; `wrap` puts TLS round its socket."""
 
-    def __init__(self, port, window=None):
+    def __init__(self, port, window=None, wrap=None):
         self.got = bytearray()
         self.socket = socket.socket()
         if window:
@@ -174,6 +174,8 @@ class Connection:
         self.socket.settimeout(SECONDS)
         self.socket.connect(("127.0.0.1", port))
         self.socket.setsockopt(socket.IPPROTO_TCP, socket.TCP_NODELAY, 1)
+        if wrap:
+            self.socket = wrap(self.socket)
 
     def __enter__(self):
         return self
@@ -277,10 +279,10 @@ class Connection:
 class Watch(Connection):
     """A watch whose head has come; its body is read line by line."""
 
-    def __init__(self, port, tenant, create, window=None):
-        super().__init__(port, window)
+    def __init__(self, port, tenant, create, window=None, wrap=None, lines=()):
+        super().__init__(port, window, wrap)
         self.text, self.over = bytearray(), False
-        self.send(request(path(tenant, "watch"), f'{{"create_request":{create}}}'))
+        self.send(request(path(tenant, "watch"), f'{{"create_request":{create}}}', lines))
         told = self.head(time.monotonic() + SECONDS)
         if told.status != 200:
             length = int(told.values("content-length")[0])
@@ -383,3 +385,30 @@ def configuration(tenants, **members):
 
 def tenant_of(name, quota=1024, **members):
     return {"name": name, "cluster_id": "7", "quota": quota, **members}
+
+
+# What a script tells of its tests.
+
+
+def fault_of(test, given):
+    """What a test finds wrong, or nothing."""
+    try:
+        test(given)
+    except (Wrong, OSError, ValueError, LookupError, subprocess.TimeoutExpired) as fault:
+        return str(fault) if isinstance(fault, Wrong) else f"{type(fault).__name__}: {fault}"
+    return None
+
+
+def name_of(test):
+    return test.__name__.replace("_", " ")
+
+
+def tell(results):
+    """Prints what is wrong, of each test its name and its fault, and then the last line. It gives the status."""
+    passed = failed = 0
+    for name, fault in results:
+        if fault:
+            print(f"{name}: {fault}", flush=True)
+        passed, failed = passed + (not fault), failed + bool(fault)
+    print(f"{passed} passed, {failed} failed")
+    return 1 if failed or not passed else 0
