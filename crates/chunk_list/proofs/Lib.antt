@@ -2,3 +2,4 @@ pub mod Chunks
 pub mod Lists
 pub mod Walks
 pub mod Turns
+pub mod Turning

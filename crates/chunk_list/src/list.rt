@@ -1,5 +1,5 @@
 //! A list in chunks.
-ghost use Rattle.std.specs.Prelude.{◌≡◌, ℕ, ◌+◌, ◌<◌, ◌≤◌, ◌++◌, ◌∷◌, [], List, length, slice_index_or};
+ghost use Rattle.std.specs.Prelude.{◌≡◌, ℕ, ◌+◌, ◌-◌, ◌<◌, ◌≤◌, ◌++◌, ◌∷◌, [], List, length, slice_index_or};
 ghost use Rattle.std.specs.Prelude.{slice_set, take, filter, max, IfOk, IsOk, IsTrue, OnOk, OnErr, ◌↔◌};
 ghost use Rattle.std.specs.List.{All, insert, remove};
 ghost use Rattle.chunk_list.specs.Chunked.{TurnsAt, HasItem, IsPlace, IsPlaceAt, position_of};
@@ -163,12 +163,12 @@ impl<T: Copy> ChunkList<T> {
         self.count_between(self.start(), place)
     }
 
-    /// How many items stand from one place up to another. It looks at each chunk between them.
+    /// How many items stand from one place up to another, and none where that comes before. It looks at each
+    /// chunk between them.
     pub fn count_between(&self, from: Place, to: Place) -> usize
         requires from { IsPlace self.now.sizes from }
         requires to { IsPlace self.now.sizes to }
-        requires ordered { position_of self.now.sizes from ≤ position_of self.now.sizes to }
-        ensures { position_of self.now.sizes from + result ≡ position_of self.now.sizes to }
+        ensures { result ≡ position_of self.now.sizes to - position_of self.now.sizes from }
     {
         // What always holds of a list is known here once a field is read.
         let _count = self.count;
@@ -179,7 +179,7 @@ impl<T: Copy> ChunkList<T> {
         'adding: for chunk in from.chunk..to.chunk {
             passed += self.chunks[chunk].len();
         }
-        passed + to.offset - from.offset
+        (passed + to.offset).saturating_sub(from.offset)
     }
 
     /// The first place at whose item a test doesn't hold, if it holds up to some place and not from there on.

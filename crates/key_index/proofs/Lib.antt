@@ -13,3 +13,4 @@ pub mod Order
 pub mod OrderKept
 pub mod OrderAdded
 pub mod Listing
+pub mod Turned

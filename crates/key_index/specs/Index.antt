@@ -1,8 +1,10 @@
 -- The newest record of each key, by ascending key.
-use Rattle.std.specs.Prelude.{◌≡◌, ℕ, ◌<◌, ◌≤◌, List, length, slice_index, [], ◌∷◌, Some}
+use Rattle.std.specs.Prelude.{◌≡◌, ℕ, ◌+◌, ◌-◌, ◌<◌, ◌≤◌, List, length, slice_index, take, drop, [], ◌∷◌, Some}
 use Rattle.std.specs.Prelude.{true, false, ◌||◌, ◌↔◌}
 use Rattle.std.specs.declared.cmp.Ordering.TheVariants.{Less, Greater}
 use Rattle.std.specs.Str.{bytes_eq}
+use Rattle.chunk_list.specs.declared.place.Place.{Place}
+use Rattle.chunk_list.specs.Chunked.{Chunked, HasItem, HasItems, IsPlaceAt, position_of}
 use Rattle.etcd_model.specs.Order.{key_cmp, key_lt}
 use Rattle.etcd_model.specs.Interval.{is_in}
 use Rattle.key_index.specs.Links.{Cells, Linked, IsOfKey, IsNewest}
@@ -61,3 +63,39 @@ pub record IsSpan (cells : Cells) (heads : List ℕ) (key end : List ℕ) (from 
   pub in_range : to ≤ length heads
   pub exact : (i : ℕ) (e : Linked) → i < length heads → cells (slice_index heads i) ≡ Some e
       → ((from ≤ i) × (i < to)) ↔ (is_in key end e.change.key ≡ true)
+
+-- some cells are those of the keys of an interval
+pub record AreHeadsIn (cells : Cells) (heads : List ℕ) (key end : List ℕ) (some : List ℕ) : Type 0 where
+  pub from : ℕ
+  pub to : ℕ
+  pub span : IsSpan cells heads key end from to
+  pub are : some ≡ take (to - from) (drop from heads)
+
+-- ---- places of a list of newest records
+
+-- the record at a place has the key
+pub record IsFoundAt (cells : Cells) (heads : Chunked ℕ) (key : List ℕ) (place : Place) : Type 0 where
+  pub item : HasItem heads.sizes place
+  pub at : IsAt cells heads.items key (position_of heads.sizes place)
+
+-- no record has the key, which would go to a place
+pub record IsMissingAt (cells : Cells) (heads : Chunked ℕ) (key : List ℕ) (place : Place) : Type 0 where
+  pub place_is : IsPlaceAt heads place (position_of heads.sizes place)
+  pub gap : IsGapFor cells heads.items key (position_of heads.sizes place)
+
+-- smaller keys stand before a place, and none from it on
+pub record IsFromPlace (cells : Cells) (heads : Chunked ℕ) (key : List ℕ) (place : Place) : Type 0 where
+  pub place_is : IsPlaceAt heads place (position_of heads.sizes place)
+  pub from : IsFrom cells heads.items key (position_of heads.sizes place)
+
+-- keys below the end of an interval stand before a place, and none from it on
+pub record IsEndPlace (cells : Cells) (heads : Chunked ℕ) (end : List ℕ) (place : Place) : Type 0 where
+  pub place_is : IsPlaceAt heads place (position_of heads.sizes place)
+  pub ends : IsEnd cells heads.items end (position_of heads.sizes place)
+
+-- so many items from a place on are those of the keys of an interval
+pub record IsSpanFrom (cells : Cells) (heads : Chunked ℕ) (key end : List ℕ) (place : Place) (count : ℕ) :
+    Type 0 where
+  pub items : HasItems heads place count
+  pub span : IsSpan cells heads.items key end (position_of heads.sizes place)
+      (position_of heads.sizes place + count)

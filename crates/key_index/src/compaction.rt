@@ -1,12 +1,14 @@
 //! Compaction of the chain of a key.
-ghost use Rattle.std.specs.Prelude.{◌≡◌, ℕ, ◌+◌, ◌-◌, ◌<◌, ◌≤◌, List, length, slice_index, take};
+ghost use Rattle.std.specs.Prelude.{◌≡◌, ℕ, ◌+◌, ◌-◌, ◌<◌, ◌≤◌, List, length, take};
 ghost use Rattle.std.specs.Prelude.{Option, Some, None, IsSome, is_some, true, false, ◌⊎◌};
+ghost use Rattle.chunk_list.specs.Chunked.{IsPlace, position_of};
 ghost use Rattle.key_index.specs.Links.{Linked, IsChained, IsNewest, with_link, without};
 ghost use Rattle.key_index.specs.Index.{IsIndexOf};
 ghost use Rattle.key_index.specs.Compaction.{CutsAt, DropsUpTo, GivesBack, IsCompacted, IsCompactedAt};
 ghost use Rattle.key_index.specs.Compaction.{KeptAsDefined, Remains};
 
 use crate::records::{Records, RecordsMut};
+use chunk_list::{ChunkList, Place};
 use etcd_types::CellNo;
 
 /// What a compaction keeps of records is what it keeps of a list of their changes, by definition.
@@ -21,31 +23,35 @@ struct CutPlace {
     first: Option<CellNo>,
 }
 
-/// Compacts the chain of each head at a revision, and moves those of which any is left to the front: so many.
+/// Compacts the chain of each head at a revision, and moves those of which any is left to the front, up to a
+/// place.
 pub(crate) fn cut_chains<R: RecordsMut>(
-    heads: &mut [CellNo],
+    heads: &mut ChunkList<CellNo>,
     records: &mut R,
     revision: u64,
-) -> usize
+) -> Place
     requires chained { IsChained (R.cells records.old) }
-    requires index { IsIndexOf (R.cells records.old) heads.old }
+    requires index { IsIndexOf (R.cells records.old) heads.old.items }
 
-    ensures within { result ≤ length heads.old }
-    ensures index { IsIndexOf (R.cells records.new) (take result heads.new) }
+    ensures place { IsPlace heads.new.sizes result }
+    ensures within { position_of heads.new.sizes result ≤ length heads.old.items }
+    ensures room { heads.new.room ≡ heads.old.room }
+    ensures index { IsIndexOf (R.cells records.new) (take (position_of heads.new.sizes result) heads.new.items) }
     ensures chained { IsChained (R.cells records.new) }
     ensures compacted { IsCompacted (R.cells records.old) (R.cells records.new) revision }
     ensures free { GivesBack R.cost (R.cells records.old) (R.cells records.new)
         (R.free records.old) (R.free records.new) }
     ensures rest { R.same_rest records.old records.new }
 {
-    let mut left = 0;
-    for place in 0..heads.len() {
-        let head = heads[place];
-        if !cut_chain(head, records, revision) {
-            continue;
+    let mut read = heads.start();
+    let mut left = heads.start();
+    'cutting: for _read in 0..heads.len() {
+        let head = heads.get(read);
+        read = heads.next(read);
+        if cut_chain(head, records, revision) {
+            heads.set(left, head);
+            left = heads.next(left);
         }
-        heads[left] = head;
-        left += 1;
     }
     left
 }

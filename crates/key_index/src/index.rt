@@ -1,30 +1,31 @@
 //! The index.
-ghost use Rattle.std.specs.Prelude.{◌≡◌, ℕ, ◌+◌, ◌-◌, ◌<◌, ◌≤◌, List, length, slice_index, [], take};
-ghost use Rattle.std.specs.Prelude.{Option, Some, None, MatchResult, MatchOption, IfOk, IsOk, OnOk, OnErr};
-ghost use Rattle.std.specs.Prelude.{max, vec_capacity};
-ghost use Rattle.key_index.specs.Links.{Linked, IsChained, IsLast, IsPlaced, NoneUpTo, SameChanges};
-ghost use Rattle.key_index.specs.Links.{with_link, without};
+ghost use Rattle.std.specs.Prelude.{◌≡◌, ◌+◌, ◌<◌, ◌≤◌, length, [], max};
+ghost use Rattle.std.specs.Prelude.{MatchOption, IfOk, IsOk, OnOk, OnErr};
+ghost use Rattle.key_index.specs.Links.{IsChained, IsLast, IsPlaced, NoneUpTo, SameChanges, without};
 ghost use Rattle.key_index.specs.Compaction.{GivesBack, IsCompacted};
-ghost use Rattle.key_index.specs.Index.{Heads, IsAt, IsEnd, IsFrom, IsGapFor, IsIndexOf, IsSpan, IsSpread};
+ghost use Rattle.key_index.specs.Index.{AreHeadsIn, IsIndexOf, IsSpread};
 
 use crate::compaction::cut_chains;
 use crate::records::{Records, RecordsMut};
 use crate::search::{Sought, last_up_to, search};
+use crate::span::span;
+use chunk_list::{ChunkList, Walk};
 use etcd_types::{CellNo, Mem};
 use std::alloc::{AllocError, Global};
 use std::marker::Model;
-use std::ops::Range;
 
 /// The newest record of each key, by ascending key.
 #[derive(Drop)]
 pub struct KeyIndex {
-    heads: Vec<CellNo>,
+    heads: ChunkList<CellNo>,
 }
 
 impl Model for KeyIndex {
+    ghost use Rattle.key_index.specs.Index.{Heads};
+
     ghost Value = { Heads };
 
-    ghost view = { λ a. record { cells = a.heads.items; capacity = vec_capacity a.heads } };
+    ghost view = { λ a. record { cells = a.heads.items; capacity = a.heads.room } };
 }
 
 impl KeyIndex {
@@ -33,7 +34,7 @@ impl KeyIndex {
         ensures { IfOk result (λ index. index ≡ record { cells = []; capacity = capacity }) }
     {
         Ok(KeyIndex {
-            heads: Vec::with_capacity(alloc, capacity)?,
+            heads: ChunkList::new(alloc, capacity)?,
         })
     }
 
@@ -44,70 +45,22 @@ impl KeyIndex {
         ensures err { OnErr result (self.new ≡ self.old) }
         ensures sure { cells ≤ self.old.capacity → IsOk result }
     {
-        let lacking = (cells as usize).saturating_sub(self.heads.len());
-        self.heads.reserve_exact(lacking)
+        self.heads.grow_room(cells as usize)
     }
 
-    /// The newest record of each key, by ascending key.
-    pub fn heads(&self) -> &[CellNo]
-        ensures { result.now ≡ self.now.cells }
-    {
-        &self.heads
-    }
-
-    /// The place of the key, or where it would go.
-    pub fn find<R: Records>(&self, records: &R, key: &[u8]) -> Result<usize, usize>
+    /// The newest records of the keys of the interval that begins at `key` and ends before `range_end`, by
+    /// ascending key. With an empty end it is the one key, and with the single byte 0 it has no end.
+    pub fn heads_in<R: Records>(
+        &self,
+        records: &R,
+        key: &[u8],
+        range_end: &[u8],
+    ) -> Walk<'_, CellNo>
         requires { IsSpread (R.cells records.now) self.now.cells }
-        ensures { MatchResult result (IsAt (R.cells records.now) self.now.cells key.now)
-            (IsGapFor (R.cells records.now) self.now.cells key.now) }
+        ensures { AreHeadsIn (R.cells records.now) self.now.cells key.now range_end.now result }
     {
-        search(&self.heads, records, &Sought::Key(key))
-    }
-
-    /// The places of the keys of the interval that begins at `key` and ends before `range_end`. With an empty
-    /// end it is the one key, and with the single byte 0 it has no end.
-    pub fn span<R: Records>(&self, records: &R, key: &[u8], range_end: &[u8]) -> Range<usize>
-        requires { IsSpread (R.cells records.now) self.now.cells }
-        ensures { IsSpan (R.cells records.now) self.now.cells key.now range_end.now result.start result.end }
-    {
-        match range_end {
-            [] => match self.find(records, key) {
-                Ok(place) => {
-                    let count = self.heads().len();
-                    prove!(place < count);
-                    place..place + 1
-                }
-                Err(place) => place..place,
-            },
-            _ => {
-                let start = self.first_from(records, key);
-                start..self.end_of(records, range_end).max(start)
-            }
-        }
-    }
-
-    /// The first place whose key is not below this one.
-    fn first_from<R: Records>(&self, records: &R, key: &[u8]) -> usize
-        requires { IsSpread (R.cells records.now) self.now.cells }
-        ensures { IsFrom (R.cells records.now) self.now.cells key.now result }
-    {
-        match self.find(records, key) {
-            Ok(place) => place,
-            Err(place) => place,
-        }
-    }
-
-    /// The first place whose key is not below the end of an interval. The single byte 0 is no end.
-    #[tactic(auto, using(crate::proofs::Spans::end_none, crate::proofs::Spans::end_from))]
-    fn end_of<R: Records>(&self, records: &R, range_end: &[u8]) -> usize
-        requires { IsSpread (R.cells records.now) self.now.cells }
-        ensures { IsEnd (R.cells records.now) self.now.cells range_end.now result }
-    {
-        if range_end == [0].as_slice() {
-            self.heads().len()
-        } else {
-            self.first_from(records, range_end)
-        }
+        let (from, count) = span(&self.heads, records, key, range_end);
+        self.heads.walk(from, count)
     }
 
     /// The last change of the key at a revision at most this one.
@@ -117,8 +70,8 @@ impl KeyIndex {
         ensures { MatchOption result (NoneUpTo (R.cells records.now) key.now revision)
             (IsLast (R.cells records.now) key.now revision) }
     {
-        match self.find(records, key) {
-            Ok(place) => last_up_to(self.heads[place], records, revision),
+        match search(&self.heads, records, &Sought::Key(key)) {
+            Ok(place) => last_up_to(self.heads.get(place), records, revision),
             Err(_) => None,
         }
     }
@@ -140,15 +93,13 @@ impl KeyIndex {
     {
         match search(&self.heads, records, &Sought::KeyOf(cell)) {
             Ok(place) => {
-                records.set_older(cell, Some(self.heads[place]));
-                self.heads[place] = cell;
+                let head = self.heads.get(place);
+                records.set_older(cell, Some(head));
+                self.heads.set(place, cell);
             }
             Err(place) => {
                 records.set_older(cell, None);
-                let added = self.heads.insert(place, cell);
-                if let Err(_) = added {
-                    unreachable!()
-                }
+                self.heads.insert(place, cell);
             }
         }
     }

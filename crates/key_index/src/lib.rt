@@ -1,4 +1,5 @@
-//! The newest record of each key, by ascending key. The records stand elsewhere: each call is lent them.
+//! The newest record of each key, by ascending key. The records stand elsewhere: each call is lent them. The places
+//! stand in a list in chunks, so a new key moves few others, however many there are.
 //!
 //! **What holds.** The index has one place for each key of which there is a record, by ascending key, and in
 //! it the newest record of that key. Each record is linked to the one before it of its key, and the first to
@@ -30,6 +31,7 @@ mod index;
 pub mod record_list;
 mod records;
 mod search;
+mod span;
 
 pub use compaction::kept_as_defined;
 pub use index::KeyIndex;

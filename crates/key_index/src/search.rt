@@ -1,12 +1,13 @@
 //! Looking up a key among the newest records, and a revision in the chain of a key.
-ghost use Rattle.std.specs.Prelude.{◌≡◌, ℕ, ◌+◌, ◌-◌, ◌*◌, ◌<◌, ◌≤◌, List, length, slice_index};
+ghost use Rattle.std.specs.Prelude.{◌≡◌, ℕ, ◌+◌, ◌<◌, ◌≤◌, List, length};
 ghost use Rattle.std.specs.Prelude.{Option, Some, None, IsSome, IfSome, MatchResult, MatchOption};
 ghost use Rattle.etcd_model.specs.Order.{key_cmp as cmp_of_keys};
 ghost use Rattle.key_index.specs.Links.{Linked, IsChained, IsLast, IsNewest, IsOfKey, NoneUpTo};
-ghost use Rattle.key_index.specs.Index.{IsAt, IsGapFor, IsSpread};
+ghost use Rattle.key_index.specs.Index.{IsFoundAt, IsMissingAt, IsSpread};
 ghost use Rattle.key_index.specs.Sought.{IsThere, sought_key};
 
 use crate::records::Records;
+use chunk_list::{ChunkList, Place, Test};
 use etcd_types::CellNo;
 use std::cmp::Ordering;
 
@@ -30,29 +31,48 @@ fn stands<R: Records>(head: CellNo, records: &R, sought: &Sought<'_>) -> Orderin
     }
 }
 
+/// Whether the key of a record comes before the one that is looked up.
+#[derive(Drop)]
+struct ComesBefore<'a, R> {
+    records: &'a R,
+    sought: &'a Sought<'a>,
+}
+
+impl<'a, R: Records> Test<CellNo> for ComesBefore<'a, R> {
+    ghost use Rattle.std.specs.Prelude.{IsSome};
+    ghost use Rattle.key_index.specs.Sought.{IsThere, comes_before, sought_key};
+
+    ghost can = { λ s c. IsSome (R.cells s.records.now c)
+        × IsThere (R.cells s.records.now) s.sought.now };
+
+    ghost test = { λ s c. comes_before (R.cells s.records.now)
+        (sought_key (R.cells s.records.now) s.sought.now) c };
+
+    fn holds(&self, cell: CellNo) -> bool {
+        stands(cell, self.records, self.sought).is_lt()
+    }
+}
+
 /// The place of the key among the newest records, or the place where it would go.
 pub(crate) fn search<R: Records>(
-    heads: &[CellNo],
+    heads: &ChunkList<CellNo>,
     records: &R,
     sought: &Sought<'_>,
-) -> Result<usize, usize>
-    requires spread { IsSpread (R.cells records.now) heads.now }
+) -> Result<Place, Place>
+    requires spread { IsSpread (R.cells records.now) heads.now.items }
     requires sought { IsThere (R.cells records.now) sought.now }
     ensures { MatchResult result
-        (IsAt (R.cells records.now) heads.now (sought_key (R.cells records.now) sought.now))
-        (IsGapFor (R.cells records.now) heads.now (sought_key (R.cells records.now) sought.now)) }
+        (IsFoundAt (R.cells records.now) heads.now (sought_key (R.cells records.now) sought.now))
+        (IsMissingAt (R.cells records.now) heads.now (sought_key (R.cells records.now) sought.now)) }
 {
-    let mut low = 0;
-    let mut high = heads.len();
-    while low < high {
-        let middle = low + (high - low) / 2;
-        match stands(heads[middle], records, sought) {
-            Ordering::Less => low = middle + 1,
-            Ordering::Equal => return Ok(middle),
-            Ordering::Greater => high = middle,
-        }
+    let place = heads.search(&ComesBefore { records, sought });
+    if !heads.has_item(place) {
+        return Err(place);
     }
-    Err(low)
+    match stands(heads.get(place), records, sought) {
+        Ordering::Equal => Ok(place),
+        _ => Err(place),
+    }
 }
 
 /// The last change at a revision at most this one, of the key whose newest record is under a cell.

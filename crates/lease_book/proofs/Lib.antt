@@ -4,7 +4,6 @@ mod Granted
 mod Due
 pub mod Changed
 mod Ended
-mod Turning
 pub mod Ordered
 mod Stretch
 pub mod Attached

@@ -9,7 +9,7 @@ use Rattle.std.specs.declared.cmp.Ordering.{Ordering}
 use Rattle.std.specs.declared.cmp.Ordering.TheVariants.{Less, Equal, Greater}
 use Rattle.etcd_model.specs.Order.{beside, put_in}
 use Rattle.etcd_model.proofs.OrderLaws.{below_less, below_tied}
-use Rattle.lease_book.proofs.Turning.{IsFailing}
+use Rattle.chunk_list.proofs.Turning.{IsFailing}
 
 module _ {X : Type 0} (cmp : X → X → Ordering) (total : IsTotalOrder cmp) (x : X) where
   abbrev comes : X → Bool

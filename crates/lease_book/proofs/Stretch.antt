@@ -10,7 +10,7 @@ use Rattle.std.proofs.lemmas.Int.{ints}
 use Rattle.lease_book.specs.declared.attachments.Attachment.{Attachment}
 use Rattle.lease_book.specs.Attached.{RiseById, keys_below, keys_up_to, without_keys}
 use Rattle.lease_book.proofs.Standing.{IsAbove, IsSame, stand, above}
-use Rattle.lease_book.proofs.Turning.{IsFailing}
+use Rattle.chunk_list.proofs.Turning.{IsFailing}
 
 -- ---- IDs
 

@@ -1,17 +1,16 @@
 -- The rows of an interval, of the heads of its span.
-use Rattle.std.proofs.Common.{◌≡◌, ℕ, zero, suc, ◌+◌, ◌-◌, ◌<◌, ◌≤◌, List, [], ◌∷◌, ◌++◌, length, get_or, take, drop, map, Option, Some, None, IsSome, IfSome, Bool, true, false, refl, sym, ap, ◌∙◌, subst, arith}
-use Rattle.std.specs.Prelude.{◌↔◌, cond, filter, filter_map, option_map, option_and_then, slice_range, unwrap_or}
+use Rattle.std.proofs.Common.{◌≡◌, ℕ, zero, suc, ◌+◌, ◌-◌, ◌<◌, ◌≤◌, List, [], ◌∷◌, ◌++◌, length, get_or, take, drop, map, Option, Some, None, IsSome, IfSome, Bool, true, false, refl, sym, ap, ◌∙◌, subst, append_assoc, arith}
+use Rattle.std.specs.Prelude.{◌↔◌, cond, filter, filter_map, option_map, option_and_then, unwrap_or}
 use Rattle.std.specs.Ordering.{nat_cmp}
 use Rattle.std.specs.FinMap.{FinMap}
-use Rattle.std.specs.List.{AllByRecursion, list_any}
+use Rattle.std.specs.List.{AllByRecursion, cons_option, list_any}
 use Rattle.std.specs.List.Sorted.{IsStrictlySortedBy}
 use Rattle.std.specs.Option.{option_to_list}
 use Rattle.std.specs.Str.{bytes_eq}
 use Rattle.std.specs.Cmp.Lexicographic.{bytes_decides}
 use Rattle.std.specs.declared.cmp.Ordering.TheVariants.{Less}
 use Rattle.std.proofs.lemmas.Bool.{false_from_ne_true, or_parts}
-use Rattle.std.proofs.lemmas.List.{append-nil, get_or-drop, get_or-take, get_or_default, length-append, length-drop, length-take, map-append, take_all, take_more}
-use Rattle.std.proofs.lemmas.List.Elements.{filter_map-append}
+use Rattle.std.proofs.lemmas.List.{append-nil, get_or-drop, get_or-take, length-drop, length-take, map-append}
 use Rattle.cell_arena.specs.Chain.{Record}
 use Rattle.cell_arena.specs.Region.{RegionState}
 use Rattle.etcd_types.specs.declared.key_value.KeyValue.{KeyValue}
@@ -21,7 +20,7 @@ use Rattle.etcd_model.specs.Changes.{Recorded, OwnRow, live, rows}
 use Rattle.etcd_model.proofs.RowLaws.{filter-rows, find-rows, sorted-rows}
 use Rattle.model_laws.proofs.RowLaws.{live-key, row_found, rows_by_their_keys, rows_inside, rows_rise}
 use Rattle.key_index.specs.Links.{Cells, Linked, IsNewest, IsOfKey}
-use Rattle.key_index.specs.Index.{Heads, IsIndexOf, IsSpan}
+use Rattle.key_index.specs.Index.{AreHeadsIn, Heads, IsIndexOf, IsSpan}
 use Rattle.key_index.specs.Order.{changes_in}
 use Rattle.key_index.proofs.Order.{none_in_order}
 use Rattle.key_index.proofs.OrderAdded.{each_change}
@@ -37,55 +36,30 @@ use Rattle.revision_store.proofs.ReadingCells.{own_rows}
 abbrev pub shown : (List ℕ → Option KeyValue) → Cells → List ℕ → List KeyValue
 shown look cells heads = filter_map look (map (key_at cells) heads)
 
--- the cells are those of the rows of some heads
-pub record HasFound (look : List ℕ → Option KeyValue) (cells : Cells) (heads found : List ℕ) : Type 0 where
-  pub are : map (row_at cells) found ≡ map Some (shown look cells heads)
+cons_is : {X : Type 0} (o : Option X) (xs : List X) → cons_option o xs ≡ option_to_list o ++ xs
+cons_is None xs = refl
+cons_is (Some x) xs = refl
 
-shown_more : (look : List ℕ → Option KeyValue) (cells : Cells) (heads : List ℕ) (i : ℕ) → i < length heads → shown look cells (take (i + 1) heads) ≡ shown look cells (take i heads) ++ option_to_list (look (key_at cells (get_or heads i 0)))
-shown_more look cells heads i lt =
-    ap (shown look cells) (take_more heads i 0 lt)
-    ∙ ap (filter_map look) (map-append (key_at cells) (take i heads) (get_or heads i 0 ∷ []))
-    ∙ filter_map-append look (map (key_at cells) (take i heads)) (key_at cells (get_or heads i 0) ∷ [])
-    ∙ ap (λ (xs : List KeyValue). shown look cells (take i heads) ++ xs) (one (look (key_at cells (get_or heads i 0))))
+-- one head more, with the cell that is found of it: what is found and what the heads that are left show stays
+pub found_on : (look : List ℕ → Option KeyValue) (cells : Cells) (left found new : List ℕ) (all : List KeyValue) (h : ℕ) (o : Option ℕ) → option_and_then (row_at cells) o ≡ look (key_at cells h) → IfSome o (λ c. IsSome (row_at cells c))
+    → new ≡ found ++ option_to_list o → map (row_at cells) found ++ map Some (shown look cells (h ∷ left)) ≡ map Some all → map (row_at cells) new ++ map Some (shown look cells left) ≡ map Some all
+found_on look cells left found new all h o is there added so_far =
+    ap (λ (cs : List ℕ). map (row_at cells) cs ++ map Some (shown look cells left)) added
+    ∙ go o there
+    ∙ ap (λ (q : Option KeyValue). map (row_at cells) found ++ map Some (option_to_list q ++ shown look cells left)) is
+    ∙ ap (λ (xs : List KeyValue). map (row_at cells) found ++ map Some xs) (sym (cons_is (look (key_at cells h)) (shown look cells left)))
+    ∙ so_far
   where
-    one : (o : Option KeyValue) → filter_map (λ (x : Option KeyValue). x) (o ∷ []) ≡ option_to_list o
-    one None = refl
-    one (Some x) = refl
+    first : (q : Option KeyValue) → IsSome q → q ∷ map Some (shown look cells left) ≡ map Some (option_to_list q ++ shown look cells left)
+    first None none = let bad : ⊥ = cc in absurd bad
+    first (Some x) some = refl
 
-found_none : (look : List ℕ → Option KeyValue) (cells : Cells) (heads found : List ℕ) (i : ℕ) → i < length heads → look (key_at cells (get_or heads i 0)) ≡ None → HasFound look cells (take i heads) found → HasFound look cells (take (i + 1) heads) found
-found_none look cells heads found i lt none h = record { are = h.are ∙ ap (map Some) (sym (shown_more look cells heads i lt ∙ ap (λ (o : Option KeyValue). shown look cells (take i heads) ++ option_to_list o) none ∙ no_more (shown look cells (take i heads)))) }
-  where
-    no_more : {X : Type 0} (xs : List X) → xs ++ [] ≡ xs
-    no_more xs = append-nil xs
-
-found_some : (look : List ℕ → Option KeyValue) (cells : Cells) (heads found : List ℕ) (i c : ℕ) → i < length heads → IsSome (row_at cells c) → row_at cells c ≡ look (key_at cells (get_or heads i 0)) → HasFound look cells (take i heads) found → HasFound look cells (take (i + 1) heads) (found ++ c ∷ [])
-found_some look cells heads found i c lt some is h = record {
-  are =
-      map-append (row_at cells) found (c ∷ [])
-      ∙ ap (λ (xs : List (Option KeyValue)). xs ++ row_at cells c ∷ []) h.are
-      ∙ go (row_at cells c) some
-      ∙ ap (λ (o : Option KeyValue). map Some (shown look cells (take i heads) ++ option_to_list o)) is
-      ∙ ap (map Some) (sym (shown_more look cells heads i lt));
-}
-  where
-    go : (o : Option KeyValue) → IsSome o → map Some (shown look cells (take i heads)) ++ o ∷ [] ≡ map Some (shown look cells (take i heads) ++ option_to_list o)
-    go None none = let bad : ⊥ = cc in absurd bad
-    go (Some x) there = sym (map-append Some (shown look cells (take i heads)) (x ∷ []))
-
--- one head more, with the cell that is found of it
-pub found_on : (look : List ℕ → Option KeyValue) (cells : Cells) (heads found new : List ℕ) (i h : ℕ) (o : Option ℕ) → i < length heads → h ≡ get_or heads i h → option_and_then (row_at cells) o ≡ look (key_at cells h) → IfSome o (λ c. IsSome (row_at cells c))
-    → new ≡ found ++ option_to_list o → HasFound look cells (take i heads) found → HasFound look cells (take (i + 1) heads) new
-found_on look cells heads found new i h o lt at is there added so_far =
-    let same : look (key_at cells h) ≡ look (key_at cells (get_or heads i 0)) = ap (λ (c : ℕ). look (key_at cells c)) (at ∙ get_or_default heads i h 0 lt) in
-    subst (HasFound look cells (take (i + 1) heads)) (sym added) (go o (is ∙ same) there)
-  where
-    go : (p : Option ℕ) → option_and_then (row_at cells) p ≡ look (key_at cells (get_or heads i 0)) → IfSome p (λ c. IsSome (row_at cells c)) → HasFound look cells (take (i + 1) heads) (found ++ option_to_list p)
-    go None none there = subst (HasFound look cells (take (i + 1) heads)) (sym (append-nil found)) (found_none look cells heads found i lt (sym none) so_far)
-    go (Some c) some there = found_some look cells heads found i c lt there some so_far
-
-pub few_on : (found new : List ℕ) (i : ℕ) (o : Option ℕ) → new ≡ found ++ option_to_list o → length found ≤ i → length new ≤ i + 1
-few_on found new i None added few = omega (arith, few, ap length added, length-append found [])
-few_on found new i (Some c) added few = omega (arith, few, ap length added, length-append found (c ∷ []))
+    go : (p : Option ℕ) → IfSome p (λ c. IsSome (row_at cells c)) → map (row_at cells) (found ++ option_to_list p) ++ map Some (shown look cells left) ≡ map (row_at cells) found ++ map Some (option_to_list (option_and_then (row_at cells) p) ++ shown look cells left)
+    go None some = ap (λ (cs : List ℕ). map (row_at cells) cs ++ map Some (shown look cells left)) (append-nil found)
+    go (Some c) some =
+        ap (λ (xs : List (Option KeyValue)). xs ++ map Some (shown look cells left)) (map-append (row_at cells) found (c ∷ []))
+        ∙ append_assoc (map (row_at cells) found) (row_at cells c ∷ []) (map Some (shown look cells left))
+        ∙ ap (λ (xs : List (Option KeyValue)). map (row_at cells) found ++ xs) (first (row_at cells c) some)
 
 -- ---- lists by their places
 
@@ -100,6 +74,10 @@ sorted_from f (h ∷ hs) rise = (
   all_from (λ k. key_cmp (f h) k ≡ Less) f hs (λ j lt. rise 0 (suc j) (omega arith) (omega arith)),
   sorted_from f hs (λ i j below lt. rise (suc i) (suc j) (omega arith) (omega arith)),
 )
+
+all_from_places : (P : ℕ → Type 0) (cs : List ℕ) → ((i : ℕ) → i < length cs → P (get_or cs i 0)) → AllByRecursion P cs
+all_from_places P [] each = tt
+all_from_places P (c ∷ cs) each = (each 0 (omega arith), all_from_places P cs (λ i lt. each (suc i) (omega arith)))
 
 none_from : {X : Type 0} (p : X → Bool) (f : ℕ → X) (hs : List ℕ) → list_any p (map f hs) ≡ false → (i : ℕ) → i < length hs → p (f (get_or hs i 0)) ≡ false
 none_from p f [] none i lt = absurd (omega (arith, lt))
@@ -132,16 +110,18 @@ key_is cells c e at = ap (λ (o : Option Linked). unwrap_or (option_map (λ (x :
 pub head_key : (cells : Cells) (head : ℕ) → IsNewest cells head → IsOfKey cells (key_at cells head) head
 head_key cells head newest = (newest.0, newest.1, sym (key_is cells head newest.0 newest.1))
 
--- each cell of a range of the heads is the newest of its key
-pub newest_in : (cells : Cells) (heads hs : List ℕ) (from to i c : ℕ) → IsIndexOf cells heads → hs ≡ heads → i < length (slice_range hs from to) → c ≡ get_or (slice_range hs from to) i c → IsNewest cells c
-newest_in cells heads hs from to i c index same lt at =
-    let long = length-take (to - from) (drop from hs) in
-    let rest = length-drop from hs in
-    let size : length hs ≡ length heads = ap length same in
-    let here : i < to - from = omega (arith, lt, long) in
-    let within : from + i < length heads = omega (arith, lt, long, rest, size) in
-    let there = get_or_default (slice_range hs from to) i c 0 lt ∙ get_or-take (to - from) (drop from hs) i 0 here ∙ get_or-drop from hs i 0 ∙ ap (λ (ys : List ℕ). get_or ys (from + i) 0) same in
-    subst (IsNewest cells) (sym (at ∙ there)) (index.newest (from + i) within)
+newest_in : (cells : Cells) (heads : List ℕ) (from n i : ℕ) → IsIndexOf cells heads → i < length (take n (drop from heads)) → IsNewest cells (get_or (take n (drop from heads)) i 0)
+newest_in cells heads from n i index lt =
+    let long = length-take n (drop from heads) in
+    let rest = length-drop from heads in
+    let here : i < n = omega (arith, lt, long) in
+    let within : from + i < length heads = omega (arith, lt, long, rest) in
+    subst (IsNewest cells) (sym (get_or-take n (drop from heads) i 0 here ∙ get_or-drop from heads i 0)) (index.newest (from + i) within)
+
+-- each head of an interval is the newest record of its key
+pub all_newest : (cells : Cells) (heads key end some : List ℕ) → IsIndexOf cells heads → AreHeadsIn cells heads key end some → AllByRecursion (IsNewest cells) some
+all_newest cells heads key end some index all =
+    subst (AllByRecursion (IsNewest cells)) (sym all.are) (all_from_places (IsNewest cells) (take (all.to - all.from) (drop all.from heads)) (λ i lt. newest_in cells heads all.from (all.to - all.from) i index lt))
 
 module _ (cells : Cells) (heads order : List ℕ) (index : IsIndexOf cells heads) (own : (c : ℕ) (e : Linked) → cells c ≡ Some e → OwnRow e.change) (r : ℕ) where
   abbrev look : List ℕ → Option KeyValue
@@ -191,12 +171,12 @@ module _ (cells : Cells) (heads order : List ℕ) (index : IsIndexOf cells heads
       ∙ ap (filter (λ (row : KeyValue). is_in key end row.key)) (sym all_rows)
       ∙ sym (rows_inside (changes_in cells order) owned r (is_in key end))
 
--- the cells that are found of all heads of a span are those of the rows of its interval, in a log
-pub log_rows : (region : RegionState) (heads : Heads) (order : List ℕ) (places leases : ℕ) (records : FinMap nat_cmp Record) (changes : List Recorded) (key end : List ℕ) (r from to : ℕ) (hs found : List ℕ) (i : ℕ) → IsLog region heads order places leases → region.records ≡ records → changes_in (cells_of region.records) order ≡ changes → hs ≡ heads.cells
-    → IsSpan (cells_of records) heads.cells key end from to → length (slice_range hs from to) ≤ i → HasFound (λ k. live k r changes) (cells_of records) (take i (slice_range hs from to)) found → map (row_at (cells_of records)) found ≡ map Some (rows (is_in key end) r changes)
-log_rows region heads order places leases records changes key end r from to hs found i log same is heads_are span whole all =
-    all.are ∙ ap (map Some) (ap (shown (λ k. live k r changes) (cells_of records)) (take_all i (slice_range hs from to) whole ∙ ap (λ (ys : List ℕ). slice_range ys from to) heads_are)
-    ∙ subst (λ (m : FinMap nat_cmp Record). IsSpan (cells_of m) heads.cells key end from to → shown (λ k. live k r changes) (cells_of m) (slice_range heads.cells from to) ≡ rows (is_in key end) r changes) same
-    (subst (λ (xs : List Recorded). IsSpan (cells_of region.records) heads.cells key end from to → shown (λ k. live k r xs) (cells_of region.records) (slice_range heads.cells from to) ≡ rows (is_in key end) r xs) is
-    (λ own. rows_of_span (cells_of region.records) heads.cells order log.index (own_rows region.records) r key end from to own))
-    span)
+-- what the heads of an interval show are its rows, in a log
+pub log_shown : (region : RegionState) (heads : Heads) (order : List ℕ) (places leases : ℕ) (records : FinMap nat_cmp Record) (changes : List Recorded) (key end : List ℕ) (r : ℕ) (some : List ℕ) → IsLog region heads order places leases → region.records ≡ records → changes_in (cells_of region.records) order ≡ changes
+    → AreHeadsIn (cells_of records) heads.cells key end some → shown (λ k. live k r changes) (cells_of records) some ≡ rows (is_in key end) r changes
+log_shown region heads order places leases records changes key end r some log same is all =
+    ap (shown (λ k. live k r changes) (cells_of records)) all.are
+    ∙ subst (λ (m : FinMap nat_cmp Record). IsSpan (cells_of m) heads.cells key end all.from all.to → shown (λ k. live k r changes) (cells_of m) (take (all.to - all.from) (drop all.from heads.cells)) ≡ rows (is_in key end) r changes) same
+    (subst (λ (xs : List Recorded). IsSpan (cells_of region.records) heads.cells key end all.from all.to → shown (λ k. live k r xs) (cells_of region.records) (take (all.to - all.from) (drop all.from heads.cells)) ≡ rows (is_in key end) r xs) is
+    (λ own. rows_of_span (cells_of region.records) heads.cells order log.index (own_rows region.records) r key end all.from all.to own))
+    all.span

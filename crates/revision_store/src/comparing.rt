@@ -13,6 +13,7 @@ ghost use Rattle.revision_store.specs.Stored.{reads, row_at};
 use crate::log::Log;
 use crate::records::Reader;
 use crate::store::Store;
+use chunk_list::Walk;
 use etcd_types::{CellNo, Compare, CompareResult, Operand};
 use std::cmp::Ordering;
 
@@ -29,26 +30,26 @@ pub fn holds(store: &Store, compare: &Compare) -> bool
 
 impl Log {
     /// The newest changes of the keys of an interval.
-    fn heads_in(&self, key: &[u8], range_end: &[u8]) -> &[CellNo]
-        ensures newest { AllByRecursion (IsNewest (cells_of self.now.records)) result.now }
+    fn heads_in(&self, key: &[u8], range_end: &[u8]) -> Walk<'_, CellNo>
+        ensures newest { AllByRecursion (IsNewest (cells_of self.now.records)) result }
         ensures rows { (revision : ℕ)
-            → rows_shown (cells_of self.now.records) revision self.now.changes result.now
+            → rows_shown (cells_of self.now.records) revision self.now.changes result
             ≡ rows (is_in key.now range_end.now) revision self.now.changes }
     {
-        let span = self.index.span(&Reader::new(&self.region), key, range_end);
-        &self.index.heads()[span.start..span.end]
+        self.index
+            .heads_in(&Reader::new(&self.region), key, range_end)
     }
 
     /// Whether a compare holds of the rows that some keys show at a revision, by the newest changes of those.
-    fn holds_of(&self, heads: &[CellNo], compare: &Compare, revision: u64) -> bool
-        requires { AllByRecursion (IsNewest (cells_of self.now.records)) heads.now }
+    fn holds_of(&self, heads: Walk<'_, CellNo>, compare: &Compare, revision: u64) -> bool
+        requires { AllByRecursion (IsNewest (cells_of self.now.records)) heads }
         ensures { result
             ≡ holds_of compare.now
-            (rows_shown (cells_of self.now.records) revision self.now.changes heads.now) }
+            (rows_shown (cells_of self.now.records) revision self.now.changes heads.entry) }
     {
         let mut any = false;
         for head in heads {
-            if let Some(cell) = self.live_of(*head, revision) {
+            if let Some(cell) = self.live_of(head, revision) {
                 if !self.meets(cell, compare) {
                     return false;
                 }

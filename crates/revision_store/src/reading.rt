@@ -69,11 +69,12 @@ impl Log {
             (λ found. map (row_at (cells_of self.now.records)) found.items
             ≡ map Some (rows (is_in key.now range_end.now) revision self.now.changes)) }
     {
-        let span = self.index.span(&Reader::new(&self.region), key, range_end);
-        let heads = &self.index.heads()[span.start..span.end];
+        let heads = self
+            .index
+            .heads_in(&Reader::new(&self.region), key, range_end);
         let mut found = Vec::with_capacity(alloc, heads.len())?;
         for head in heads {
-            if let Some(cell) = self.live_of(*head, revision) {
+            if let Some(cell) = self.live_of(head, revision) {
                 found.push_reserved(cell);
             }
         }

@@ -3,7 +3,7 @@ use Rattle.std.specs.Prelude.{int_le}
 use Rattle.lease_book.specs.declared.attachments.Attachment.{Attachment}
 use Rattle.lease_book.specs.Attached.{keys_up_to}
 use Rattle.lease_book.proofs.Stretch.{failing_up_to}
-use Rattle.lease_book.proofs.Turning.{turn}
+use Rattle.chunk_list.proofs.Turning.{turn}
 use Rattle.lease_book.proofs.attachments.end_of.Goals as goal
 
 pub returns : goal.returns

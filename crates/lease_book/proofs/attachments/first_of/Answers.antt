@@ -3,7 +3,7 @@ use Rattle.std.specs.Prelude.{int_lt}
 use Rattle.lease_book.specs.declared.attachments.Attachment.{Attachment}
 use Rattle.lease_book.specs.Attached.{keys_below}
 use Rattle.lease_book.proofs.Stretch.{failing_below}
-use Rattle.lease_book.proofs.Turning.{turn}
+use Rattle.chunk_list.proofs.Turning.{turn}
 use Rattle.lease_book.proofs.attachments.first_of.Goals as goal
 
 pub returns : goal.returns

@@ -2,7 +2,7 @@ use Rattle.lease_book.specs.declared.attachments.Attachment.{Attachment}
 use Rattle.lease_book.specs.Attached.{attachment_cmp, keys_before}
 use Rattle.lease_book.proofs.Attached.{attachment_cmp_total}
 use Rattle.lease_book.proofs.Ordered.{failing}
-use Rattle.lease_book.proofs.Turning.{turn}
+use Rattle.chunk_list.proofs.Turning.{turn}
 use Rattle.std.specs.Ordering.{is_lt}
 use Rattle.lease_book.proofs.attachments.place_for.Goals as goal
 

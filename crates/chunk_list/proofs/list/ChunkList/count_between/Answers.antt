@@ -14,8 +14,8 @@ overflow_add-passed g c =
     let size = ap length (chunk_read chunks _ c.index.result.now c.index.ensures (omega (arith, q.chunk_in))) in
     omega (arith, size, start_below chunks c.adding.chunk (omega (arith, q.chunk_in)), c.self.invariant.len)
 
-pub overflow_add-result : goal.overflow_add-result
-overflow_add-result g c =
+pub overflow_add-passed-2 : goal.overflow_add-passed-2
+overflow_add-passed-2 g c =
     let chunks = c.self.inside.chunks.items in
     let v = c.args.self.now in
     let saw = seen c.self.inside.chunks.items c.self.inside.room _ c.args.self.now c.self.view_is refl refl in
@@ -23,17 +23,6 @@ overflow_add-result g c =
     let e : c.adding.chunk ≡ c.args.to.chunk = omega arith in
     let s = ap (λ n. length (chunk_items (take n chunks))) e in
     omega (arith, s, q.offset_in, start_below chunks c.args.to.chunk q.chunk_in, c.self.invariant.len)
-
-pub overflow_sub-result : goal.overflow_sub-result
-overflow_sub-result g c =
-    let chunks = c.self.inside.chunks.items in
-    let v = c.args.self.now in
-    let saw = seen c.self.inside.chunks.items c.self.inside.room _ c.args.self.now c.self.view_is refl refl in
-    let p = place_in chunks v.sizes c.args.from saw.sizes c.requires.from in
-    let q = place_in chunks v.sizes c.args.to saw.sizes c.requires.to in
-    let e : c.adding.chunk ≡ c.args.to.chunk = omega arith in
-    let s = ap (λ n. length (chunk_items (take n chunks))) e in
-    omega (arith, s, p.position_is, q.position_is, c.requires.ordered)
 
 pub returns-then-to-from : goal.returns-then-to-from
 returns-then-to-from g c =

@@ -1,16 +1,21 @@
-use Rattle.std.proofs.Common.{◌≡◌, ℕ, List, ap, subst, get_or}
-use Rattle.key_index.specs.Index.{Heads}
+use Rattle.std.proofs.Common.{sym, ap, subst}
+use Rattle.key_index.specs.Index.{Heads, IsIndexOf}
 use Rattle.key_index.proofs.Links.{spread_from_index, newest_at, none_from_gap}
 use Rattle.key_index.proofs.index.KeyIndex.at.Goals as goal
 
-pub find-requires : goal.find-requires
-find-requires g c = spread_from_index _ _ c.requires.index
+pub search-requires-clause-spread : goal.search-requires-clause-spread
+search-requires-clause-spread g c =
+    let items = ap (λ (h : Heads). h.cells) c.self.view_is in
+    rw items (spread_from_index _ _ c.requires.index)
 
 pub last_up_to-requires-clause-newest : goal.last_up_to-requires-clause-newest
 last_up_to-requires-clause-newest g c =
     let items = ap (λ (h : Heads). h.cells) c.self.view_is in
-    let is = subst (λ (xs : List ℕ). c.index.result.now ≡ get_or xs c.in-Ok.place c.index.result.now) items c.index.ensures in
-    (newest_at _ _ _ _ _ c.requires.index c.in-Ok.ensures is).0
+    let index = subst (IsIndexOf (g.R.Records.cells c.args.records.now)) (sym items) c.requires.index in
+    (newest_at _ _ _ _ _ index c.in-Ok.ensures.at c.get.ensures).0
 
 pub returns-in-Err : goal.returns-in-Err
-returns-in-Err g c = λ b e has key. absurd (none_from_gap _ _ _ _ c.requires.index c.in-Err.ensures b e has key)
+returns-in-Err g c =
+    let items = ap (λ (h : Heads). h.cells) c.self.view_is in
+    let index = subst (IsIndexOf (g.R.Records.cells c.args.records.now)) (sym items) c.requires.index in
+    λ b e has key. absurd (none_from_gap _ _ _ _ index c.in-Err.ensures.gap b e has key)
