@@ -2,16 +2,18 @@
 //!
 //! The events are text in tables, and one small function asks them: a test that holds many values itself is
 //! long to prove.
+ghost use Rattle.std.specs.Prelude.{◌≤◌};
+
 mod lines;
 mod rows;
 
 use etcd_types::Mem;
+use etcd_types::limits::MAX_SEGMENTS;
 use host_front::{Front, HostEvent, HostLine, LineAnswer};
-use lines::{LIVE_QUOTA, Said, Told};
+use lines::{LIVE_QUOTA, LineRow, Said, Told};
 use rows::{ALONE, Asked, FIRST_ROWS, NEIGHBOURS, REFUSALS, Row};
 use std::alloc::Global;
 use std::process::Abort;
-use std::test::Fail;
 use steps_core::Host;
 
 fn bytes(alloc: Global, text: &str) -> Mem<Vec<u8>> {
@@ -59,37 +61,49 @@ fn assert_rows(rt: &impl Abort, alloc: Global, front: &mut Front, rows: &[Row]) 
     Ok(())
 }
 
-#[test]
-fn first_rows(rt: HostRuntime) -> Result<(), Fail> {
-    let mut front = Front::new(Host::new(rt.alloc(), 16)?);
-    assert_eq!(rt; front.host().add(rt.alloc(), b"one", 7, 1024, 1), Ok(()));
-    assert_rows(&rt, rt.alloc(), &mut front, &FIRST_ROWS)?;
-    Ok(())
+/// A tenant from revision 1 on, by its name, cluster ID and quota.
+type Tenant = (&'static str, u64, u64);
+
+/// A host of so many segments with these tenants answers each row as it says.
+fn assert_front(
+    rt: &impl Abort,
+    alloc: Global,
+    segments: u32,
+    tenants: &[Tenant],
+    rows: &[Row],
+) -> Mem<()>
+    requires some { 1 ≤ segments }
+    requires most { segments ≤ MAX_SEGMENTS }
+{
+    let mut front = Front::new(Host::new(alloc, segments)?);
+    for (name, cluster, quota) in tenants {
+        let added = front
+            .host()
+            .add(alloc, name.as_bytes(), *cluster, *quota, 1);
+        assert!(rt; added.is_ok(), "{name}");
+    }
+    assert_rows(rt, alloc, &mut front, rows)
 }
 
 #[test]
-fn a_full_neighbour_is_not_noticed(rt: HostRuntime) -> Result<(), Fail> {
-    let mut front = Front::new(Host::new(rt.alloc(), 17)?);
-    assert_eq!(rt; front.host().add(rt.alloc(), b"one", 7, 8, 1), Ok(()));
-    assert_eq!(rt; front.host().add(rt.alloc(), b"two", 9, 1024, 1), Ok(()));
-    assert_rows(&rt, rt.alloc(), &mut front, &NEIGHBOURS)?;
-    Ok(())
+fn first_rows(rt: HostRuntime) -> Mem<()> {
+    assert_front(&rt, rt.alloc(), 16, &[("one", 7, 1024)], &FIRST_ROWS)
 }
 
 #[test]
-fn alone_the_answers_are_the_same(rt: HostRuntime) -> Result<(), Fail> {
-    let mut front = Front::new(Host::new(rt.alloc(), 16)?);
-    assert_eq!(rt; front.host().add(rt.alloc(), b"two", 9, 1024, 1), Ok(()));
-    assert_rows(&rt, rt.alloc(), &mut front, &ALONE)?;
-    Ok(())
+fn a_full_neighbour_is_not_noticed(rt: HostRuntime) -> Mem<()> {
+    let tenants = [("one", 7, 8), ("two", 9, 1024)];
+    assert_front(&rt, rt.alloc(), 17, &tenants, &NEIGHBOURS)
 }
 
 #[test]
-fn refusals_in_their_order(rt: HostRuntime) -> Result<(), Fail> {
-    let mut front = Front::new(Host::new(rt.alloc(), 16)?);
-    assert_eq!(rt; front.host().add(rt.alloc(), b"one", 7, 1024, 1), Ok(()));
-    assert_rows(&rt, rt.alloc(), &mut front, &REFUSALS)?;
-    Ok(())
+fn alone_the_answers_are_the_same(rt: HostRuntime) -> Mem<()> {
+    assert_front(&rt, rt.alloc(), 16, &[("two", 9, 1024)], &ALONE)
+}
+
+#[test]
+fn refusals_in_their_order(rt: HostRuntime) -> Mem<()> {
+    assert_front(&rt, rt.alloc(), 16, &[("one", 7, 1024)], &REFUSALS)
 }
 
 fn line_of(alloc: Global, said: &Said) -> Mem<HostLine> {
@@ -124,17 +138,32 @@ fn is_told(answer: &LineAnswer, told: &Told) -> bool {
     }
 }
 
-#[test]
-fn quotas_change_and_tenants_go(rt: HostRuntime) -> Result<(), Fail> {
-    let mut front = Front::new(Host::new(rt.alloc(), 4)?);
-    let mut lines = Vec::new(rt.alloc());
-    for row in &LIVE_QUOTA {
-        lines.push(line_of(rt.alloc(), &row.said)?)?;
+fn lines_of(alloc: Global, rows: &[LineRow]) -> Mem<Vec<HostLine>> {
+    let mut lines = Vec::new(alloc);
+    for row in rows {
+        lines.push(line_of(alloc, &row.said)?)?;
     }
-    let answers = front.live_all(rt.alloc(), lines.as_slice())?;
-    assert!(rt; answers.len() == LIVE_QUOTA.len());
-    for (answer, row) in answers.iter().zip(&LIVE_QUOTA) {
+    Ok(lines)
+}
+
+/// What a host of four segments answers.
+fn answers_of(alloc: Global, lines: &[HostLine]) -> Mem<Vec<LineAnswer>> {
+    let mut front = Front::new(Host::new(alloc, 4)?);
+    front.live_all(alloc, lines)
+}
+
+/// Each line is answered as its row says.
+fn assert_told(rt: &impl Abort, answers: &[LineAnswer], rows: &[LineRow]) {
+    assert!(rt; answers.len() == rows.len());
+    for (answer, row) in answers.iter().zip(rows) {
         assert!(rt; is_told(answer, &row.told));
     }
+}
+
+#[test]
+fn quotas_change_and_tenants_go(rt: HostRuntime) -> Mem<()> {
+    let lines = lines_of(rt.alloc(), &LIVE_QUOTA)?;
+    let answers = answers_of(rt.alloc(), lines.as_slice())?;
+    assert_told(&rt, answers.as_slice(), &LIVE_QUOTA);
     Ok(())
 }

@@ -1,9 +1,16 @@
 //! What a host answers its tenants and its operator, by worked examples.
+//!
+//! A test is a table of turns. One small function owns the host: each way out of it is long to prove.
+ghost use Rattle.std.specs.Prelude.{◌≤◌};
 
+mod turns;
+
+use etcd_types::limits::MAX_SEGMENTS;
 use etcd_types::{List, Mem, PutReq, Reply, Step};
 use std::alloc::Global;
-use std::test::Fail;
-use steps_core::{Host, OperatorFault};
+use std::process::Abort;
+use steps_core::Host;
+use turns::{ALONE, FIRST_FAULTS, FULL_TENANT, OTHER_QUOTAS, REMOVED, Turn};
 
 fn put(alloc: Global) -> Mem<Step> {
     Ok(Step::Put(PutReq {
@@ -45,105 +52,76 @@ fn told_of(host: &mut Host, alloc: Global, names: &[&str]) -> Mem<Vec<i64>> {
     Ok(all)
 }
 
-#[test]
-fn a_full_tenant_is_its_own_matter(rt: HostRuntime) -> Result<(), Fail> {
-    let mut host = Host::new(rt.alloc(), 17)?;
-    assert_eq!(rt; host.add(rt.alloc(), b"one", 7, 8, 1), Ok(()));
-    assert_eq!(rt; host.add(rt.alloc(), b"two", 8, 1024, 1), Ok(()));
-    let names = [
-        "one", "two", "one", "two", "one", "two", "one", "two", "nobody",
-    ];
-    let told = told_of(&mut host, rt.alloc(), names.as_slice())?;
-    assert_eq!(rt; told.as_slice(), [2, 2, 3, 3, 4, 4, -9, 5, -16].as_slice());
+/// Puts of these tenants in turn are told so.
+fn assert_puts(
+    rt: &impl Abort,
+    alloc: Global,
+    host: &mut Host,
+    names: &[&str],
+    wanted: &[i64],
+) -> Mem<()> {
+    let told = told_of(host, alloc, names)?;
+    assert_eq!(rt; told.as_slice(), wanted);
     Ok(())
 }
 
-#[test]
-fn a_tenant_alone_is_told_the_same(rt: HostRuntime) -> Result<(), Fail> {
-    let mut host = Host::new(rt.alloc(), 16)?;
-    assert_eq!(rt; host.add(rt.alloc(), b"two", 8, 1024, 1), Ok(()));
-    assert!(rt; host.has(b"two") && !host.has(b"one"));
-    let told = told_of(
-        &mut host,
-        rt.alloc(),
-        ["two", "two", "two", "two"].as_slice(),
-    )?;
-    assert_eq!(rt; told.as_slice(), [2, 3, 4, 5].as_slice());
-    Ok(())
-}
-
-#[test]
-fn tells_the_first_fault(rt: HostRuntime) -> Result<(), Fail> {
-    let mut host = Host::new(rt.alloc(), 2)?;
-    assert_eq!(rt;
-        host.add(rt.alloc(), b"one", 7, 129, 1),
-        Err(OperatorFault::Short)
-    );
-    assert_eq!(rt; host.add(rt.alloc(), b"one", 7, 65, 1), Ok(()));
-    assert_eq!(rt;
-        host.add(rt.alloc(), b"one", 7, 64, 1),
-        Err(OperatorFault::Taken)
-    );
-    assert_eq!(rt;
-        host.add(rt.alloc(), b"two", 8, 64, 1),
-        Err(OperatorFault::Short)
-    );
-    assert_eq!(rt;
-        host.add(rt.alloc(), b"Two", 8, 64, 1),
-        Err(OperatorFault::Name)
-    );
-    assert_eq!(rt;
-        host.add(rt.alloc(), b"two", 0, 64, 1),
-        Err(OperatorFault::Limits)
-    );
-    assert_eq!(rt;
-        host.add(rt.alloc(), b"one", 7, 3, 1),
-        Err(OperatorFault::Limits)
-    );
-    Ok(())
-}
-
-#[test]
-fn a_quota_is_changed_and_the_alarm_stays(rt: HostRuntime) -> Result<(), Fail> {
-    let mut host = Host::new(rt.alloc(), 4)?;
-    assert_eq!(rt; host.add(rt.alloc(), b"one", 7, 8, 1), Ok(()));
-    let names = ["one", "one", "one"];
-    let told = told_of(&mut host, rt.alloc(), names.as_slice())?;
-    assert_eq!(rt; told.as_slice(), [2, 3, 4].as_slice());
-    assert_eq!(rt; host.resize(b"one", 4), Ok(()));
-    let told = told_of(&mut host, rt.alloc(), ["one"].as_slice())?;
-    assert_eq!(rt; told.as_slice(), [-9].as_slice());
-    assert_eq!(rt; host.resize(b"one", 257), Err(OperatorFault::Short));
-    assert_eq!(rt; host.resize(b"one", 256), Ok(()));
-    let told = told_of(&mut host, rt.alloc(), ["one"].as_slice())?;
-    assert_eq!(rt; told.as_slice(), [-9].as_slice());
-    assert_eq!(rt; host.resize(b"two", 8), Err(OperatorFault::NoTenant));
-    assert_eq!(rt; host.resize(b"two", 3), Err(OperatorFault::Limits));
-    assert_eq!(rt; host.resize(b"Two", 3), Err(OperatorFault::Name));
-    assert_eq!(rt; host.remove(b"two"), Err(OperatorFault::NoTenant));
-    assert_eq!(rt; host.remove(b"Two"), Err(OperatorFault::Name));
-    assert_eq!(rt; host.remove(b"one"), Ok(()));
-    let told = told_of(&mut host, rt.alloc(), ["one"].as_slice())?;
-    assert_eq!(rt; told.as_slice(), [-16].as_slice());
-    Ok(())
-}
-
-#[test]
-fn a_removed_tenant_leaves_its_segments(rt: HostRuntime) -> Result<(), Fail> {
-    let mut host = Host::new(rt.alloc(), 2)?;
-    assert_eq!(rt; host.add(rt.alloc(), b"one", 7, 64, 1), Ok(()));
-    assert_eq!(rt; host.add(rt.alloc(), b"two", 8, 64, 1), Ok(()));
-    assert_eq!(rt;
-        host.add(rt.alloc(), b"three", 9, 64, 1),
-        Err(OperatorFault::Short)
-    );
-    for revision in 2..33 {
-        let told = told_of(&mut host, rt.alloc(), ["one"].as_slice())?;
-        assert_eq!(rt; told.as_slice(), [revision].as_slice());
+/// A turn is told what it says.
+fn assert_turn(rt: &impl Abort, alloc: Global, host: &mut Host, turn: &Turn) -> Mem<()> {
+    match *turn {
+        Turn::Add(name, cluster, quota, told) => {
+            assert!(rt;
+                host.add(alloc, name.as_bytes(), cluster, quota, 1) == told,
+                "add {name}"
+            );
+        }
+        Turn::Resize(name, quota, told) => {
+            assert!(rt;
+                host.resize(name.as_bytes(), quota) == told,
+                "resize {name}"
+            );
+        }
+        Turn::Remove(name, told) => {
+            assert!(rt; host.remove(name.as_bytes()) == told, "remove {name}");
+        }
+        Turn::Has(name, told) => assert!(rt; host.has(name.as_bytes()) == told, "has {name}"),
+        Turn::Puts(names, told) => return assert_puts(rt, alloc, host, names, told),
     }
-    assert_eq!(rt; host.remove(b"one"), Ok(()));
-    assert_eq!(rt; host.add(rt.alloc(), b"three", 9, 64, 1), Ok(()));
-    let told = told_of(&mut host, rt.alloc(), ["three", "two", "one"].as_slice())?;
-    assert_eq!(rt; told.as_slice(), [2, 2, -16].as_slice());
     Ok(())
+}
+
+/// A new host tells each turn what it says.
+fn assert_turns(rt: &impl Abort, alloc: Global, segments: u32, turns: &[Turn]) -> Mem<()>
+    requires some { 1 ≤ segments }
+    requires most { segments ≤ MAX_SEGMENTS }
+{
+    let mut host = Host::new(alloc, segments)?;
+    for turn in turns {
+        assert_turn(rt, alloc, &mut host, turn)?;
+    }
+    Ok(())
+}
+
+#[test]
+fn a_full_tenant_is_its_own_matter(rt: HostRuntime) -> Mem<()> {
+    assert_turns(&rt, rt.alloc(), 17, &FULL_TENANT)
+}
+
+#[test]
+fn a_tenant_alone_is_told_the_same(rt: HostRuntime) -> Mem<()> {
+    assert_turns(&rt, rt.alloc(), 16, &ALONE)
+}
+
+#[test]
+fn tells_the_first_fault(rt: HostRuntime) -> Mem<()> {
+    assert_turns(&rt, rt.alloc(), 2, &FIRST_FAULTS)
+}
+
+#[test]
+fn a_quota_is_changed_and_the_alarm_stays(rt: HostRuntime) -> Mem<()> {
+    assert_turns(&rt, rt.alloc(), 4, &OTHER_QUOTAS)
+}
+
+#[test]
+fn a_removed_tenant_leaves_its_segments(rt: HostRuntime) -> Mem<()> {
+    assert_turns(&rt, rt.alloc(), 2, &REMOVED)
 }
