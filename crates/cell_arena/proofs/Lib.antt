@@ -6,6 +6,7 @@ pub mod Freeing
 pub mod Fronts
 pub mod Inserted
 pub mod Loans
+pub mod Numbers
 pub mod Records
 pub mod Rewriting
 pub mod Rooms

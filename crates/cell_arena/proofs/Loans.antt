@@ -3,7 +3,7 @@ use Rattle.std.proofs.Common.{refl, arith, ◌∙◌}
 use Rattle.cell_arena.specs.Loan.{Loan, Share, IsLent, Settles, KeepsShare}
 
 pub settles_none : (s : Share) (l : Loan) → Settles s l s l
-settles_none s l = record { rooms = refl; reserved = refl; left = refl; room = refl; others = refl }
+settles_none s l = record { rooms = refl; reserved = refl; left = refl; room = refl; numbers = λ n. refl; others = refl }
 
 pub settles_both : (a b c : Share) (k l m : Loan) → Settles a k b l → Settles b l c m → Settles a k c m
 settles_both a b c k l m one two = record {
@@ -11,6 +11,7 @@ settles_both a b c k l m one two = record {
   reserved = two.reserved ∙ one.reserved;
   left = two.left ∙ one.left;
   room = omega (arith, one.room, two.room);
+  numbers = λ n. omega (arith, one.numbers n, two.numbers n);
   others = two.others ∙ one.others;
 }
 
@@ -28,5 +29,6 @@ settles_kept a b c k l settles kept = record {
   reserved = kept.reserved ∙ settles.reserved;
   left = omega (arith, settles.left, kept.drawn);
   room = omega (arith, settles.room, kept.drawn);
+  numbers = λ n. omega (arith, settles.numbers n, kept.numbers n);
   others = settles.others;
 }

@@ -1,5 +1,5 @@
 -- A table with more slots, and one that gives all its segments back.
-use Rattle.std.proofs.Common.{◌≡◌, ℕ, zero, suc, ◌+◌, ◌-◌, ◌*◌, ◌/◌, ◌%◌, ◌<◌, ◌^◌, List, [], ◌∷◌, ◌++◌, length, map, get_or, sum_by, refl, sym, ap, ◌∙◌, inl, inr, ◌⊎◌, arith, subst}
+use Rattle.std.proofs.Common.{◌≡◌, ℕ, zero, suc, ◌+◌, ◌-◌, ◌*◌, ◌/◌, ◌%◌, ◌<◌, ◌^◌, List, [], ◌∷◌, ◌++◌, length, map, get_or, replicate, sum_by, refl, sym, ap, ◌∙◌, inl, inr, ◌⊎◌, arith, subst}
 use Rattle.std.proofs.lemmas.Bool.{cases_eq, cases_lt}
 use Rattle.std.proofs.lemmas.List.{length_push, get_or_push, get_or_append_left}
 use Rattle.std.proofs.lemmas.List.Sums.{sum_by-cons}
@@ -12,7 +12,7 @@ use Rattle.cell_arena.specs.Chain.{IsBare, IsLinked, cell_at, record_at}
 use Rattle.cell_arena.specs.Loan.{Share, with_rooms}
 use Rattle.cell_arena.specs.Order.{IsOrder, count_of, place_of}
 use Rattle.cell_arena.specs.Region.{IsRegion, region_of, roomier}
-use Rattle.cell_arena.specs.Table.{IsTable, IsSlot, SameCells, slot_cells, hidden, share_of, table_at, free_of, used_of, busy_of}
+use Rattle.cell_arena.specs.Table.{IsTable, IsSlot, SameCells, slot_cells, hidden, share_of, table_at, free_of, used_of, busy_of, numbers_in}
 use Rattle.cell_arena.proofs.Records.{get_held}
 use Rattle.cell_arena.proofs.Tables.{none_listed}
 
@@ -124,6 +124,11 @@ opened_table t u bare was is few slots order count last places ready drawn reser
           full = λ h. old.full (omega (arith, place, ready));
         }
 
+-- and no more numbers
+pub pushed_numbers : (slots : List Slot) (bare : Slot) → IsBare bare → numbers_in (slots ++ bare ∷ []) ≡ numbers_in slots
+pushed_numbers [] bare is = let idle : busy_of bare ≡ 0 = omega (arith, ap length is.cells) in ap (λ b. replicate b bare.number ++ []) idle
+pushed_numbers (s ∷ slots) bare is = ap (λ xs. replicate (busy_of s) s.number ++ xs) (pushed_numbers slots bare is)
+
 -- ---- a region
 
 -- the same cells are the same records
@@ -150,8 +155,9 @@ grown_held t u slots was table same used share =
     let rooms : length u.slots.items ≡ (with_rooms slots (region_of t).share).rooms = ap (λ (s : Share). s.rooms) share in
     let reserved : u.reserved ≡ t.reserved = ap (λ (s : Share). s.reserved) share in
     let drawn : sum_by busy_of u.slots.items ≡ sum_by busy_of t.slots.items = sym table.busy ∙ ap (λ (s : Share). s.drawn) share ∙ was.busy in
+    let numbers : numbers_in u.slots.items ≡ numbers_in t.slots.items = ap (λ (s : Share). s.numbers) share in
     let free : 64 * u.reserved - u.used ≡ 64 * t.reserved - t.used = omega (arith, reserved, used) in
-    λ i. record { records = records i; free = free i; share = record { rooms = rooms i; reserved = reserved i; drawn = drawn i } }
+    λ i. record { records = records i; free = free i; share = record { rooms = rooms i; reserved = reserved i; drawn = drawn i; numbers = numbers i } }
 
 pub kept_held : (t u : Table) → IsTable t → IsTable u → SameCells t u → u.used ≡ t.used → share_of u ≡ share_of t → region_of u ≡ region_of t
 kept_held t u was table same used share =
@@ -159,8 +165,9 @@ kept_held t u was table same used share =
     let rooms : length u.slots.items ≡ length t.slots.items = ap (λ (s : Share). s.rooms) share in
     let reserved : u.reserved ≡ t.reserved = ap (λ (s : Share). s.reserved) share in
     let drawn : sum_by busy_of u.slots.items ≡ sum_by busy_of t.slots.items = sym table.busy ∙ ap (λ (s : Share). s.drawn) share ∙ was.busy in
+    let numbers : numbers_in u.slots.items ≡ numbers_in t.slots.items = ap (λ (s : Share). s.numbers) share in
     let free : 64 * u.reserved - u.used ≡ 64 * t.reserved - t.used = omega (arith, reserved, used) in
-    λ i. record { records = records i; free = free i; share = record { rooms = rooms i; reserved = reserved i; drawn = drawn i } }
+    λ i. record { records = records i; free = free i; share = record { rooms = rooms i; reserved = reserved i; drawn = drawn i; numbers = numbers i } }
 
 -- ---- all segments are given back
 

@@ -1,5 +1,5 @@
 -- A table and an order as they begin.
-use Rattle.std.proofs.Common.{◌≡◌, ℕ, zero, suc, ◌+◌, ◌-◌, ◌*◌, ◌/◌, ◌%◌, ◌<◌, ◌≤◌, ◌^◌, List, [], ◌∷◌, ◌++◌, length, map, get_or, Some, None, sum_by, refl, sym, ap, ◌∙◌, inl, inr, arith, subst}
+use Rattle.std.proofs.Common.{◌≡◌, ℕ, zero, suc, ◌+◌, ◌-◌, ◌*◌, ◌/◌, ◌%◌, ◌<◌, ◌≤◌, ◌^◌, List, [], ◌∷◌, ◌++◌, length, map, get_or, replicate, Some, None, sum_by, refl, sym, ap, ◌∙◌, inl, inr, arith, subst}
 use Rattle.std.proofs.lemmas.Bool.{cases_eq}
 use Rattle.std.proofs.lemmas.List.{length_push, get_or_push, get_or_append_left}
 use Rattle.std.proofs.lemmas.List.Sums.{sum_by-cons}
@@ -13,7 +13,7 @@ use Rattle.cell_arena.specs.declared.table.Table.{Table}
 use Rattle.cell_arena.specs.Chain.{IsBare, AllBare, cell_at, link_of, record_of}
 use Rattle.cell_arena.specs.Region.{region_of, no_records, IsRegion}
 use Rattle.cell_arena.specs.Order.{IsOrder, count_of}
-use Rattle.cell_arena.specs.Table.{IsTable, IsSlot, slot_cells, hidden, table_at, free_of, used_of, busy_of}
+use Rattle.cell_arena.specs.Table.{IsTable, IsSlot, slot_cells, hidden, table_at, free_of, used_of, busy_of, numbers_in}
 use Rattle.cell_arena.proofs.Records.{empty_is, get_held}
 use Rattle.cell_arena.proofs.Tables.{none_listed}
 
@@ -117,9 +117,16 @@ bare_sound t table all = record {
     no_link : (i n : ℕ) → link_of (table_at t i) ≡ Some n → ⊥
     no_link i n names = let none = ap link_of (bare_cell t all i) in cc
 
+bare_numbers : (slots : List Slot) → AllBare slots → numbers_in slots ≡ []
+bare_numbers [] all = refl
+bare_numbers (s ∷ slots) all =
+    let idle : busy_of s ≡ 0 = omega (arith, ap length all.0.cells) in
+    ap (λ b. replicate b s.number ++ numbers_in slots) idle ∙ bare_numbers slots all.1
+
 pub bare_held : (t : Table) (cells : ℕ) → IsTable t → AllBare t.slots.items → t.reserved ≡ cells / 64 → length t.slots.items ≡ cells / 64 → t.drawn ≡ 0 → t.used ≡ 0 → cells % 64 ≡ 0 → region_of t ≡ no_records cells
 bare_held t cells table all reserved rooms drawn used whole =
     let records : (region_of t).records ≡ empty = empty_is (region_of t).records (λ q. get_held t q ∙ ap (record_of (table_at t)) (bare_cell t all q)) in
     let free : 64 * t.reserved - t.used ≡ cells = omega (arith, reserved, used, whole) in
     let none : sum_by busy_of t.slots.items ≡ 0 = sym table.busy ∙ drawn in
-    λ i. record { records = records i; free = free i; share = record { rooms = rooms i; reserved = reserved i; drawn = none i } }
+    let numbers = bare_numbers t.slots.items all in
+    λ i. record { records = records i; free = free i; share = record { rooms = rooms i; reserved = reserved i; drawn = none i; numbers = numbers i } }

@@ -104,7 +104,7 @@ first_empty t s was some read =
     let is : get_or t.order.order.items t.drawn 0 ≡ s = get_or_default t.order.order.items t.drawn 0 s first ∙ sym read in
     (omega (arith, was.order.at t.drawn first, is, was.size), ap (place_of t.order) (sym is) ∙ was.order.back t.drawn first)
 
-again : (xs : List Slot) (s : ℕ) (d : Slot) → s < length xs → get_or xs s (get_or xs s d) ≡ get_or xs s d
+pub again : (xs : List Slot) (s : ℕ) (d : Slot) → s < length xs → get_or xs s (get_or xs s d) ≡ get_or xs s d
 again xs s d less = get_or_default xs s (get_or xs s d) d less
 
 no_free : (c : Slot) → IsListed c → length c.cells.items ≡ 0 → c.free ≡ 0

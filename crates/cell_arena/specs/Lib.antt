@@ -6,3 +6,4 @@ pub mod Loan
 pub mod Table
 pub mod Storing
 pub mod Region
+pub mod Segments

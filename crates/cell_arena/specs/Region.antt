@@ -12,7 +12,7 @@ use Rattle.cell_arena.specs.declared.cell.Fields.{Fields}
 use Rattle.cell_arena.specs.declared.table.Table.{Table}
 use Rattle.cell_arena.specs.Chain.{IsLinked, record_at, Record, pieces}
 use Rattle.cell_arena.specs.Loan.{Share, share_code, undrawn, with_rooms, with_reserved}
-use Rattle.cell_arena.specs.Table.{IsTable, table_at, busy_of}
+use Rattle.cell_arena.specs.Table.{IsTable, table_at, busy_of, numbers_in}
 
 -- the records by their head cells, how many cells are free of those reserved, and the region's rooms and
 -- segments: the drawn ones are those with a cell in use
@@ -91,6 +91,7 @@ region_of t = record {
     rooms = length t.slots.items;
     reserved = t.reserved;
     drawn = sum_by busy_of t.slots.items;
+    numbers = numbers_in t.slots.items;
   };
 }
 

@@ -1,5 +1,5 @@
 -- A table of segments.
-use Rattle.std.specs.Prelude.{◌≡◌, ℕ, ◌+◌, ◌-◌, ◌*◌, ◌/◌, ◌%◌, ◌^◌, ◌<◌, ◌≤◌, min, List, [], map, length}
+use Rattle.std.specs.Prelude.{◌≡◌, ℕ, ◌+◌, ◌-◌, ◌*◌, ◌/◌, ◌%◌, ◌^◌, ◌<◌, ◌≤◌, min, List, [], ◌∷◌, ◌++◌, map, length, replicate}
 use Rattle.std.specs.Prelude.{None, sum_by, slice_index_or, vec_capacity}
 use Rattle.cell_arena.specs.declared.cell.Cell.{Cell}
 use Rattle.cell_arena.specs.declared.cell.Cell.TheVariants.{Free, Head, Rest}
@@ -45,6 +45,11 @@ used_of slot = length slot.cells.items - slot.free
 abbrev pub busy_of : Slot → ℕ
 busy_of slot = min 1 (used_of slot)
 
+-- the numbers of the segments that have a cell in use
+abbrev pub numbers_in : List Slot → List ℕ
+numbers_in [] = []
+numbers_in (slot ∷ slots) = replicate (busy_of slot) slot.number ++ numbers_in slots
+
 -- first the slots with free cells, then the full ones, then those without a segment
 pub record IsTable (t : Table) : Type 0 where
   pub few : length t.slots.items ≤ 2 ^ 14
@@ -63,15 +68,14 @@ pub record IsTable (t : Table) : Type 0 where
 abbrev pub HasCells : Table → ℕ → Type 0
 HasCells t cells = t.used + cells ≤ 64 * t.reserved
 
--- its rooms, and how many segments are reserved and drawn
+-- its rooms, how many segments are reserved and drawn, and the numbers of those
 abbrev pub share_of : Table → Share
-share_of t = record { rooms = length t.slots.items; reserved = t.reserved; drawn = t.drawn }
-
--- one more is drawn
-pub record DrawsOne (old new : Share) : Type 0 where
-  pub rooms : new.rooms ≡ old.rooms
-  pub reserved : new.reserved ≡ old.reserved
-  pub drawn : new.drawn ≡ old.drawn + 1
+share_of t = record {
+  rooms = length t.slots.items;
+  reserved = t.reserved;
+  drawn = t.drawn;
+  numbers = numbers_in t.slots.items;
+}
 
 -- every number stands for the cell that it stood for
 abbrev pub SameCells : Table → Table → Type 0
@@ -83,3 +87,4 @@ pub record OpensSlot (old new : Table) : Type 0 where
   pub reserved : new.reserved ≡ old.reserved
   pub drawn : new.drawn ≡ old.drawn
   pub used : new.used ≡ old.used
+  pub numbers : numbers_in new.slots.items ≡ numbers_in old.slots.items

@@ -28,7 +28,7 @@ impl Segment {
 
 /// Where a region draws its segments, and gives them back.
 pub trait Segments {
-    /// What it has: how many may still be drawn and given back, and what neither changes.
+    /// What it has: how many may still be drawn and given back, of which numbers, and what neither changes.
     ghost loan: { Self → Loan };
 
     /// How many may still be drawn.
@@ -42,10 +42,10 @@ pub trait Segments {
     /// Takes one segment, whatever its cells hold.
     fn draw(&mut self) -> Segment
         requires { 0 < (loan self.old).left }
-        ensures { Draws (loan self.old) (loan self.new) };
+        ensures { Draws result.number (loan self.old) (loan self.new) };
 
     /// Gives one segment back, as it is.
     fn give_back(&mut self, segment: Segment)
         requires { 0 < (loan self.old).room }
-        ensures { Draws (loan self.new) (loan self.old) };
+        ensures { Draws segment.number (loan self.new) (loan self.old) };
 }

@@ -54,6 +54,7 @@ pub(crate) fn store(slot: &mut Slot, cell: Cell) -> u32
     ensures within { result < length slot.old.cells.items }
     ensures written { Writes (slot_at slot.old) (slot_at slot.new) result cell }
     ensures length { length slot.new.cells.items ≡ length slot.old.cells.items }
+    ensures number { slot.new.number ≡ slot.old.number }
 {
     let (place, next) = first_free(slot);
     slot.first = next;
@@ -70,6 +71,7 @@ pub(crate) fn free_cell(slot: &mut Slot, place: u32)
     ensures free { slot.new.free ≡ slot.old.free + 1 }
     ensures written { Writes (slot_at slot.old) (slot_at slot.new) place (Cell.Free slot.old.first) }
     ensures length { length slot.new.cells.items ≡ length slot.old.cells.items }
+    ensures number { slot.new.number ≡ slot.old.number }
 {
     slot.cells[place as usize] = Cell::Free(slot.first);
     slot.first = link_to(place);
@@ -85,6 +87,7 @@ pub(crate) fn rewrite(slot: &mut Slot, place: u32, cell: Cell)
     ensures free { slot.new.free ≡ slot.old.free }
     ensures written { Writes (slot_at slot.old) (slot_at slot.new) place cell }
     ensures length { length slot.new.cells.items ≡ length slot.old.cells.items }
+    ensures number { slot.new.number ≡ slot.old.number }
 {
     slot.cells[place as usize] = cell;
 }
@@ -107,6 +110,7 @@ pub(crate) fn clean(segment: Segment) -> Slot
     ensures all { AllFree result }
     ensures free { result.free ≡ 64 }
     ensures size { length result.cells.items ≡ 64 }
+    ensures number { result.number ≡ segment.number }
 {
     let Segment { number, mut cells } = segment;
     let mut first = Link::none();

@@ -3,8 +3,8 @@ ghost use Rattle.std.specs.Prelude.{◌≡◌, ◌+◌, ◌*◌, ◌<◌, ◌≤
 ghost use Rattle.std.specs.Prelude.{◌==◌, ◌≢◌, slice_index_or, None, MatchOption};
 ghost use Rattle.cell_arena.specs.declared.slot.Slot.{Slot};
 ghost use Rattle.cell_arena.specs.Chain.{is_free, Writes, AllBare};
-ghost use Rattle.cell_arena.specs.Loan.{IsLent, Settles, KeepsShare, DrawsFor, DrawsNone, Draws};
-ghost use Rattle.cell_arena.specs.Table.{IsTable, hidden, table_at, HasCells, share_of, DrawsOne};
+ghost use Rattle.cell_arena.specs.Loan.{IsLent, Settles, KeepsShare, DrawsFor, DrawsNone};
+ghost use Rattle.cell_arena.specs.Table.{IsTable, hidden, table_at, HasCells, share_of};
 
 use crate::cell::Cell;
 use crate::order::{self, Order};
@@ -103,9 +103,10 @@ fn put_drawn<S: Segments>(table: &mut Table, segments: &mut S, cell: Cell) -> Ce
     ensures was_free { is_free (table_at table.old result) ≡ true }
     ensures written { Writes (table_at table.old) (table_at table.new) result cell }
     ensures used { table.new.used ≡ table.old.used + 1 }
-    ensures more { DrawsOne (share_of table.old) (share_of table.new) }
+    ensures more { table.new.drawn ≡ table.old.drawn + 1 }
     ensures length { length table.new.slots.items ≡ length table.old.slots.items }
-    ensures draws { Draws (S.loan segments.old) (S.loan segments.new) }
+    ensures settles { Settles (share_of table.old) (S.loan segments.old)
+        (share_of table.new) (S.loan segments.new) }
 {
     let number = table.order.order[table.drawn as usize];
     let mut slot = slot::clean(segments.draw());
@@ -176,9 +177,10 @@ fn empty_slot<S: Segments>(table: &mut Table, segments: &mut S, number: u32, pla
     ensures written { Writes (table_at table.old) (table_at table.new) (number * 64 + place)
         (Cell.Free None) }
     ensures used { table.new.used + 1 ≡ table.old.used }
-    ensures fewer { DrawsOne (share_of table.new) (share_of table.old) }
+    ensures fewer { table.new.drawn + 1 ≡ table.old.drawn }
     ensures length { length table.new.slots.items ≡ length table.old.slots.items }
-    ensures returns { Draws (S.loan segments.new) (S.loan segments.old) }
+    ensures settles { Settles (share_of table.old) (S.loan segments.old)
+        (share_of table.new) (S.loan segments.new) }
 {
     let nothing = slot::none(table.alloc);
     let Slot {

@@ -1,5 +1,5 @@
 -- One pool of segments, the tickets that reserve some of them, and stocks of segments.
-use Rattle.std.specs.Prelude.{◌≡◌, ◌≢◌, ℕ, ◌+◌, ◌<◌, List, sum, Option, Some, slice_get, slice_index}
+use Rattle.std.specs.Prelude.{◌≡◌, ◌≢◌, ℕ, zero, suc, ◌+◌, ◌<◌, List, [], ◌∷◌, ◌++◌, sum, Option, Some, slice_get, slice_index}
 
 -- under which number, how many segments are reserved, and how many of these are drawn
 pub record TicketState : Type 0 where
@@ -8,8 +8,9 @@ pub record TicketState : Type 0 where
   pub drawn : ℕ
 
 pub record PoolState : Type 0 where
-  -- the segments that no ticket drew
+  -- how many segments no ticket drew, and their numbers
   pub free : ℕ
+  pub numbers : List ℕ
   -- over all tickets, those reserved and not drawn, and those drawn
   pub promised : ℕ
   pub out : ℕ
@@ -18,10 +19,20 @@ pub record PoolState : Type 0 where
   -- of each segment the number of the ticket that drew it
   pub owners : List (Option ℕ)
 
--- the segments that a stock holds, and how many more it takes without memory
+-- how many segments a stock holds, how many more it takes without memory, and the numbers of those it holds
 pub record StockState : Type 0 where
   pub held : ℕ
   pub room : ℕ
+  pub numbers : List ℕ
+
+-- the numbers below this one, from 0 on
+unfoldable pub all_below : ℕ → List ℕ
+all_below zero = []
+all_below (suc n) = all_below n ++ n ∷ []
+
+-- a stock of so many new segments
+abbrev pub new_stock : ℕ → StockState
+new_stock segments = record { held = segments; room = 0; numbers = all_below segments }
 
 -- of the numbers that no ticket holds, the least
 pub record IsLeastUnheld (reservations : List ℕ) (number : ℕ) : Type 0 where

@@ -17,6 +17,7 @@ impl Segments for Desk {
     ghost loan = { λ d. record {
       left = d.ticket.reserved - d.ticket.drawn;
       room = d.ticket.drawn;
+      numbers = d.pool.numbers;
       others = d.ticket.number ∷ d.ticket.reserved ∷ (d.pool.promised + d.ticket.drawn)
           ∷ (d.pool.free + d.ticket.drawn) ∷ (d.pool.out - d.ticket.drawn) ∷ d.pool.reservations;
     } };

@@ -1,5 +1,7 @@
 //! Segments that are held, with room for more.
-ghost use Rattle.std.specs.Prelude.{◌≡◌, ◌+◌, ◌≤◌, ◌∷◌, [], max, IfOk, IsOk, OnOk, OnErr};
+ghost use Rattle.std.specs.Prelude.{ℕ, ◌≡◌, ◌+◌, ◌≤◌, ◌∷◌, [], max, IfOk, IsOk, OnOk, OnErr};
+ghost use Rattle.cell_arena.specs.Loan.{times};
+ghost use Rattle.etcd_model.specs.Pool.{new_stock};
 
 use crate::supply::new_segments;
 use cell_arena::{Segment, Segments};
@@ -15,12 +17,17 @@ pub struct Stock {
 
 impl Model for Stock {
     ghost use Rattle.std.specs.Prelude.{◌-◌, ◌<◌, ◌^◌, vec_len, vec_capacity};
+    ghost use Rattle.cell_arena.specs.Segments.{numbers_of};
     ghost use Rattle.etcd_model.specs.Pool.{StockState};
 
     ghost Value = { StockState };
 
     ghost view = { λ s.
-        record { held = vec_len s.segments; room = vec_capacity s.segments - vec_len s.segments } };
+        record {
+          held = vec_len s.segments;
+          room = vec_capacity s.segments - vec_len s.segments;
+          numbers = numbers_of s.segments.items;
+        } };
 
     ghost invariant = { λ s. vec_capacity s.segments < 2 ^ 32 };
 }
@@ -28,7 +35,7 @@ impl Model for Stock {
 impl Stock {
     /// A stock of so many new segments, with room for no more. Of none it takes no memory.
     pub fn new(alloc: Global, segments: u32) -> Mem<Stock>
-        ensures { IfOk result (λ stock. stock ≡ record { held = segments; room = 0 }) }
+        ensures { IfOk result (λ stock. stock ≡ new_stock segments) }
     {
         let segments = new_segments(alloc, segments)?;
         Ok(Stock { segments })
@@ -63,6 +70,8 @@ impl Stock {
         ensures from_room { self.new.room ≡ self.old.room + count }
         ensures to_held { to.new.held ≡ to.old.held + count }
         ensures to_room { to.new.room + count ≡ to.old.room }
+        ensures numbers { (n : ℕ) → times n self.new.numbers + times n to.new.numbers
+            ≡ times n self.old.numbers + times n to.old.numbers }
     {
         'moving: for _i in 0..count {
             let segment = self.draw();
@@ -72,7 +81,12 @@ impl Stock {
 }
 
 impl Segments for Stock {
-    ghost loan = { λ s. record { left = s.held; room = s.room; others = (s.held + s.room) ∷ [] } };
+    ghost loan = { λ s. record {
+      left = s.held;
+      room = s.room;
+      numbers = s.numbers;
+      others = (s.held + s.room) ∷ [];
+    } };
 
     fn left(&self) -> u32 {
         self.held()

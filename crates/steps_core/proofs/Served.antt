@@ -137,10 +137,10 @@ none_held d idle promised out reserved = record {
   out = omega (arith, out);
 }
 
-pub opened : {A : Type 0} (es : List (Vec ℕ A × Tenant)) (d : Desk) (segments : ℕ) → es ≡ []
-    → d.pool ≡ record { free = segments; promised = 0; out = 0; reservations = replicate segments 0; owners = replicate segments None }
+pub opened : {A : Type 0} (es : List (Vec ℕ A × Tenant)) (d : Desk) (segments : ℕ) (numbers : List ℕ) → es ≡ []
+    → d.pool ≡ record { free = segments; numbers = numbers; promised = 0; out = 0; reservations = replicate segments 0; owners = replicate segments None }
     → d.ticket ≡ record { number = MAX_SEGMENTS; reserved = 0; drawn = 0 } → IsHost es d
-opened es d segments none pool ticket = subst (λ xs. IsHost xs d) (sym none) (none_held d
+opened es d segments numbers none pool ticket = subst (λ xs. IsHost xs d) (sym none) (none_held d
     (record { reserved = ap (λ (t : TicketState). t.reserved) ticket; drawn = ap (λ (t : TicketState). t.drawn) ticket })
     (ap (λ (p : PoolState). p.promised) pool) (ap (λ (p : PoolState). p.out) pool)
     (ap (λ (p : PoolState). sum p.reservations) pool ∙ sum_by-replicate (λ x. x) segments 0 ∙ (omega arith)))

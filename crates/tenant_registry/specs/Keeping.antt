@@ -1,6 +1,6 @@
 -- What lies under a tenant's lock.
 use Rattle.std.specs.Prelude.{◌≡◌, ℕ, ◌+◌, List, [], ◌∷◌, refl}
-use Rattle.std.specs.Coded.{Coded, code_by, coded×, coded_ℕ}
+use Rattle.std.specs.Coded.{Coded, code_by, coded×, coded_ℕ, coded_list}
 use Rattle.cell_arena.specs.Loan.{Loan, IsLent}
 use Rattle.etcd_model.specs.Held.{Holds}
 use Rattle.etcd_model.specs.Pool.{StockState}
@@ -15,9 +15,9 @@ pub record Content : Type 0 where
 
 abbrev pub stock_code : Coded StockState
 stock_code =
-    code_by (ℕ × ℕ) (coded× coded_ℕ coded_ℕ)
-    (λ s. (s.held, s.room))
-    (λ p. record { held = p.0; room = p.1 })
+    code_by (ℕ × (ℕ × List ℕ)) (coded× coded_ℕ (coded× coded_ℕ (coded_list coded_ℕ)))
+    (λ s. (s.held, (s.room, s.numbers)))
+    (λ p. record { held = p.0; room = p.1.0; numbers = p.1.1 })
     (λ _. refl)
 
 -- the code, by that of an audit
@@ -30,7 +30,7 @@ content_code log_code =
 
 -- a stock, as it is lent
 abbrev pub loan_of : StockState → Loan
-loan_of s = record { left = s.held; room = s.room; others = (s.held + s.room) ∷ [] }
+loan_of s = record { left = s.held; room = s.room; numbers = s.numbers; others = (s.held + s.room) ∷ [] }
 
 -- The audit is lawful. The machine holds the state after its acts and those that came once it was full, so
 -- while it is not full, the state to which the audit leads. The stock has what the machine may draw, and room

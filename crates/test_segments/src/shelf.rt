@@ -25,12 +25,17 @@ pub struct Shelf {
 
 impl Model for Shelf {
     ghost use Rattle.std.specs.Prelude.{◌-◌, ◌<◌, ◌^◌, vec_len, vec_capacity};
+    ghost use Rattle.cell_arena.specs.Segments.{numbers_of};
     ghost use Rattle.test_segments.specs.Shelf.{Counts};
 
     ghost Value = { Counts };
 
     ghost view = { λ s.
-        record { held = vec_len s.segments; room = vec_capacity s.segments - vec_len s.segments } };
+        record {
+          held = vec_len s.segments;
+          room = vec_capacity s.segments - vec_len s.segments;
+          numbers = numbers_of s.segments.items;
+        } };
 
     ghost invariant = { λ s. vec_capacity s.segments < 2 ^ 32 };
 }
@@ -62,7 +67,7 @@ impl Shelf {
     /// Takes the segment of the lowest number.
     pub fn take_lowest(&mut self) -> Segment
         requires { 0 < self.old.held }
-        ensures { Draws (loan_of self.old) (loan_of self.new) }
+        ensures { Draws result.number (loan_of self.old) (loan_of self.new) }
     {
         let at = lowest(self.segments.as_slice());
         self.segments.remove(at)
@@ -71,7 +76,7 @@ impl Shelf {
     /// Takes the segment of the highest number.
     pub fn take_highest(&mut self) -> Segment
         requires { 0 < self.old.held }
-        ensures { Draws (loan_of self.old) (loan_of self.new) }
+        ensures { Draws result.number (loan_of self.old) (loan_of self.new) }
     {
         let at = highest(self.segments.as_slice());
         self.segments.remove(at)
@@ -80,7 +85,7 @@ impl Shelf {
     /// Puts a segment back.
     pub fn put(&mut self, segment: Segment)
         requires { 0 < self.old.room }
-        ensures { Draws (loan_of self.new) (loan_of self.old) }
+        ensures { Draws segment.number (loan_of self.new) (loan_of self.old) }
     {
         self.segments.push_reserved(segment);
     }
@@ -115,7 +120,9 @@ fn stray_head(link: Link) -> HeadCell {
     }
 }
 
-fn segment_of(alloc: Global, number: u32, fill: Fill) -> Mem<Segment> {
+fn segment_of(alloc: Global, number: u32, fill: Fill) -> Mem<Segment>
+    ensures { IfOk result (λ segment. segment.number ≡ number) }
+{
     let mut cells = vec![in alloc; Cell::Free(Link::none()); 64]?;
     'filling: for place in 0..64 {
         cells[place as usize] = cell_of(fill, place);

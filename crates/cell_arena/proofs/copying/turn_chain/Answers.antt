@@ -11,7 +11,7 @@ turning-init c =
       table = c.requires.table;
       turning = subst (λ n. IsTurning (table_at c.args.table.now) 0 n c.none-next.result c.args.first (turned_bytes (table_at c.args.table.now) c.args.count c.args.first ++ [])) e (turning_none (table_at c.args.table.now) c.args.count c.none-next.result c.args.first c.requires.linked c.none-next.ensures c.requires.chain c.requires.loose);
       used = refl;
-      share = record { rooms = refl; reserved = refl; drawn = refl };
+      share = record { rooms = refl; reserved = refl; drawn = refl; numbers = λ n. refl };
       kept = λ q. refl;
       size = refl;
     }
@@ -40,7 +40,7 @@ turning-preserved c =
       table = c.rewrite.ensures.table;
       turning = rw c.to-next.ensures (subst (λ n. IsTurning (table_at c.rewrite.new.table) (c.turning._i + 1) n (Some c.rest_at-at.result.0) c.rest_at-at.result.2 bytes) fewer (subst (λ n. IsTurning (table_at c.rewrite.new.table) n (left - 1) (Some c.rest_at-at.result.0) c.rest_at-at.result.2 bytes) done more));
       used = c.rewrite.ensures.used ∙ was.used;
-      share = record { rooms = c.rewrite.ensures.share.rooms ∙ was.share.rooms; reserved = c.rewrite.ensures.share.reserved ∙ was.share.reserved; drawn = c.rewrite.ensures.share.drawn ∙ was.share.drawn };
+      share = record { rooms = c.rewrite.ensures.share.rooms ∙ was.share.rooms; reserved = c.rewrite.ensures.share.reserved ∙ was.share.reserved; drawn = c.rewrite.ensures.share.drawn ∙ was.share.drawn; numbers = λ n. c.rewrite.ensures.share.numbers n ∙ was.share.numbers n };
       kept = λ q. same q ∙ was.kept q;
       size = c.rewrite.ensures.length ∙ was.size;
     }

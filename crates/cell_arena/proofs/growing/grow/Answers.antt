@@ -9,6 +9,7 @@ opening-preserved c = record {
   slots = omega (arith, c.open_slot.ensures.opens.slots, c.opening.invariant.slots);
   reserved = c.open_slot.ensures.opens.reserved ∙ c.opening.invariant.reserved;
   drawn = c.open_slot.ensures.opens.drawn ∙ c.opening.invariant.drawn;
+  numbers = c.open_slot.ensures.opens.numbers ∙ c.opening.invariant.numbers;
   used = c.open_slot.ensures.opens.used ∙ c.opening.invariant.used;
   room = omega (arith, c.open_slot.ensures.capacity, c.opening.invariant.room);
   order =

@@ -1,6 +1,6 @@
 use Rattle.std.proofs.Common.{◌≡◌, ◌+◌, ◌-◌, ◌≤◌, length, vec_capacity}
 use Rattle.cell_arena.specs.Order.{HasRoom}
-use Rattle.cell_arena.specs.Table.{IsTable, SameCells}
+use Rattle.cell_arena.specs.Table.{IsTable, SameCells, numbers_in}
 use Rattle.cell_arena.proofs.growing.grow.Given as goal
 
 abbrev pub invariant-opening : goal.invariant-opening
@@ -10,6 +10,7 @@ invariant-opening l = record {
   slots : length l.table.slots.items ≡ length l.fn.table.slots.items + l._i;
   reserved : l.table.reserved ≡ l.fn.table.reserved;
   drawn : l.table.drawn ≡ l.fn.table.drawn;
+  numbers : numbers_in l.table.slots.items ≡ numbers_in l.fn.table.slots.items;
   used : l.table.used ≡ l.fn.table.used;
   room : length l.fn.table.slots.items + l.more ≤ vec_capacity l.table.slots;
   order : HasRoom l.table.order (l.more - l._i);

@@ -1,6 +1,7 @@
 use Rattle.std.proofs.Common.{◌≡◌, [], None, sym, ◌∙◌, ap, length, vec_capacity}
 use Rattle.cell_arena.specs.declared.slot.Slot.{Slot}
-use Rattle.cell_arena.proofs.Tables.{emptied, emptied_written, place_read, none_listed, used_within}
+use Rattle.cell_arena.proofs.Tables.{emptied, emptied_written, place_read, none_listed, used_within, used_drawn}
+use Rattle.cell_arena.proofs.Numbers.{settles_given}
 use Rattle.cell_arena.proofs.table.empty_slot.Goals as goal
 
 pub returns-clause-table : goal.returns-clause-table
@@ -22,3 +23,11 @@ returns-clause-written g c =
     let read = sym c.index_mut.ensures.value in
     let bare : c.replace-of_source.new.dest.cells.items ≡ [] = ap (λ (x : Slot). x.cells.items) c.replace-of_source.ensures.after ∙ c.none-nothing.ensures.cells in
     emptied_written c.args.table.now c.args.number c.args.place c.index_mut.result.now c.replace-of_source.new.dest c.requires.table c.requires.small c.requires.used read (c.requires.last _ read) bare
+
+pub returns-clause-settles : goal.returns-clause-settles
+returns-clause-settles g c =
+    let read = sym c.index_mut.ensures.value in
+    let less = used_within c.args.table.now c.args.number c.args.place c.requires.small c.requires.used in
+    let in_use = used_drawn c.args.table.now c.args.number c.args.place c.index_mut.result.now c.requires.table c.requires.small c.requires.used read in
+    let bare : c.replace-of_source.new.dest.cells.items ≡ [] = ap (λ (x : Slot). x.cells.items) c.replace-of_source.ensures.after ∙ c.none-nothing.ensures.cells in
+    settles_given c.args.table.now _ _ c.args.number _ c.index_mut.result.now c.replace-of_source.new.dest c.requires.table less read in_use (c.requires.last _ read) (ap length bare) (ap (λ (x : Slot). x.number) (sym c.replace-of_source.ensures.value)) c.give_back.ensures

@@ -1,5 +1,6 @@
 use Rattle.std.proofs.Common.{sym, arith}
 use Rattle.cell_arena.proofs.Tables.{used_within, used_in, used_drawn, some_used, freed_written, free_kept, free_opened, place_read}
+use Rattle.cell_arena.proofs.Numbers.{share_kept, below_64}
 use Rattle.cell_arena.proofs.table.free_in.Goals as goal
 
 pub free_cell-requires-clause-used : goal.free_cell-requires-clause-used
@@ -36,3 +37,19 @@ pub returns-clause-used : goal.returns-clause-used
 returns-clause-used c =
     let read = sym c.index_mut-slot.ensures.value in
     omega (arith, some_used c.args.table.now c.args.number c.index_mut-slot.result.now c.requires.table (used_within c.args.table.now c.args.number c.args.place c.requires.small c.requires.used) read (used_drawn c.args.table.now c.args.number c.args.place c.index_mut-slot.result.now c.requires.table c.requires.small c.requires.used read))
+
+pub returns-then-free-eq1-clause-share : goal.returns-then-free-eq1-clause-share
+returns-then-free-eq1-clause-share c =
+    let read = sym c.index_mut-slot.ensures.value in
+    let less = used_within c.args.table.now c.args.number c.args.place c.requires.small c.requires.used in
+    let in_use = used_drawn c.args.table.now c.args.number c.args.place c.index_mut-slot.result.now c.requires.table c.requires.small c.requires.used read in
+    share_kept c.args.table.now c.args.number c.index_mut-slot.result.now c.free_cell.new.slot c.requires.table less read in_use c.free_cell.ensures.length
+    (omega (arith, c.free_cell.ensures.free, c.requires.others _ read, below_64 c.args.table.now c.args.number c.index_mut-slot.result.now c.requires.table less read in_use)) c.free_cell.ensures.number
+
+pub returns-clause-share : goal.returns-clause-share
+returns-clause-share c =
+    let read = sym c.index_mut-slot.ensures.value in
+    let less = used_within c.args.table.now c.args.number c.args.place c.requires.small c.requires.used in
+    let in_use = used_drawn c.args.table.now c.args.number c.args.place c.index_mut-slot.result.now c.requires.table c.requires.small c.requires.used read in
+    share_kept c.args.table.now c.args.number c.index_mut-slot.result.now c.free_cell.new.slot c.requires.table less read in_use c.free_cell.ensures.length
+    (omega (arith, c.free_cell.ensures.free, c.requires.others _ read, below_64 c.args.table.now c.args.number c.index_mut-slot.result.now c.requires.table less read in_use)) c.free_cell.ensures.number

@@ -1,5 +1,6 @@
-use Rattle.std.proofs.Common.{◌∙◌, arith}
-use Rattle.cell_arena.proofs.Tables.{first_empty, put_table, drawn_written, empty_was_free}
+use Rattle.std.proofs.Common.{◌∙◌, arith, get_or}
+use Rattle.cell_arena.proofs.Tables.{first_empty, put_table, drawn_written, empty_was_free, again}
+use Rattle.cell_arena.proofs.Numbers.{settles_drawn}
 use Rattle.cell_arena.proofs.table.put_drawn.Goals as goal
 
 pub returns-clause-table : goal.returns-clause-table
@@ -16,3 +17,10 @@ pub returns-clause-was_free : goal.returns-clause-was_free
 returns-clause-was_free g c =
     let at = first_empty c.args.table.now c.index-number.result.now c.requires.table (omega (arith, c.requires.some, c.requires.table.reserved)) c.index-number.ensures in
     rw c.at.ensures (empty_was_free c.args.table.now c.index-number.result.now c.store-place.result c.store-place.new.slot c.requires.table at.0 at.1 (omega (arith, c.store-place.ensures.within, c.clean-slot.ensures.size)))
+
+pub returns-clause-settles : goal.returns-clause-settles
+returns-clause-settles g c =
+    let at = first_empty c.args.table.now c.index-number.result.now c.requires.table (omega (arith, c.requires.some, c.requires.table.reserved)) c.index-number.ensures in
+    let old = get_or c.args.table.now.slots.items c.index-number.result.now c.store-place.new.slot in
+    settles_drawn c.args.table.now _ _ c.index-number.result.now _ old c.store-place.new.slot c.requires.table at.0 (again c.args.table.now.slots.items c.index-number.result.now c.store-place.new.slot at.0) at.1
+    (c.store-place.ensures.length ∙ c.clean-slot.ensures.size) (c.store-place.ensures.free ∙ c.clean-slot.ensures.free) (c.store-place.ensures.number ∙ c.clean-slot.ensures.number) c.draw.ensures

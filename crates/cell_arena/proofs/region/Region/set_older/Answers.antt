@@ -23,4 +23,5 @@ returns-clause-share c =
       rooms = c.set_older.ensures.share.rooms ∙ sym e.rooms;
       reserved = omega (arith, e.reserved, c.set_older.ensures.share.reserved);
       drawn = omega (arith, c.set_older.ensures.table.busy, e.drawn, c.set_older.ensures.share.drawn);
+      numbers = λ n. c.set_older.ensures.share.numbers n ∙ sym (e.numbers n);
     }

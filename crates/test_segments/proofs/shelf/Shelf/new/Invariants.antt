@@ -1,5 +1,11 @@
 use Rattle.std.proofs.Common.{◌≡◌, vec_len, vec_capacity}
+use Rattle.cell_arena.specs.Segments.{numbers_of}
+use Rattle.etcd_model.specs.Pool.{all_below}
 use Rattle.test_segments.proofs.shelf.Shelf.new.Given as goal
 
 abbrev pub invariant-making : goal.invariant-making
-invariant-making l = record { size : vec_len l.segments ≡ l.number; room : vec_capacity l.segments ≡ l.count }
+invariant-making l = record {
+  size : vec_len l.segments ≡ l.number;
+  room : vec_capacity l.segments ≡ l.count;
+  numbers : numbers_of l.segments.items ≡ all_below l.number;
+}
