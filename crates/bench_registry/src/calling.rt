@@ -38,7 +38,17 @@ pub(crate) fn time_of_run<R: Threads + Wait + Clock + Sync>(
 ) -> Result<Duration> {
     let mut registry = opened(alloc)?;
     let callers = callers_of(rt, alloc, &mut registry, spread, threads)?;
-    let registry = &registry;
+    time_of_calls(rt, alloc, &registry, callers, asked)
+}
+
+/// How long a thread for each caller takes for its calls.
+fn time_of_calls<R: Threads + Wait + Clock + Sync>(
+    rt: &R,
+    alloc: Global,
+    registry: &Registry,
+    callers: Vec<Caller>,
+    asked: Asked,
+) -> Result<Duration> {
     let begin = Instant::now(rt)?;
     let told = thread::map_vec(
         rt,

@@ -23,11 +23,17 @@ impl Filled {
             tenant: Tenant::new(alloc)?,
             map: BTreeMap::new(alloc),
         };
-        for request in &keys.puts(alloc, keys.count)? {
-            filled.tenant.put(alloc, request)?;
-            filled.insert(alloc, request)?;
-        }
+        filled.put_all(alloc, &keys.puts(alloc, keys.count)?)?;
         Ok(filled)
+    }
+
+    /// Puts all of these into both.
+    fn put_all(&mut self, alloc: Global, requests: &[PutReq]) -> Result<()> {
+        for request in requests {
+            self.tenant.put(alloc, request)?;
+            self.insert(alloc, request)?;
+        }
+        Ok(())
     }
 
     /// Puts a key into the map.

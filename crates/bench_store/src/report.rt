@@ -9,6 +9,7 @@ use crate::putting::Putting;
 use crate::ranging::Ranging;
 use anyhow::Result;
 use bench_measure::{print_heading, print_times};
+use etcd_types::PutReq;
 use std::alloc::Global;
 use std::time::CpuClock;
 
@@ -61,15 +62,34 @@ pub(crate) fn measure_all(rt: &(impl Print + CpuClock + Alloc<A = Global>)) -> R
 
 /// Measures all at one size.
 fn measure_size(rt: &(impl Print + CpuClock + Alloc<A = Global>), keys: Keys) -> Result<()> {
-    let alloc = rt.alloc();
-    let mut filled = Filled::new(alloc, keys)?;
-    measure_reading(rt, keys, &filled)?;
+    let mut filled = Filled::new(rt.alloc(), keys)?;
+    measure_filled(rt, keys, &mut filled)
+}
+
+fn measure_filled(
+    rt: &(impl Print + CpuClock + Alloc<A = Global>),
+    keys: Keys,
+    filled: &mut Filled,
+) -> Result<()> {
+    measure_reading(rt, keys, filled)?;
     let turns = (keys.count / 50).clamp(1, 1_000);
-    let puts = keys.puts(alloc, 10 * turns)?;
-    print_times(rt, OVERWRITE, &mut Putting::new(&mut filled, &puts), turns)?;
-    let puts = keys.new_puts(alloc, 10 * turns)?;
-    print_times(rt, NEW, &mut Putting::new(&mut filled, &puts), turns)?;
-    measure_compacting(rt, keys, &mut filled)
+    let puts = keys.puts(rt.alloc(), 10 * turns)?;
+    measure_putting(rt, OVERWRITE, filled, &puts, turns)?;
+    let puts = keys.new_puts(rt.alloc(), 10 * turns)?;
+    measure_putting(rt, NEW, filled, &puts, turns)?;
+    measure_compacting(rt, keys, filled)
+}
+
+fn measure_putting(
+    rt: &(impl Print + CpuClock + Alloc<A = Global>),
+    name: &str,
+    filled: &mut Filled,
+    puts: &[PutReq],
+    turns: u32,
+) -> Result<()>
+    requires { 0 < turns }
+{
+    print_times(rt, name, &mut Putting::new(filled, puts), turns)
 }
 
 fn measure_reading(

@@ -2,6 +2,7 @@
 use crate::giving::{CHANGES, time_of_change};
 use crate::putting::time_of_put;
 use crate::taking::{time_of_events, time_of_quiet};
+use crate::tenant::Tenant;
 use anyhow::Result;
 use std::alloc::Global;
 use std::time::CpuClock;
@@ -44,24 +45,60 @@ fn print_time(rt: &impl Print, name: &str, time: u64, first: u64) -> Result<()> 
     Ok(())
 }
 
+/// What is timed.
+#[derive(Clone, Copy, Debug)]
+enum Timed {
+    /// A put beside so many synced watches: of its key, or of others.
+    Put { watches: u8, is_watched: bool },
+    /// A quiet take in a store of so many keys.
+    Quiet { keys: u32 },
+    /// A take of sixteen revisions that are in the ring, or not.
+    Events { is_in_ring: bool },
+    /// A change that takes give, with a catch-up of so many before each take, or none.
+    Change { budget: u32 },
+}
+
+impl Timed {
+    fn put(watches: u8, is_watched: bool) -> Timed {
+        Timed::Put {
+            watches,
+            is_watched,
+        }
+    }
+
+    /// Nanoseconds of processor time, on a tenant of its own.
+    fn time(self, rt: &impl CpuClock, alloc: Global) -> Result<u64> {
+        let mut tenant = Tenant::new(alloc)?;
+        match self {
+            Timed::Put {
+                watches,
+                is_watched,
+            } => time_of_put(rt, alloc, &mut tenant, watches, is_watched),
+            Timed::Quiet { keys } => time_of_quiet(rt, alloc, &mut tenant, keys),
+            Timed::Events { is_in_ring } => time_of_events(rt, alloc, &mut tenant, is_in_ring),
+            Timed::Change { budget } => time_of_change(rt, alloc, &mut tenant, budget),
+        }
+    }
+}
+
 /// Measures all, and prints a line for each.
 pub(crate) fn measure_all(rt: &(impl Print + CpuClock + Alloc<A = Global>)) -> Result<()> {
     println!(rt; "{:<48}{:>12}{:>10}", "nanoseconds", "time", "ratio")?;
     measure_puts(rt)?;
     measure_takes(rt)?;
-    let given = time_of_change(rt, rt.alloc(), 0)?;
+    let given = Timed::Change { budget: 0 }.time(rt, rt.alloc())?;
     print_time(rt, GIVEN, given, given)?;
-    let caught_up = time_of_change(rt, rt.alloc(), 256)?;
+    let caught_up = Timed::Change { budget: 256 }.time(rt, rt.alloc())?;
     print_time(rt, CAUGHT_UP, caught_up, given)
 }
 
 fn measure_puts(rt: &(impl Print + CpuClock + Alloc<A = Global>)) -> Result<()> {
-    let alone = time_of_put(rt, rt.alloc(), 0, false)?;
+    let alone = Timed::put(0, false).time(rt, rt.alloc())?;
     print_time(rt, PUT, alone, alone)?;
     for (name, is_watched) in [(OF_OTHERS, false), (OF_THE_KEY, true)] {
         println!(rt; "{name}")?;
         for (label, watches) in [("  1", 1), ("  64", 64)] {
-            let time = time_of_put(rt, rt.alloc(), watches, is_watched)?;
+            let time = Timed::put(watches, is_watched).time(rt, rt.alloc())?;
             print_time(rt, label, time, alone)?;
         }
     }
@@ -69,12 +106,12 @@ fn measure_puts(rt: &(impl Print + CpuClock + Alloc<A = Global>)) -> Result<()> 
 }
 
 fn measure_takes(rt: &(impl Print + CpuClock + Alloc<A = Global>)) -> Result<()> {
-    let quiet = time_of_quiet(rt, rt.alloc(), 1_000)?;
+    let quiet = Timed::Quiet { keys: 1_000 }.time(rt, rt.alloc())?;
     print_time(rt, QUIET, quiet, quiet)?;
-    let of_more = time_of_quiet(rt, rt.alloc(), 100_000)?;
+    let of_more = Timed::Quiet { keys: 100_000 }.time(rt, rt.alloc())?;
     print_time(rt, QUIET_OF_MORE, of_more, quiet)?;
-    let in_ring = time_of_events(rt, rt.alloc(), true)?;
+    let in_ring = Timed::Events { is_in_ring: true }.time(rt, rt.alloc())?;
     print_time(rt, IN_THE_RING, in_ring, in_ring)?;
-    let by_scan = time_of_events(rt, rt.alloc(), false)?;
+    let by_scan = Timed::Events { is_in_ring: false }.time(rt, rt.alloc())?;
     print_time(rt, BY_A_SCAN, by_scan, in_ring)
 }

@@ -40,35 +40,43 @@ fn open_all(alloc: Global, tenant: &mut Tenant, start: i64) -> Result<()> {
     Ok(())
 }
 
-/// The time of a quiet take of a synced watch, in a store of so many keys.
-pub(crate) fn time_of_quiet(rt: &impl CpuClock, alloc: Global, keys: u32) -> Result<u64> {
-    let mut tenant = Tenant::new(alloc)?;
+/// The time of a quiet take of a synced watch, in a store of so many keys. The tenant is new.
+pub(crate) fn time_of_quiet(
+    rt: &impl CpuClock,
+    alloc: Global,
+    tenant: &mut Tenant,
+    keys: u32,
+) -> Result<u64> {
     tenant.put_all(alloc, &puts(alloc, 0, keys)?)?;
-    open_all(alloc, &mut tenant, 0)?;
+    open_all(alloc, tenant, 0)?;
     let mut least = u64::MAX;
     for _ in 0..ROUNDS {
-        let time = time_of_takes(rt, alloc, &mut tenant, 0)?;
+        let time = time_of_takes(rt, alloc, tenant, 0)?;
         least = least.min(time);
     }
     Ok(least)
 }
 
-/// The time of a take of sixteen revisions, which a catch-up put into the ring before, or not.
-pub(crate) fn time_of_events(rt: &impl CpuClock, alloc: Global, is_in_ring: bool) -> Result<u64> {
-    let mut tenant = Tenant::new(alloc)?;
+/// The time of a take of sixteen revisions, which a catch-up put into the ring before, or not. The tenant is
+/// new.
+pub(crate) fn time_of_events(
+    rt: &impl CpuClock,
+    alloc: Global,
+    tenant: &mut Tenant,
+    is_in_ring: bool,
+) -> Result<u64> {
     tenant.put_all(alloc, &puts(alloc, 0, 1_000)?)?;
     let start = tenant.next_revision();
-    let requests = puts(alloc, 7, 1)?;
     for _ in 0..REVISIONS {
-        tenant.put_all(alloc, &requests)?;
+        tenant.put_all(alloc, &puts(alloc, 7, 1)?)?;
     }
     let mut least = u64::MAX;
     for _ in 0..ROUNDS {
-        open_all(alloc, &mut tenant, start)?;
+        open_all(alloc, tenant, start)?;
         if is_in_ring {
             tenant.catch_up(u32::MAX);
         }
-        let time = time_of_takes(rt, alloc, &mut tenant, REVISIONS as usize)?;
+        let time = time_of_takes(rt, alloc, tenant, REVISIONS as usize)?;
         least = least.min(time);
         tenant.drop_watches(WATCHES);
     }

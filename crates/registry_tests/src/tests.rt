@@ -5,7 +5,6 @@ mod opening;
 mod operator;
 
 use callers::Callers;
-use etcd_types::Mem;
 use opening::registry_of;
 use operator::OPERATOR;
 use std::alloc::Global;
@@ -16,57 +15,57 @@ use tenant_registry::Closed;
 use test_rows::{LIVE_ROWS, ROWS, Row};
 
 /// Two callers of a script's tenants answer each line as the row says, and then the audits close.
-fn assert_row<R: Wait + Clock + Abort>(rt: &R, alloc: Global, row: &Row, audit: u32) -> Mem<()> {
+fn assert_row<R: Wait + Clock + Abort>(rt: &R, alloc: Global, row: &Row, audit: u32) {
     let registry = registry_of(rt, alloc, row.script);
     let mut callers = Callers::new(rt, alloc, registry, audit);
-    for line in row.script.as_bytes().split(|byte| *byte == b'\n') {
-        callers.ask(rt, alloc, line)?;
-    }
+    assert_answers(rt, alloc, &mut callers, row);
+    assert_closes(rt, alloc, callers, audit);
+}
+
+fn assert_answers<R: Wait + Clock + Abort>(
+    rt: &R,
+    alloc: Global,
+    callers: &mut Callers,
+    row: &Row,
+) {
+    callers.ask_all(rt, alloc, row.script).expect(rt, "memory");
     assert!(rt;
         callers.answers() == row.answers.as_bytes(),
         "{}",
         row.script
     );
-    assert_closes(rt, alloc, callers, audit)
 }
 
 /// The audits are those of the seats' calls, and have no more entries than they take.
-fn assert_closes(rt: &impl Abort, alloc: Global, callers: Callers, audit: u32) -> Mem<()> {
-    let Closed { audits } = callers.close(rt, alloc)?;
+fn assert_closes(rt: &impl Abort, alloc: Global, callers: Callers, audit: u32) {
+    let Closed { audits } = callers.close(rt, alloc);
     for (_, kept) in &audits {
         assert!(rt; kept.entries.len() <= audit as usize);
     }
-    Ok(())
 }
 
-fn assert_rows<R: Wait + Clock + Abort>(rt: &R, alloc: Global, audit: u32) -> Mem<()> {
+/// All rows, over audits that take so many entries.
+fn assert_rows<R: Wait + Clock + Abort>(rt: &R, alloc: Global, audit: u32) {
     for row in &ROWS {
-        assert_row(rt, alloc, row, audit)?;
+        assert_row(rt, alloc, row, audit);
     }
-    Ok(())
-}
-
-fn assert_live_rows<R: Wait + Clock + Abort>(rt: &R, alloc: Global, audit: u32) -> Mem<()> {
     for row in &LIVE_ROWS {
-        assert_row(rt, alloc, row, audit)?;
+        assert_row(rt, alloc, row, audit);
     }
-    assert_row(rt, alloc, &OPERATOR, audit)
+    assert_row(rt, alloc, &OPERATOR, audit);
 }
 
 #[test]
-fn rows_without_audits(rt: HostRuntime) -> Mem<()> {
-    assert_rows(&rt, rt.alloc(), 0)?;
-    assert_live_rows(&rt, rt.alloc(), 0)
+fn rows_without_audits(rt: HostRuntime) {
+    assert_rows(&rt, rt.alloc(), 0);
 }
 
 #[test]
-fn rows_over_audits_that_are_full(rt: HostRuntime) -> Mem<()> {
-    assert_rows(&rt, rt.alloc(), 1)?;
-    assert_live_rows(&rt, rt.alloc(), 1)
+fn rows_over_audits_that_are_full(rt: HostRuntime) {
+    assert_rows(&rt, rt.alloc(), 1);
 }
 
 #[test]
-fn rows_over_audits_with_room(rt: HostRuntime) -> Mem<()> {
-    assert_rows(&rt, rt.alloc(), 1_000)?;
-    assert_live_rows(&rt, rt.alloc(), 1_000)
+fn rows_over_audits_with_room(rt: HostRuntime) {
+    assert_rows(&rt, rt.alloc(), 1_000);
 }

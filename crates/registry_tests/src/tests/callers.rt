@@ -46,7 +46,7 @@ impl Callers {
     }
 
     /// Ends the registry, with both seats.
-    pub(super) fn close(self, rt: &impl Abort, alloc: Global) -> Mem<Closed> {
+    pub(super) fn close(self, rt: &impl Abort, alloc: Global) -> Closed {
         let Callers {
             registry,
             next,
@@ -55,13 +55,26 @@ impl Callers {
             answers: _,
         } = self;
         let mut seats = Vec::new(alloc);
-        seats.push(next)?;
-        seats.push(other)?;
-        Ok(registry.close(seats).expect(rt, "the audits close"))
+        seats.push(next).expect(rt, "memory");
+        seats.push(other).expect(rt, "memory");
+        registry.close(seats).expect(rt, "the audits close")
+    }
+
+    /// Asks each line of a script.
+    pub(super) fn ask_all<R: Wait + Clock>(
+        &mut self,
+        rt: &R,
+        alloc: Global,
+        script: &str,
+    ) -> Mem<()> {
+        for line in script.as_bytes().split(|byte| *byte == b'\n') {
+            self.ask(rt, alloc, line)?;
+        }
+        Ok(())
     }
 
     /// Asks a line of a script, and keeps what it is answered. The registry was made for its first line.
-    pub(super) fn ask<R: Wait + Clock>(&mut self, rt: &R, alloc: Global, line: &[u8]) -> Mem<()> {
+    fn ask<R: Wait + Clock>(&mut self, rt: &R, alloc: Global, line: &[u8]) -> Mem<()> {
         let (word, rest) = parted(line);
         match word {
             b"" => Ok(()),

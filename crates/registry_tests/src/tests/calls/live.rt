@@ -1,12 +1,12 @@
 //! Quotas that a tenant is given between its calls. What else an operator does is in `operator`.
-use super::{call, config, two_tenants};
+use super::{alone, call, config, two_tenants};
 use etcd_types::{CopyOf, Mem, Reply};
 use gateway_text::write_reply;
 use std::alloc::Global;
 use std::process::Abort;
 use std::rt::Clock;
 use std::sync::Wait;
-use tenant_registry::{Audit, Closed, OpenGate, Registry, Seat};
+use tenant_registry::{Audit, Closed, OpenGate, Receipt, Registry, Seat};
 
 /// A tenant that is opened as an audit says, given its quotas and asked its steps, each in its place, answers
 /// what the audit has.
@@ -17,12 +17,23 @@ pub(super) fn is_replayed<R: Wait + Clock + Abort>(
 ) -> Mem<bool> {
     let mut registry = opened_as(rt, alloc, audit)?;
     let mut seat = registry.seat().expect(rt, "a seat");
+    answers_as(rt, alloc, &registry, &mut seat, audit)
+}
+
+/// The tenant of a registry, once it is open.
+fn answers_as<R: Wait + Clock + Abort>(
+    rt: &R,
+    alloc: Global,
+    registry: &Registry,
+    seat: &mut Seat,
+    audit: &Audit,
+) -> Mem<bool> {
     for (place, entry) in audit.entries.iter().enumerate() {
-        give_quotas(rt, &registry, audit, place);
+        give_quotas(rt, registry, audit, place);
         let step = entry.step.copy_of(alloc)?;
-        let told = registry.call(rt, &mut seat, &OpenGate, b"again", step);
+        let told = registry.call(rt, seat, &OpenGate, b"again", step);
         let receipt = told.expect(rt, "the tenant is there");
-        if !is_text(alloc, &entry.reply, receipt.status(), receipt.body())? {
+        if !is_text(alloc, &entry.reply, &receipt)? {
             return Ok(false);
         }
     }
@@ -47,10 +58,10 @@ fn give_quotas<R: Wait + Abort>(rt: &R, registry: &Registry, audit: &Audit, plac
     }
 }
 
-/// The reply has this text.
-fn is_text(alloc: Global, reply: &Reply, status: u16, body: &[u8]) -> Mem<bool> {
-    let (told, text) = write_reply(alloc, reply)?;
-    Ok(told == status && text.as_slice() == body)
+/// The receipt has the text of a reply.
+pub(super) fn is_text(alloc: Global, reply: &Reply, receipt: &Receipt) -> Mem<bool> {
+    let (status, text) = write_reply(alloc, reply)?;
+    Ok(receipt.status() == status && receipt.body() == text.as_slice())
 }
 
 /// A tenant takes a put, refuses one below what it uses, and has room again; its alarm stays on.
@@ -68,28 +79,26 @@ fn put_and_resize<R: Wait + Clock + Abort>(
 }
 
 /// The first tenant's audit, after these calls on a registry whose audits take so many entries.
-fn audit_of_resizes<R: Wait + Clock + Abort>(rt: &R, alloc: Global, cap: u32) -> Mem<Audit> {
+fn audit_of_resizes<R: Wait + Clock + Abort>(rt: &R, alloc: Global, cap: u32) -> Audit {
     let mut registry = two_tenants(alloc, cap).expect(rt, "two tenants");
     let mut seat = registry.seat().expect(rt, "a seat");
     put_and_resize(rt, alloc, &registry, &mut seat);
-    let seats = vec![in alloc; seat]?;
+    let seats = alone(rt, alloc, seat);
     let Closed { audits } = registry.close(seats).expect(rt, "the audits close");
     let (_, audit) = audits.into_iter().next().expect(rt, "an audit");
-    Ok(audit)
+    audit
 }
 
 #[test]
-fn a_resize_is_kept_and_replayed(rt: HostRuntime) -> Mem<()> {
-    let audit = audit_of_resizes(&rt, rt.alloc(), 8)?;
+fn a_resize_is_kept_and_replayed(rt: HostRuntime) {
+    let audit = audit_of_resizes(&rt, rt.alloc(), 8);
     assert_eq!(rt; (audit.quota, audit.entries.len()), (1024, 3));
     assert!(rt; audit.quotas.as_slice() == [(1, 4), (2, 1024)].as_slice());
-    assert!(rt; is_replayed(&rt, rt.alloc(), &audit)?);
-    Ok(())
+    assert!(rt; is_replayed(&rt, rt.alloc(), &audit).expect(&rt, "memory"));
 }
 
 #[test]
-fn a_full_audit_keeps_no_quota(rt: HostRuntime) -> Mem<()> {
-    let audit = audit_of_resizes(&rt, rt.alloc(), 1)?;
+fn a_full_audit_keeps_no_quota(rt: HostRuntime) {
+    let audit = audit_of_resizes(&rt, rt.alloc(), 1);
     assert_eq!(rt; (audit.entries.len(), audit.quotas.len()), (1, 0));
-    Ok(())
 }

@@ -1,14 +1,12 @@
 //! Several threads call one registry.
-use super::live::is_replayed;
+use super::live::{is_replayed, is_text};
 use super::{call, is_lawful, put, two_tenants};
 use etcd_types::Mem;
-use gateway_text::write_reply;
 use std::alloc::Global;
 use std::process::Abort;
 use std::rt::Clock;
 use std::sync::Wait;
 use std::sync::atomic::{AtomicBool, Ordering};
-use std::test::Fail;
 use std::thread::{self, Threads};
 use std::time::Duration;
 use tenant_registry::{CloseFault, Closed, Gate, Receipt, Registry, Seat};
@@ -25,26 +23,24 @@ fn make_calls<R: Wait + Clock + Abort>(
     rt: &R,
     alloc: Global,
     registry: &Registry,
-    seat: Seat,
+    mut seat: Seat,
 ) -> Work {
-    let mut work = Work {
-        seat,
-        receipts: Vec::new(alloc),
-    };
+    let mut receipts = Vec::new(alloc);
     for _ in 0..50 {
-        let receipt = call(rt, alloc, registry, &mut work.seat, b"one");
-        work.receipts.push(receipt).expect(rt, "memory");
-        call(rt, alloc, registry, &mut work.seat, b"two");
+        let receipt = call(rt, alloc, registry, &mut seat, b"one");
+        receipts.push(receipt).expect(rt, "memory");
+        call(rt, alloc, registry, &mut seat, b"two");
     }
-    work
+    Work { seat, receipts }
 }
 
-fn four_seats(rt: &impl Abort, alloc: Global, registry: &mut Registry) -> Mem<Vec<Seat>> {
+fn four_seats(rt: &impl Abort, alloc: Global, registry: &mut Registry) -> Vec<Seat> {
     let mut seats = Vec::new(alloc);
     for _ in 0..4 {
-        seats.push(registry.seat().expect(rt, "a seat"))?;
+        let seat = registry.seat().expect(rt, "a seat");
+        seats.push(seat).expect(rt, "memory");
     }
-    Ok(seats)
+    seats
 }
 
 /// A thread for each seat, which makes 100 calls.
@@ -53,18 +49,20 @@ fn work_of<R: Threads + Wait + Clock + Abort + Sync>(
     alloc: Global,
     registry: &Registry,
     seats: Vec<Seat>,
-) -> Mem<Vec<Work>> {
-    thread::map_vec(rt, seats, &|seat| make_calls(rt, alloc, registry, seat))
+) -> Vec<Work> {
+    thread::map_vec(rt, seats, &|seat| make_calls(rt, alloc, registry, seat)).expect(rt, "memory")
 }
 
-/// Four seats, each with a thread that makes 100 calls.
-fn work_of_four<R: Threads + Wait + Clock + Abort + Sync>(
-    rt: &R,
-    alloc: Global,
-    registry: &mut Registry,
-) -> Mem<Vec<Work>> {
-    let seats = four_seats(rt, alloc, registry)?;
-    work_of(rt, alloc, registry, seats)
+/// The seats and the receipts of such work, apart.
+fn parted(rt: &impl Abort, alloc: Global, work: Vec<Work>) -> (Vec<Seat>, Vec<Vec<Receipt>>) {
+    let mut seats = Vec::new(alloc);
+    let mut all = Vec::new(alloc);
+    for Work { seat, receipts } in work {
+        assert_eq!(rt; (seat.made(b"one"), seat.made(b"two")), (50, 50));
+        seats.push(seat).expect(rt, "memory");
+        all.push(receipts).expect(rt, "memory");
+    }
+    (seats, all)
 }
 
 /// The first tenant's entries of a seat have the texts of its receipts, in order.
@@ -75,10 +73,8 @@ fn told_in_order(alloc: Global, closed: &Closed, number: usize, receipts: &[Rece
     };
     for entry in &first.1.entries {
         if usize::from(entry.seat) == number {
-            let (status, body) = write_reply(alloc, &entry.reply)?;
             match told.next() {
-                Some(receipt) if receipt.status() == status && receipt.body() == body.as_slice() =>
-                    {}
+                Some(receipt) if is_text(alloc, &entry.reply, receipt)? => {}
                 _ => return Ok(false),
             }
         }
@@ -86,29 +82,30 @@ fn told_in_order(alloc: Global, closed: &Closed, number: usize, receipts: &[Rece
     Ok(told.next().is_none())
 }
 
-#[test]
-fn four_threads_close(rt: HostRuntime) -> Result<(), Fail> {
-    let mut registry = two_tenants(rt.alloc(), 1000).expect(&rt, "two tenants");
-    let mut seats = Vec::new(rt.alloc());
-    let mut receipts = Vec::new(rt.alloc());
-    for done in work_of_four(&rt, rt.alloc(), &mut registry)? {
-        let Work {
-            seat,
-            receipts: told,
-        } = done;
-        assert_eq!(rt; (seat.made(b"one"), seat.made(b"two")), (50, 50));
-        seats.push(seat)?;
-        receipts.push(told)?;
-    }
-    let closed = registry.close(seats).expect(&rt, "the audits close");
+/// Each tenant's audit has the calls of four seats, and is what its machine answers.
+fn assert_lawful(rt: &impl Abort, alloc: Global, closed: &Closed) {
     for audit in &closed.audits {
         assert_eq!(rt; audit.1.entries.len(), 200);
-        assert!(rt; is_lawful(rt.alloc(), &audit.1)?);
+        assert!(rt; is_lawful(alloc, &audit.1).expect(rt, "memory"));
     }
+}
+
+fn assert_told(rt: &impl Abort, alloc: Global, closed: &Closed, receipts: &[Vec<Receipt>]) {
     for (number, told) in receipts.iter().enumerate() {
-        assert!(rt; told_in_order(rt.alloc(), &closed, number, told.as_slice())?);
+        let so = told_in_order(alloc, closed, number, told.as_slice());
+        assert!(rt; so.expect(rt, "memory"));
     }
-    Ok(())
+}
+
+#[test]
+fn four_threads_close(rt: HostRuntime) {
+    let mut registry = two_tenants(rt.alloc(), 1000).expect(&rt, "two tenants");
+    let seats = four_seats(&rt, rt.alloc(), &mut registry);
+    let work = work_of(&rt, rt.alloc(), &registry, seats);
+    let (seats, receipts) = parted(&rt, rt.alloc(), work);
+    let closed = registry.close(seats).expect(&rt, "the audits close");
+    assert_lawful(&rt, rt.alloc(), &closed);
+    assert_told(&rt, rt.alloc(), &closed, receipts.as_slice());
 }
 
 /// The audit of a tenant has so many entries, and the seats have so many calls of it.
@@ -126,16 +123,13 @@ fn is_mismatch(told: &Result<Closed, CloseFault>, name: &[u8], entries: u32, cal
 }
 
 #[test]
-fn a_seat_that_is_kept_back_is_missed(rt: HostRuntime) -> Result<(), Fail> {
+fn a_seat_that_is_kept_back_is_missed(rt: HostRuntime) {
     let mut registry = two_tenants(rt.alloc(), 1000).expect(&rt, "two tenants");
-    let mut seats = Vec::new(rt.alloc());
-    for done in work_of_four(&rt, rt.alloc(), &mut registry)? {
-        seats.push(done.seat)?;
-    }
+    let seats = four_seats(&rt, rt.alloc(), &mut registry);
+    let work = work_of(&rt, rt.alloc(), &registry, seats);
+    let (mut seats, _) = parted(&rt, rt.alloc(), work);
     let _kept_back = seats.pop();
-    let told = registry.close(seats);
-    assert!(rt; is_mismatch(&told, b"one", 200, 150));
-    Ok(())
+    assert!(rt; is_mismatch(&registry.close(seats), b"one", 200, 150));
 }
 
 /// Holds calls on the first tenant until another call was answered.
@@ -213,12 +207,11 @@ fn overlap<R: Threads + Wait + Clock + Abort + Sync>(
 }
 
 #[test]
-fn two_tenants_overlap(rt: HostRuntime) -> Result<(), Fail> {
+fn two_tenants_overlap(rt: HostRuntime) {
     let mut registry = two_tenants(rt.alloc(), 1).expect(&rt, "two tenants");
     let one = registry.seat().expect(&rt, "a seat");
     let two = registry.seat().expect(&rt, "a seat");
     assert!(rt; overlap(&rt, rt.alloc(), &registry, one, two));
-    Ok(())
 }
 
 /// 100 quotas for the first tenant, which its cells in use come to pass.
@@ -238,7 +231,7 @@ fn work_beside_resizes<R: Threads + Wait + Clock + Abort + Sync>(
     alloc: Global,
     registry: &Registry,
     seats: Vec<Seat>,
-) -> Mem<Vec<Work>> {
+) -> Vec<Work> {
     let (work, resized) = thread::join(
         rt,
         || work_of(rt, alloc, registry, seats),
@@ -249,16 +242,18 @@ fn work_beside_resizes<R: Threads + Wait + Clock + Abort + Sync>(
 }
 
 #[test]
-fn four_threads_close_beside_resizes(rt: HostRuntime) -> Result<(), Fail> {
+fn four_threads_close_beside_resizes(rt: HostRuntime) {
     let mut registry = two_tenants(rt.alloc(), 1000).expect(&rt, "two tenants");
-    let seats = four_seats(&rt, rt.alloc(), &mut registry)?;
-    let mut back = Vec::new(rt.alloc());
-    for done in work_beside_resizes(&rt, rt.alloc(), &registry, seats)? {
-        back.push(done.seat)?;
-    }
-    let closed = registry.close(back).expect(&rt, "the audits close");
-    let (_, audit) = closed.audits.first().expect(&rt, "an audit");
+    let seats = four_seats(&rt, rt.alloc(), &mut registry);
+    let work = work_beside_resizes(&rt, rt.alloc(), &registry, seats);
+    let (seats, _) = parted(&rt, rt.alloc(), work);
+    let closed = registry.close(seats).expect(&rt, "the audits close");
+    assert_replayed(&rt, rt.alloc(), &closed);
+}
+
+/// The first tenant's audit has all calls and quotas, and is answered so again.
+fn assert_replayed<R: Wait + Clock + Abort>(rt: &R, alloc: Global, closed: &Closed) {
+    let (_, audit) = closed.audits.first().expect(rt, "an audit");
     assert_eq!(rt; (audit.entries.len(), audit.quotas.len()), (200, 100));
-    assert!(rt; is_replayed(&rt, rt.alloc(), audit)?);
-    Ok(())
+    assert!(rt; is_replayed(rt, alloc, audit).expect(rt, "memory"));
 }
