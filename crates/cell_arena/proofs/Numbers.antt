@@ -1,5 +1,5 @@
 -- The numbers of the segments that a table has drawn.
-use Rattle.std.proofs.Common.{◌≡◌, ℕ, zero, suc, ◌+◌, ◌-◌, ◌*◌, ◌<◌, ◌++◌, List, [], ◌∷◌, length, get_or, set, drop, replicate, sum_by, refl, sym, ap, ◌∙◌, arith}
+use Rattle.std.proofs.Common.{◌≡◌, ℕ, ◌+◌, ◌-◌, ◌*◌, ◌<◌, List, [], ◌∷◌, length, get_or, set, replicate, sum_by, refl, sym, ap, ◌∙◌, arith}
 use Rattle.std.proofs.lemmas.List.{length-set}
 use Rattle.std.proofs.lemmas.List.Sums.{sum_by-cons, sum_by-append, sum_by-set}
 use Rattle.std.proofs.lemmas.List.Folds.{sum_by-replicate}
@@ -36,25 +36,25 @@ one_more : (a b c d x y : ℕ) → a + c ≡ b + d → c ≡ 0 * x → d ≡ 1 *
 one_more a b c d x y sums none once = omega arith
 
 -- as busy as before, and of the same number
-pub times_kept : (n : ℕ) (slots : List Slot) (i : ℕ) (old new : Slot) → i < length slots → get_or slots i old ≡ old → busy_of new ≡ busy_of old → new.number ≡ old.number → times n (numbers_in (set slots i new)) ≡ times n (numbers_in slots)
+times_kept : (n : ℕ) (slots : List Slot) (i : ℕ) (old new : Slot) → i < length slots → get_or slots i old ≡ old → busy_of new ≡ busy_of old → new.number ≡ old.number → times n (numbers_in (set slots i new)) ≡ times n (numbers_in slots)
 times_kept n slots i old new less read busy number =
     same_left (times n (numbers_in (set slots i new))) (times n (numbers_in slots)) (numbered n old) (numbered n new) (times_set n slots i old new less read)
     (ap (λ b. b * is_one n new.number) busy ∙ ap (λ k. busy_of old * is_one n k) number)
 
 -- busy now, and not before
-pub times_more : (n : ℕ) (slots : List Slot) (i : ℕ) (old new : Slot) → i < length slots → get_or slots i old ≡ old → busy_of old ≡ 0 → busy_of new ≡ 1 → times n (numbers_in (set slots i new)) ≡ times n (numbers_in slots) + is_one n new.number
+times_more : (n : ℕ) (slots : List Slot) (i : ℕ) (old new : Slot) → i < length slots → get_or slots i old ≡ old → busy_of old ≡ 0 → busy_of new ≡ 1 → times n (numbers_in (set slots i new)) ≡ times n (numbers_in slots) + is_one n new.number
 times_more n slots i old new less read idle busy =
     one_more (times n (numbers_in (set slots i new))) (times n (numbers_in slots)) (numbered n old) (numbered n new) (is_one n old.number) (is_one n new.number) (times_set n slots i old new less read)
     (ap (λ b. b * is_one n old.number) idle) (ap (λ b. b * is_one n new.number) busy)
 
 -- busy before, and no more
-pub times_fewer : (n : ℕ) (slots : List Slot) (i : ℕ) (old new : Slot) → i < length slots → get_or slots i old ≡ old → busy_of old ≡ 1 → busy_of new ≡ 0 → times n (numbers_in slots) ≡ times n (numbers_in (set slots i new)) + is_one n old.number
+times_fewer : (n : ℕ) (slots : List Slot) (i : ℕ) (old new : Slot) → i < length slots → get_or slots i old ≡ old → busy_of old ≡ 1 → busy_of new ≡ 0 → times n (numbers_in slots) ≡ times n (numbers_in (set slots i new)) + is_one n old.number
 times_fewer n slots i old new less read busy idle =
     one_more (times n (numbers_in slots)) (times n (numbers_in (set slots i new))) (numbered n new) (numbered n old) (is_one n new.number) (is_one n old.number) (sym (times_set n slots i old new less read))
     (ap (λ b. b * is_one n new.number) idle) (ap (λ b. b * is_one n old.number) busy)
 
 -- a drawn slot that still has a cell in use
-pub still_busy : (t : Table) (s : ℕ) (old new : Slot) → IsTable t → s < length t.slots.items → get_or t.slots.items s old ≡ old → place_of t.order s < t.drawn → length new.cells.items ≡ length old.cells.items → new.free < 64 → busy_of new ≡ busy_of old
+still_busy : (t : Table) (s : ℕ) (old new : Slot) → IsTable t → s < length t.slots.items → get_or t.slots.items s old ≡ old → place_of t.order s < t.drawn → length new.cells.items ≡ length old.cells.items → new.free < 64 → busy_of new ≡ busy_of old
 still_busy t s old new was less read in_use size low =
     let slot = was.slots s old less read in
     omega (arith, slot.whole in_use, slot.used in_use, size, low)

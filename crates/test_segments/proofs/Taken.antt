@@ -1,5 +1,5 @@
 -- The numbers of segments from which one is taken.
-use Rattle.std.proofs.Common.{◌≡◌, ℕ, ◌+◌, ◌-◌, ◌<◌, ◌≤◌, List, [], ◌∷◌, length, map, get_or, Vec, vec_len, vec_capacity, sum_by, refl, sym, ap, ◌∙◌, arith, subst}
+use Rattle.std.proofs.Common.{◌≡◌, ℕ, ◌+◌, ◌-◌, ◌<◌, ◌≤◌, List, [], ◌∷◌, length, get_or, Vec, vec_len, vec_capacity, sum_by, refl, sym, ap, ◌∙◌, arith, subst}
 use Rattle.std.specs.List.{remove}
 use Rattle.std.proofs.lemmas.List.Sums.{sum_by-cons, sum_by-remove}
 use Rattle.cell_arena.specs.declared.segments.Segment.{Segment}
@@ -14,7 +14,7 @@ times_of n (s ∷ segments) =
     ∙ ap (λ k. is_one n s.number + k) (times_of n segments)
     ∙ sym (sum_by-cons (λ (x : Segment). is_one n x.number) s segments)
 
-pub times_taken : (n : ℕ) (segments : List Segment) (at : ℕ) (taken : Segment) → at < length segments → taken ≡ get_or segments at taken → times n (numbers_of (remove segments at)) + is_one n taken.number ≡ times n (numbers_of segments)
+times_taken : (n : ℕ) (segments : List Segment) (at : ℕ) (taken : Segment) → at < length segments → taken ≡ get_or segments at taken → times n (numbers_of (remove segments at)) + is_one n taken.number ≡ times n (numbers_of segments)
 times_taken n segments at taken less is =
     ap (λ k. k + is_one n taken.number) (times_of n (remove segments at))
     ∙ ap (λ (s : Segment). sum_by (λ (x : Segment). is_one n x.number) (remove segments at) + is_one n s.number) is

@@ -1,4 +1,4 @@
-use Rattle.std.proofs.Common.{ap, arith, length, ◌∙◌}
+use Rattle.std.proofs.Common.{ap, arith, length}
 use Rattle.test_segments.proofs.Taken.{draws_taken}
 use Rattle.test_segments.proofs.shelf.Shelf.take_highest.Goals as goal
 
