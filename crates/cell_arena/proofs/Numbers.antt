@@ -1,57 +1,65 @@
 -- The numbers of the segments that a table has drawn.
-use Rattle.std.proofs.Common.{◌≡◌, ℕ, ◌+◌, ◌-◌, ◌*◌, ◌<◌, List, [], ◌∷◌, length, get_or, set, replicate, sum_by, refl, sym, ap, ◌∙◌, arith}
-use Rattle.std.proofs.lemmas.List.{length-set}
-use Rattle.std.proofs.lemmas.List.Sums.{sum_by-cons, sum_by-append, sum_by-set}
-use Rattle.std.proofs.lemmas.List.Folds.{sum_by-replicate}
+use Rattle.std.proofs.Common.{◌≡◌, ℕ, zero, suc, ◌+◌, ◌-◌, ◌<◌, List, [], ◌∷◌, ◌++◌, length, get_or, set, drop, replicate, refl, sym, ap, ◌∙◌, subst, arith}
+use Rattle.std.proofs.lemmas.List.{length-set, append_assoc, drop_more}
+use Rattle.std.proofs.lemmas.List.Sorted.{IsPermutation-refl, IsPermutation-sym, IsPermutation-trans, IsPermutation-append_left, IsPermutation-append_right, IsPermutation-append_comm}
+use Rattle.std.specs.List.Sorted.{IsPermutation}
 use Rattle.cell_arena.specs.declared.slot.Slot.{Slot}
 use Rattle.cell_arena.specs.declared.table.Table.{Table}
-use Rattle.cell_arena.specs.Loan.{Loan, Draws, KeepsShare, Settles, is_one, times}
+use Rattle.cell_arena.specs.Loan.{Loan, Draws, KeepsShare, Settles}
 use Rattle.cell_arena.specs.Order.{place_of}
 use Rattle.cell_arena.specs.Table.{IsTable, busy_of, numbers_in, share_of}
+use Rattle.cell_arena.proofs.Loans.{moved_over}
 
--- how often a slot has a number
-abbrev numbered : ℕ → Slot → ℕ
-numbered n slot = busy_of slot * is_one n slot.number
+-- the number of a slot that has a cell in use
+abbrev own : Slot → List ℕ
+own slot = replicate (busy_of slot) slot.number
 
-times_in : (n : ℕ) (slots : List Slot) → times n (numbers_in slots) ≡ sum_by (numbered n) slots
-times_in n [] = refl
-times_in n (slot ∷ slots) =
-    sum_by-append (is_one n) (replicate (busy_of slot) slot.number) (numbers_in slots)
-    ∙ ap (λ k. k + times n (numbers_in slots)) (sum_by-replicate (is_one n) (busy_of slot) slot.number)
-    ∙ ap (λ k. numbered n slot + k) (times_in n slots)
-    ∙ sym (sum_by-cons (numbered n) slot slots)
+front_swap : (a b c : List ℕ) → IsPermutation (a ++ (b ++ c)) (b ++ (a ++ c))
+front_swap a b c =
+    subst (λ (xs : List ℕ). IsPermutation xs (b ++ (a ++ c))) (append_assoc a b c)
+    (subst (IsPermutation ((a ++ b) ++ c)) (append_assoc b a c) (IsPermutation-append_left c (a ++ b) (b ++ a) (IsPermutation-append_comm a b)))
 
 -- another slot in the place of one
-times_set : (n : ℕ) (slots : List Slot) (i : ℕ) (old new : Slot) → i < length slots → get_or slots i old ≡ old → times n (numbers_in (set slots i new)) + numbered n old ≡ times n (numbers_in slots) + numbered n new
-times_set n slots i old new less read =
-    ap (λ k. k + numbered n old) (times_in n (set slots i new))
-    ∙ ap (λ (s : Slot). sum_by (numbered n) (set slots i new) + numbered n s) (sym read)
-    ∙ sum_by-set (numbered n) slots i new old less
-    ∙ ap (λ k. k + numbered n new) (sym (times_in n slots))
-
-same_left : (a b c d : ℕ) → a + c ≡ b + d → d ≡ c → a ≡ b
-same_left a b c d sums same = omega arith
-
-one_more : (a b c d x y : ℕ) → a + c ≡ b + d → c ≡ 0 * x → d ≡ 1 * y → a ≡ b + y
-one_more a b c d x y sums none once = omega arith
+numbers_set : (slots : List Slot) (i : ℕ) (old new : Slot) → i < length slots → get_or slots i old ≡ old → IsPermutation (own new ++ numbers_in slots) (own old ++ numbers_in (set slots i new))
+numbers_set [] i old new less read = absurd (omega arith)
+numbers_set (slot ∷ slots) zero old new less read =
+    subst (λ (s : Slot). IsPermutation (own new ++ (own slot ++ numbers_in slots)) (own s ++ (own new ++ numbers_in slots))) read (front_swap (own new) (own slot) (numbers_in slots))
+numbers_set (slot ∷ slots) (suc i) old new less read =
+    IsPermutation-trans _ _ _ (front_swap (own new) (own slot) (numbers_in slots))
+    (IsPermutation-trans _ _ _ (IsPermutation-append_right (own slot) _ _ (numbers_set slots i old new (omega (arith, less)) read)) (front_swap (own slot) (own old) (numbers_in (set slots i new))))
 
 -- as busy as before, and of the same number
-times_kept : (n : ℕ) (slots : List Slot) (i : ℕ) (old new : Slot) → i < length slots → get_or slots i old ≡ old → busy_of new ≡ busy_of old → new.number ≡ old.number → times n (numbers_in (set slots i new)) ≡ times n (numbers_in slots)
-times_kept n slots i old new less read busy number =
-    same_left (times n (numbers_in (set slots i new))) (times n (numbers_in slots)) (numbered n old) (numbered n new) (times_set n slots i old new less read)
-    (ap (λ b. b * is_one n new.number) busy ∙ ap (λ k. busy_of old * is_one n k) number)
+numbers_kept : (slots : List Slot) (i : ℕ) (old new : Slot) → get_or slots i old ≡ old → busy_of new ≡ busy_of old → new.number ≡ old.number → numbers_in (set slots i new) ≡ numbers_in slots
+numbers_kept [] i old new read busy number = refl
+numbers_kept (slot ∷ slots) zero old new read busy number =
+    ap (λ b. replicate b new.number ++ numbers_in slots) busy ∙ ap (λ k. replicate (busy_of old) k ++ numbers_in slots) number ∙ ap (λ (s : Slot). own s ++ numbers_in slots) (sym read)
+numbers_kept (slot ∷ slots) (suc i) old new read busy number = ap (λ (xs : List ℕ). own slot ++ xs) (numbers_kept slots i old new read busy number)
 
 -- busy now, and not before
-times_more : (n : ℕ) (slots : List Slot) (i : ℕ) (old new : Slot) → i < length slots → get_or slots i old ≡ old → busy_of old ≡ 0 → busy_of new ≡ 1 → times n (numbers_in (set slots i new)) ≡ times n (numbers_in slots) + is_one n new.number
-times_more n slots i old new less read idle busy =
-    one_more (times n (numbers_in (set slots i new))) (times n (numbers_in slots)) (numbered n old) (numbered n new) (is_one n old.number) (is_one n new.number) (times_set n slots i old new less read)
-    (ap (λ b. b * is_one n old.number) idle) (ap (λ b. b * is_one n new.number) busy)
+numbers_more : (slots : List Slot) (i : ℕ) (old new : Slot) → i < length slots → get_or slots i old ≡ old → busy_of old ≡ 0 → busy_of new ≡ 1 → IsPermutation (new.number ∷ numbers_in slots) (numbers_in (set slots i new))
+numbers_more slots i old new less read idle busy =
+    subst (λ b. IsPermutation (new.number ∷ numbers_in slots) (replicate b old.number ++ numbers_in (set slots i new))) idle
+    (subst (λ b. IsPermutation (replicate b new.number ++ numbers_in slots) (own old ++ numbers_in (set slots i new))) busy (numbers_set slots i old new less read))
 
 -- busy before, and no more
-times_fewer : (n : ℕ) (slots : List Slot) (i : ℕ) (old new : Slot) → i < length slots → get_or slots i old ≡ old → busy_of old ≡ 1 → busy_of new ≡ 0 → times n (numbers_in slots) ≡ times n (numbers_in (set slots i new)) + is_one n old.number
-times_fewer n slots i old new less read busy idle =
-    one_more (times n (numbers_in slots)) (times n (numbers_in (set slots i new))) (numbered n new) (numbered n old) (is_one n new.number) (is_one n old.number) (sym (times_set n slots i old new less read))
-    (ap (λ b. b * is_one n new.number) idle) (ap (λ b. b * is_one n old.number) busy)
+numbers_fewer : (slots : List Slot) (i : ℕ) (old new : Slot) → i < length slots → get_or slots i old ≡ old → busy_of old ≡ 1 → busy_of new ≡ 0 → IsPermutation (numbers_in slots) (old.number ∷ numbers_in (set slots i new))
+numbers_fewer slots i old new less read busy idle =
+    subst (λ b. IsPermutation (numbers_in slots) (replicate b old.number ++ numbers_in (set slots i new))) busy
+    (subst (λ b. IsPermutation (replicate b new.number ++ numbers_in slots) (own old ++ numbers_in (set slots i new))) idle (numbers_set slots i old new less read))
+
+numbers_left : (slots : List Slot) (i : ℕ) (slot : Slot) → i < length slots → get_or slots i slot ≡ slot → numbers_in (drop i slots) ≡ own slot ++ numbers_in (drop (i + 1) slots)
+numbers_left slots i slot less read = ap numbers_in (drop_more slots i slot less) ∙ ap (λ (s : Slot). own s ++ numbers_in (drop (i + 1) slots)) read
+
+-- of some slots the next one's segment is given back
+pub left_given : (slots : List Slot) (i : ℕ) (slot : Slot) (all now after : List ℕ) → i < length slots → get_or slots i slot ≡ slot → busy_of slot ≡ 1 → IsPermutation all (now ++ numbers_in (drop i slots)) → IsPermutation after (slot.number ∷ now) → IsPermutation all (after ++ numbers_in (drop (i + 1) slots))
+left_given slots i slot all now after less read busy were given =
+    let here = numbers_left slots i slot less read ∙ ap (λ b. replicate b slot.number ++ numbers_in (drop (i + 1) slots)) busy in
+    IsPermutation-trans _ _ _ were (IsPermutation-sym _ _ (moved_over after now _ _ slot.number slot.number given refl (subst (IsPermutation (slot.number ∷ numbers_in (drop (i + 1) slots))) (sym here) (IsPermutation-refl _))))
+
+-- the next one has none
+pub left_idle : (slots : List Slot) (i : ℕ) (slot : Slot) (all now : List ℕ) → i < length slots → get_or slots i slot ≡ slot → busy_of slot ≡ 0 → IsPermutation all (now ++ numbers_in (drop i slots)) → IsPermutation all (now ++ numbers_in (drop (i + 1) slots))
+left_idle slots i slot all now less read idle were =
+    subst (λ (xs : List ℕ). IsPermutation all (now ++ xs)) (numbers_left slots i slot less read ∙ ap (λ b. replicate b slot.number ++ numbers_in (drop (i + 1) slots)) idle) were
 
 -- a drawn slot that still has a cell in use
 still_busy : (t : Table) (s : ℕ) (old new : Slot) → IsTable t → s < length t.slots.items → get_or t.slots.items s old ≡ old → place_of t.order s < t.drawn → length new.cells.items ≡ length old.cells.items → new.free < 64 → busy_of new ≡ busy_of old
@@ -67,7 +75,7 @@ share_kept t s old new was less read in_use size low number =
       rooms = length-set t.slots.items s new;
       reserved = refl;
       drawn = refl;
-      numbers = λ n. times_kept n t.slots.items s old new less read busy number;
+      numbers = subst (IsPermutation (numbers_in t.slots.items)) (sym (numbers_kept t.slots.items s old new read busy number)) (IsPermutation-refl _);
     }
 
 -- of a drawn slot some cell is in use
@@ -85,7 +93,7 @@ settles_drawn t k l s number old new was less read here size free same draws =
       reserved = refl;
       left = omega (arith, draws.left);
       room = omega (arith, draws.room);
-      numbers = λ n. omega (arith, draws.numbers n, times_more n t.slots.items s old new less read idle busy, ap (is_one n) same);
+      numbers = moved_over k.numbers l.numbers _ _ number new.number draws.numbers same (numbers_more t.slots.items s old new less read idle busy);
       others = draws.others;
     }
 
@@ -100,6 +108,6 @@ settles_given t k l s number old new was less read in_use last size same draws =
       reserved = refl;
       left = omega (arith, draws.left, in_use);
       room = omega (arith, draws.room, in_use);
-      numbers = λ n. omega (arith, draws.numbers n, times_fewer n t.slots.items s old new less read busy idle, ap (is_one n) same);
+      numbers = IsPermutation-sym _ _ (moved_over l.numbers k.numbers _ _ number old.number draws.numbers same (IsPermutation-sym _ _ (numbers_fewer t.slots.items s old new less read busy idle)));
       others = sym draws.others;
     }

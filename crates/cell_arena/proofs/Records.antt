@@ -8,12 +8,14 @@ use Rattle.cell_arena.specs.declared.cell.Cell.{Cell}
 use Rattle.cell_arena.specs.declared.cell.Cell.TheVariants.{Free, Head, Rest}
 use Rattle.std.specs.Prelude.{IsSome, is_some, IfSome}
 use Rattle.std.proofs.lemmas.List.{get_or_past, length-map, length-take, length-drop, length-append}
+use Rattle.std.proofs.lemmas.List.Sorted.{IsPermutation-refl, IsPermutation-sym, IsPermutation-trans, IsPermutation-append_right}
+use Rattle.std.specs.List.Sorted.{IsPermutation}
 use Rattle.std.proofs.Common.{map as list_map}
 use Rattle.cell_arena.specs.declared.cell.HeadCell.{HeadCell}
 use Rattle.cell_arena.specs.declared.cell.Kind.{Kind}
 use Rattle.cell_arena.specs.declared.table.Table.{Table}
-use Rattle.cell_arena.specs.Loan.{Loan, IsLent, Settles, KeepsShare, times}
-use Rattle.cell_arena.specs.Table.{IsTable, table_at, share_of, slot_cells, hidden}
+use Rattle.cell_arena.specs.Loan.{Loan, IsLent, Settles, KeepsShare}
+use Rattle.cell_arena.specs.Table.{IsTable, numbers_in, table_at, share_of, slot_cells, hidden}
 use Rattle.cell_arena.specs.Chain.{is_head, cell_at, IsChain, chain_bytes, IsLinked, head_pieces, record_with, record_of, record_at, Record, SameRecordsBut, cost_at}
 use Rattle.cell_arena.proofs.Chains.{bytes_next}
 use Rattle.cell_arena.specs.Region.{entries_below, entry_before, records_of, RegionState, region_of, record_cost}
@@ -176,11 +178,11 @@ seen_share t seen table is = record {
   rooms = sym (ap (λ (h : RegionState). h.share.rooms) is);
   reserved = sym (ap (λ (h : RegionState). h.share.reserved) is);
   drawn = sym (ap (λ (h : RegionState). h.share.drawn) is) ∙ sym table.busy;
-  numbers = λ n. sym (ap (λ (h : RegionState). times n h.share.numbers) is);
+  numbers = subst (λ (h : RegionState). IsPermutation (numbers_in t.slots.items) h.share.numbers) is (IsPermutation-refl _);
 }
 
 pub share_seen : (t : Table) → IsTable t → KeepsShare (share_of t) (region_of t).share
-share_seen t table = record { rooms = refl; reserved = refl; drawn = sym table.busy; numbers = λ n. refl }
+share_seen t table = record { rooms = refl; reserved = refl; drawn = sym table.busy; numbers = IsPermutation-refl _ }
 
 -- a loan is lent and settled as it is seen
 pub seen_lent : (t : Table) (seen : RegionState) (l : Loan) → IsTable t → region_of t ≡ seen → IsLent seen.share l → IsLent (share_of t) l
@@ -195,7 +197,7 @@ seen_settles t u seen k l table after is settles = let e = seen_share t seen tab
   reserved = omega (arith, settles.reserved, e.reserved);
   left = omega (arith, settles.left, e.drawn, f.drawn);
   room = omega (arith, settles.room, e.drawn, f.drawn);
-  numbers = λ n. omega (arith, settles.numbers n, e.numbers n);
+  numbers = IsPermutation-trans _ _ _ (IsPermutation-append_right k.numbers _ _ (IsPermutation-sym _ _ e.numbers)) settles.numbers;
   others = settles.others;
 }
 

@@ -1,14 +1,7 @@
 -- Segments that are lent to a region's calls.
-use Rattle.std.specs.Prelude.{◌≡◌, ℕ, ◌+◌, ◌/◌, ◌≤◌, max, List, [], sum_by, cond, nat_eq, refl}
+use Rattle.std.specs.Prelude.{◌≡◌, ℕ, ◌+◌, ◌/◌, ◌≤◌, max, List, [], ◌∷◌, ◌++◌, refl}
+use Rattle.std.specs.List.Sorted.{IsPermutation}
 use Rattle.std.specs.Coded.{Coded, code_by, coded×, coded_ℕ, coded_list}
-
--- 1 where a number is this one, and else 0
-abbrev pub is_one : ℕ → ℕ → ℕ
-is_one n number = cond (nat_eq n number) 1 0
-
--- how often a number stands among others
-abbrev pub times : ℕ → List ℕ → ℕ
-times n numbers = sum_by (is_one n) numbers
 
 -- what a source of segments has: how many may still be drawn, how many may still be given back, the numbers
 -- of those that it holds, and what no draw and no give-back changes
@@ -22,7 +15,7 @@ pub record Loan : Type 0 where
 pub record Draws (number : ℕ) (old new : Loan) : Type 0 where
   pub left : new.left + 1 ≡ old.left
   pub room : new.room ≡ old.room + 1
-  pub numbers : (n : ℕ) → times n new.numbers + is_one n number ≡ times n old.numbers
+  pub numbers : IsPermutation old.numbers (number ∷ new.numbers)
   pub others : new.others ≡ old.others
 
 -- what a region has of its source: for how many segments it has rooms, how many are reserved, how many of
@@ -75,7 +68,7 @@ pub record Settles (old : Share) (from : Loan) (new : Share) (to : Loan) : Type 
   pub reserved : new.reserved ≡ old.reserved
   pub left : to.left + new.drawn ≡ from.left + old.drawn
   pub room : to.room + old.drawn ≡ from.room + new.drawn
-  pub numbers : (n : ℕ) → times n to.numbers + times n new.numbers ≡ times n from.numbers + times n old.numbers
+  pub numbers : IsPermutation (from.numbers ++ old.numbers) (to.numbers ++ new.numbers)
   pub others : to.others ≡ from.others
 
 -- as many segments are reserved and drawn as before, of the same numbers
@@ -83,7 +76,7 @@ pub record KeepsShare (old new : Share) : Type 0 where
   pub rooms : new.rooms ≡ old.rooms
   pub reserved : new.reserved ≡ old.reserved
   pub drawn : new.drawn ≡ old.drawn
-  pub numbers : (n : ℕ) → times n new.numbers ≡ times n old.numbers
+  pub numbers : IsPermutation old.numbers new.numbers
 
 -- how many segments so many cells fill
 abbrev pub segments_for : ℕ → ℕ

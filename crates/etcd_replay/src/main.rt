@@ -4,17 +4,7 @@
 //! and 4 where a line or the pool can't be held; the reason stands on standard error.
 #![tactic(auto)]
 
-mod answer;
-mod fault;
-mod lines;
-mod replay;
-mod run;
-mod script;
-#[cfg(test)]
-mod tests;
-
-use fault::ReplayFault;
-use run::run;
+use script_replay::{ReplayFault, run};
 use std::io::{self, BufReader, BufWriter, Write};
 use std::process::ExitCode;
 

@@ -1,4 +1,4 @@
-//! Tests of what is read of a request's body.
+//! Tests of what is read of a request's body and refused for its fields, and of what a reply is written as.
 #![tactic(auto)]
 
 #[cfg(test)]

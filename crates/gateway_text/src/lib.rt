@@ -12,8 +12,6 @@ mod responses;
 mod rows;
 mod size;
 mod streams;
-#[cfg(test)]
-mod tests;
 
 pub use law::answers_read_back;
 pub use refusal::{MEMORY_TEXT, memory_text};

@@ -8,6 +8,7 @@ ghost use Rattle.cell_arena.specs.Loan.{IsLent};
 ghost use Rattle.test_segments.specs.Shelf.{loan_of};
 
 mod alarm_rule;
+mod quota;
 mod responses;
 mod scripts;
 mod steps;

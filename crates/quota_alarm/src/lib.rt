@@ -2,8 +2,6 @@
 #![tactic(auto)]
 
 mod quota;
-#[cfg(test)]
-mod tests;
 
 pub use quota::Quota;
 pub use store_words::{cost_delete, cost_put};

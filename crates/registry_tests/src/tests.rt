@@ -3,6 +3,7 @@ mod callers;
 mod calls;
 mod opening;
 mod operator;
+mod segments;
 
 use callers::Callers;
 use opening::registry_of;

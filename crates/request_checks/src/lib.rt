@@ -4,8 +4,6 @@
 mod branch;
 mod put;
 mod step;
-#[cfg(test)]
-mod tests;
 mod txn;
 
 pub use put::put_fields;

@@ -7,8 +7,6 @@ mod desk;
 mod pool;
 mod stock;
 mod supply;
-#[cfg(test)]
-mod tests;
 
 pub use desk::Desk;
 pub use pool::{Pool, Short, Ticket};

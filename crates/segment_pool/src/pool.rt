@@ -1,8 +1,8 @@
 //! The pool, and the tickets that reserve its segments.
-ghost use Rattle.std.specs.Prelude.{ℕ, ◌≡◌, ◌+◌, ◌-◌, ◌^◌, ◌<◌, ◌≤◌, min, length, None, Some, replicate};
+ghost use Rattle.std.specs.Prelude.{◌≡◌, ◌+◌, ◌-◌, ◌^◌, ◌<◌, ◌≤◌, ◌∷◌, min, length, None, Some, replicate};
 ghost use Rattle.std.specs.Prelude.{slice_set, IfOk, OnOk, OnErr};
+ghost use Rattle.std.specs.List.Sorted.{IsPermutation};
 ghost use Rattle.etcd_model.specs.Pool.{IsLeastUnheld, IsHeld, AddsUp, all_below};
-ghost use Rattle.cell_arena.specs.Loan.{is_one, times};
 
 use crate::supply::new_segments;
 use cell_arena::Segment;
@@ -167,8 +167,7 @@ impl Pool {
         requires promised { 1 ≤ self.old.promised }
         ensures ticket { ticket.new ≡ record ticket.old { drawn = ticket.old.drawn + 1 } }
         ensures free { self.new.free + 1 ≡ self.old.free }
-        ensures numbers { (n : ℕ) → times n self.new.numbers + is_one n result.number
-            ≡ times n self.old.numbers }
+        ensures numbers { IsPermutation self.old.numbers (result.number ∷ self.new.numbers) }
         ensures promised { self.new.promised + 1 ≡ self.old.promised }
         ensures out { self.new.out ≡ self.old.out + 1 }
         ensures reservations { self.new.reservations ≡ self.old.reservations }
@@ -194,8 +193,7 @@ impl Pool {
         ensures ticket { ticket.old ≡ record ticket.new { drawn = ticket.new.drawn + 1 } }
         ensures reserved { ticket.new.drawn < ticket.new.reserved }
         ensures free { self.new.free ≡ self.old.free + 1 }
-        ensures numbers { (n : ℕ) → times n self.new.numbers
-            ≡ times n self.old.numbers + is_one n segment.number }
+        ensures numbers { IsPermutation (segment.number ∷ self.old.numbers) self.new.numbers }
         ensures promised { self.new.promised ≡ self.old.promised + 1 }
         ensures out { self.new.out + 1 ≡ self.old.out }
         ensures reservations { self.new.reservations ≡ self.old.reservations }

@@ -1,6 +1,6 @@
 //! Segments that are held, with room for more.
-ghost use Rattle.std.specs.Prelude.{ℕ, ◌≡◌, ◌+◌, ◌≤◌, ◌∷◌, [], max, IfOk, IsOk, OnOk, OnErr};
-ghost use Rattle.cell_arena.specs.Loan.{times};
+ghost use Rattle.std.specs.Prelude.{◌≡◌, ◌+◌, ◌≤◌, ◌∷◌, [], ◌++◌, max, IfOk, IsOk, OnOk, OnErr};
+ghost use Rattle.std.specs.List.Sorted.{IsPermutation};
 ghost use Rattle.etcd_model.specs.Pool.{new_stock};
 
 use crate::supply::new_segments;
@@ -70,8 +70,8 @@ impl Stock {
         ensures from_room { self.new.room ≡ self.old.room + count }
         ensures to_held { to.new.held ≡ to.old.held + count }
         ensures to_room { to.new.room + count ≡ to.old.room }
-        ensures numbers { (n : ℕ) → times n self.new.numbers + times n to.new.numbers
-            ≡ times n self.old.numbers + times n to.old.numbers }
+        ensures numbers { IsPermutation (self.old.numbers ++ to.old.numbers)
+            (self.new.numbers ++ to.new.numbers) }
     {
         'moving: for _i in 0..count {
             let segment = self.draw();

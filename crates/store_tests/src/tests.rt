@@ -1,7 +1,9 @@
 mod answers;
 mod asked;
 mod cell_store;
+mod interval;
 mod random;
+mod records;
 mod scripts;
 mod told;
 

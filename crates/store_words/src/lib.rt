@@ -4,8 +4,6 @@
 
 mod cost;
 mod interval;
-#[cfg(test)]
-mod tests;
 
 pub use cost::{cost_delete, cost_put};
 pub use interval::is_in;

@@ -6,8 +6,6 @@ mod filled;
 mod highest;
 mod lowest;
 mod shelf;
-#[cfg(test)]
-mod tests;
 
 pub use filled::Filled;
 pub use highest::Highest;

@@ -5,8 +5,6 @@
 mod branch;
 mod folding;
 mod refusal;
-#[cfg(test)]
-mod tests;
 mod transaction;
 
 pub use branch::{adds_any, writes_any};

@@ -1,5 +1,6 @@
 use Rattle.std.proofs.Common.{refl, ◌∙◌}
 use Rattle.cell_arena.proofs.Chains.{record_kept}
+use Rattle.cell_arena.proofs.Loans.{settles_both}
 use Rattle.cell_arena.proofs.Storing.{head_linked, head_stands, free_unlinked, stored_all, short_text}
 use Rattle.cell_arena.proofs.chain.place.Goals as goal
 
@@ -19,3 +20,6 @@ pub returns-clause-kept : goal.returns-clause-kept
 returns-clause-kept g c q other =
     let stored = c.store_bytes-first.ensures.stored in
     record_kept _ _ c.put.result _ c.put.ensures.written stored.linked (free_unlinked _ _ stored.linked c.put.ensures.was_free) q other ∙ stored.kept q
+
+pub returns-clause-settles : goal.returns-clause-settles
+returns-clause-settles g c = settles_both _ _ _ _ _ _ c.store_bytes-first.ensures.settles c.put.ensures.settles

@@ -1,4 +1,5 @@
 use Rattle.std.proofs.Common.{◌≡◌, ◌<◌, ◌+◌, ◌-◌, ◌++◌, [], suc, Some, refl, arith, subst, ap, ◌∙◌}
+use Rattle.std.proofs.lemmas.List.Sorted.{IsPermutation-refl, IsPermutation-trans}
 use Rattle.cell_arena.specs.Chain.{is_free, IsChain, turned_bytes, chain_bytes}
 use Rattle.cell_arena.specs.Table.{table_at}
 use Rattle.cell_arena.proofs.Turning.{IsTurning, turning_none, turned_more, turned_same, turned_all}
@@ -11,7 +12,7 @@ turning-init c =
       table = c.requires.table;
       turning = subst (λ n. IsTurning (table_at c.args.table.now) 0 n c.none-next.result c.args.first (turned_bytes (table_at c.args.table.now) c.args.count c.args.first ++ [])) e (turning_none (table_at c.args.table.now) c.args.count c.none-next.result c.args.first c.requires.linked c.none-next.ensures c.requires.chain c.requires.loose);
       used = refl;
-      share = record { rooms = refl; reserved = refl; drawn = refl; numbers = λ n. refl };
+      share = record { rooms = refl; reserved = refl; drawn = refl; numbers = IsPermutation-refl _ };
       kept = λ q. refl;
       size = refl;
     }
@@ -40,7 +41,7 @@ turning-preserved c =
       table = c.rewrite.ensures.table;
       turning = rw c.to-next.ensures (subst (λ n. IsTurning (table_at c.rewrite.new.table) (c.turning._i + 1) n (Some c.rest_at-at.result.0) c.rest_at-at.result.2 bytes) fewer (subst (λ n. IsTurning (table_at c.rewrite.new.table) n (left - 1) (Some c.rest_at-at.result.0) c.rest_at-at.result.2 bytes) done more));
       used = c.rewrite.ensures.used ∙ was.used;
-      share = record { rooms = c.rewrite.ensures.share.rooms ∙ was.share.rooms; reserved = c.rewrite.ensures.share.reserved ∙ was.share.reserved; drawn = c.rewrite.ensures.share.drawn ∙ was.share.drawn; numbers = λ n. c.rewrite.ensures.share.numbers n ∙ was.share.numbers n };
+      share = record { rooms = c.rewrite.ensures.share.rooms ∙ was.share.rooms; reserved = c.rewrite.ensures.share.reserved ∙ was.share.reserved; drawn = c.rewrite.ensures.share.drawn ∙ was.share.drawn; numbers = IsPermutation-trans _ _ _ was.share.numbers c.rewrite.ensures.share.numbers };
       kept = λ q. same q ∙ was.kept q;
       size = c.rewrite.ensures.length ∙ was.size;
     }

@@ -1,4 +1,5 @@
 use Rattle.std.proofs.Common.{◌≡◌, Some, sym, ◌∙◌, arith}
+use Rattle.std.proofs.lemmas.List.Sorted.{IsPermutation-sym, IsPermutation-trans}
 use Rattle.std.specs.FinMap.{insert}
 use Rattle.cell_arena.specs.Chain.{Record, record_at}
 use Rattle.cell_arena.specs.Table.{table_at}
@@ -23,5 +24,5 @@ returns-clause-share c =
       rooms = c.set_older.ensures.share.rooms ∙ sym e.rooms;
       reserved = omega (arith, e.reserved, c.set_older.ensures.share.reserved);
       drawn = omega (arith, c.set_older.ensures.table.busy, e.drawn, c.set_older.ensures.share.drawn);
-      numbers = λ n. c.set_older.ensures.share.numbers n ∙ sym (e.numbers n);
+      numbers = IsPermutation-trans _ _ _ (IsPermutation-sym _ _ e.numbers) c.set_older.ensures.share.numbers;
     }

@@ -1,8 +1,10 @@
-use Rattle.std.proofs.Common.{◌≡◌, ℕ, ◌<◌, ◌≤◌, List, [], ◌∷◌, length, refl, sym, ap, subst, ◌∙◌, arith}
+use Rattle.std.proofs.Common.{rules, ◌≡◌, ℕ, ◌<◌, ◌≤◌, List, [], ◌∷◌, length, refl, sym, ap, subst, ◌∙◌, arith}
 use mathlib.Core.Path.{fun_ext}
 use Rattle.std.specs.Prelude.{vec_len}
 use Rattle.std.specs.List.{AllByRecursion}
 use Rattle.std.proofs.lemmas.List.Sums.{sum_by-cons}
+use Rattle.cell_arena.specs.Loan.{Loan, Share, Settles}
+use Rattle.cell_arena.proofs.Loans.{settles_both}
 use Rattle.key_index.specs.Order.{changes_in}
 use Rattle.revision_store.specs.Recorded.{cells_of, leases_of}
 use Rattle.revision_store.specs.Logged.{LogState, log_of}
@@ -65,3 +67,13 @@ returns-clause-appends g c =
       leases = leases;
       lease_cells = refl;
     })
+
+settles_seen : (old seen new : Share) (from to last : Loan) → old ≡ seen → last ≡ to → Settles old from new to → Settles seen from new last
+settles_seen old seen new from to last is same settles =
+    subst (λ (loan : Loan). Settles seen from new loan) (sym same)
+    (subst (λ (share : Share). Settles share from new to) is settles)
+
+pub returns-clause-settles : goal.returns-clause-settles
+returns-clause-settles g c =
+    settles_seen _ _ _ _ _ _ (ap (λ (l : LogState). l.share) c.self.view_is) (ap g.S.Segments.loan (c.segments-1.given.1 (search rules)))
+    (settles_both _ _ _ _ _ _ c.place-cell.ensures.settles c.add.ensures.rest.1.1.settles)

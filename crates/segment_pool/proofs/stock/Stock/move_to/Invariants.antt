@@ -1,5 +1,5 @@
-use Rattle.std.proofs.Common.{◌≡◌, ◌+◌, ℕ}
-use Rattle.cell_arena.specs.Loan.{times}
+use Rattle.std.proofs.Common.{◌≡◌, ◌+◌, ◌++◌}
+use Rattle.std.specs.List.Sorted.{IsPermutation}
 use Rattle.segment_pool.proofs.stock.Stock.move_to.Given as goal
 
 abbrev pub invariant-moving : goal.invariant-moving
@@ -8,5 +8,5 @@ invariant-moving l = record {
   from_room : l.self.room ≡ l.initial.self.room + l._i;
   to_held : l.to.held ≡ l.initial.to.held + l._i;
   to_room : l.to.room + l._i ≡ l.initial.to.room;
-  numbers : (n : ℕ) → times n l.self.numbers + times n l.to.numbers ≡ times n l.initial.self.numbers + times n l.initial.to.numbers;
+  numbers : IsPermutation (l.initial.self.numbers ++ l.initial.to.numbers) (l.self.numbers ++ l.to.numbers);
 }

@@ -1,4 +1,6 @@
 use Rattle.std.proofs.Common.{◌≡◌, ◌∙◌, ℤ, true, ap, of_z, rules, subst, sym, to_z, w64}
+use Rattle.cell_arena.specs.Loan.{Loan, Share, Settles}
+use Rattle.cell_arena.proofs.Loans.{settles_both}
 use Rattle.etcd_model.specs.Leases.{finish}
 use Rattle.etcd_model.specs.Operations.{has_lease}
 use Rattle.etcd_model.specs.Store.{kept_store}
@@ -71,3 +73,11 @@ returns-clause-tenant g c =
       slots = c.note.ensures.watches i;
     } in
     done ∙ ap (finish kept_store (tenant m)) bits ∙ ap (λ (n : MachineState). finish kept_store (tenant n) c.args.id) c.self.view_is
+
+settles_seen : (old seen new : Share) (from to : Loan) → old ≡ seen → Settles old from new to → Settles seen from new to
+settles_seen old seen new from to is settles = subst (λ (share : Share). Settles share from new to) is settles
+
+pub returns-clause-settles : goal.returns-clause-settles
+returns-clause-settles g c =
+    settles_seen _ _ _ _ _ (ap (λ (m : MachineState). m.store.share) c.self.view_is)
+    (settles_both _ _ _ _ _ _ c.delete_keys.ensures.settles c.release_lease.ensures.settles)

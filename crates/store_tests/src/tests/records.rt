@@ -1,0 +1,119 @@
+//! Records in a region, over each source of segments.
+ghost use Rattle.std.specs.Prelude.{◌≡◌, ◌+◌, ◌*◌, ◌/◌, ◌≤◌, ◌^◌, length};
+ghost use Rattle.cell_arena.specs.Loan.{IsLent, undrawn};
+
+use cell_arena::{Fields, Kind, Region, Segments};
+use etcd_types::Mem;
+use std::alloc::Global;
+use std::cmp::Ordering;
+use std::test::Fail;
+use test_segments::{Filled, Highest, Lowest};
+
+const NUMBERS: Fields = Fields {
+    revision: 9,
+    create_revision: 7,
+    version: 2,
+    lease: 5,
+};
+
+/// Whether a record reads as it was put, in a region of so many segments, and leaves nothing.
+fn keeps<S: Segments>(
+    alloc: Global,
+    segments: &mut S,
+    count: u32,
+    key: &[u8],
+    value: &[u8],
+) -> Mem<bool>
+    requires few { count ≤ 2 ^ 14 }
+    requires fits { 1 + (length key.now + length value.now + 47) / 48 ≤ 64 * count }
+    requires lent { IsLent (undrawn count) (S.loan segments.old) }
+{
+    let mut region = Region::new(alloc, count * 64)?;
+    let cell = region.place(segments, Kind::Put, NUMBERS, key, value);
+    let mut read = Vec::new(alloc);
+    region.read_key(cell, &mut read)?;
+    let same_key = read.as_slice() == key && region.key_cmp(cell, key) == Ordering::Equal;
+    let mut read = Vec::new(alloc);
+    region.read_value(cell, &mut read)?;
+    let same_value = read.as_slice() == value && region.value_cmp(cell, value) == Ordering::Equal;
+    let stands = region.has(cell);
+    region.release(segments, cell);
+    let gone = !region.has(cell) && region.free_cells() == count * 64;
+    Ok(same_key && same_value && stands && gone)
+}
+
+/// Whether a delete record has the other's key, its own numbers, and the older one that is set.
+fn copies<S: Segments>(alloc: Global, segments: &mut S, key: &[u8], value: &[u8]) -> Mem<bool>
+    requires fits { (length key.now + length value.now + 47) / 48 ≤ 30 }
+    requires lent { IsLent (undrawn 1) (S.loan segments.old) }
+{
+    let mut region = Region::new(alloc, 64)?;
+    let put = region.place(segments, Kind::Put, NUMBERS, key, value);
+    let numbers = Fields {
+        revision: 10,
+        ..NUMBERS
+    };
+    let delete = region.place_delete(segments, put, numbers);
+    region.set_older(delete, Some(put));
+    let mut read = Vec::new(alloc);
+    region.read_key(delete, &mut read)?;
+    let same = read.as_slice() == key && region.value_cmp(delete, b"") == Ordering::Equal;
+    let kind = region.kind(delete) == Kind::Delete && region.fields(delete) == numbers;
+    Ok(same && kind && region.older(delete) == Some(put))
+}
+
+#[test]
+fn lowest_first_keeps_records(rt: HostRuntime) -> Result<(), Fail> {
+    for len in [0, 1, 47, 48, 49, 96] {
+        assert!(rt; len <= 96);
+        let bytes = vec![in rt.alloc(); 7u8; len]?;
+        let mut segments = Lowest::new(rt.alloc(), 1)?;
+        let (key, value) = bytes.split_at(len / 2);
+        assert!(rt; keeps(rt.alloc(), &mut segments, 1, key, value)?);
+    }
+    Ok(())
+}
+
+#[test]
+fn highest_first_keeps_records(rt: HostRuntime) -> Result<(), Fail> {
+    for len in [0, 1, 47, 48, 49, 96] {
+        assert!(rt; len <= 96);
+        let bytes = vec![in rt.alloc(); 7u8; len]?;
+        let mut segments = Highest::new(rt.alloc(), 1)?;
+        let (key, value) = bytes.split_at(len / 2);
+        assert!(rt; keeps(rt.alloc(), &mut segments, 1, key, value)?);
+    }
+    Ok(())
+}
+
+#[test]
+fn filled_segments_keep_records(rt: HostRuntime) -> Result<(), Fail> {
+    for len in [0, 1, 47, 48, 49, 96] {
+        assert!(rt; len <= 96);
+        let bytes = vec![in rt.alloc(); 7u8; len]?;
+        let mut segments = Filled::new(rt.alloc(), 1)?;
+        let (key, value) = bytes.split_at(len / 2);
+        assert!(rt; keeps(rt.alloc(), &mut segments, 1, key, value)?);
+    }
+    Ok(())
+}
+
+#[test]
+fn two_million_bytes_are_kept(rt: HostRuntime) -> Result<(), Fail> {
+    let bytes = vec![in rt.alloc(); 7u8; 2000000]?;
+    let mut segments = Filled::new(rt.alloc(), 652)?;
+    assert!(rt; keeps(rt.alloc(), &mut segments, 652, b"big", bytes.as_slice())?);
+    Ok(())
+}
+
+#[test]
+fn a_delete_copies_the_key(rt: HostRuntime) -> Result<(), Fail> {
+    let mut segments = Filled::new(rt.alloc(), 1)?;
+    let key = b"a key that fills one cell and a part of another one";
+    assert!(rt; copies(rt.alloc(), &mut segments, key, b"value")?);
+    let mut segments = Highest::new(rt.alloc(), 1)?;
+    assert!(rt; copies(rt.alloc(), &mut segments, b"k", b"")?);
+    let mut segments = Lowest::new(rt.alloc(), 1)?;
+    assert!(rt; copies(rt.alloc(), &mut segments, b"", key)?);
+    Ok(())
+}
