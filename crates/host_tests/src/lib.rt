@@ -1,4 +1,5 @@
-//! Tests of many tenants as one value, in steps and in bytes.
+//! Tests of one tenant's machine, of many tenants as one value, in steps and in bytes, and of scripts and their
+//! answers.
 #![tactic(auto)]
 
 #[cfg(test)]

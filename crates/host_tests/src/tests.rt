@@ -1,3 +1,5 @@
-//! What a host answers, asked in steps and in bytes.
+//! What a machine and a host answer, asked in steps, in bytes and in the lines of a script.
 mod front;
+mod machine;
+mod replay;
 mod steps;

@@ -13,7 +13,7 @@ use std::process::Abort;
 use std::rt::Clock;
 use std::sync::Wait;
 use tenant_registry::Closed;
-use test_rows::{LIVE_ROWS, ROWS, Row};
+use test_rows::{Row, live_rows, rows};
 
 /// Two callers of a script's tenants answer each line as the row says, and then the audits close.
 fn assert_row<R: Wait + Clock + Abort>(rt: &R, alloc: Global, row: &Row, audit: u32) {
@@ -47,10 +47,10 @@ fn assert_closes(rt: &impl Abort, alloc: Global, callers: Callers, audit: u32) {
 
 /// All rows, over audits that take so many entries.
 fn assert_rows<R: Wait + Clock + Abort>(rt: &R, alloc: Global, audit: u32) {
-    for row in &ROWS {
+    for row in rows() {
         assert_row(rt, alloc, row, audit);
     }
-    for row in &LIVE_ROWS {
+    for row in live_rows() {
         assert_row(rt, alloc, row, audit);
     }
     assert_row(rt, alloc, &OPERATOR, audit);

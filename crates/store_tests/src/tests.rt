@@ -1,7 +1,10 @@
 mod answers;
 mod asked;
 mod cell_store;
+mod chunks;
 mod interval;
+mod keys;
+mod leases;
 mod random;
 mod records;
 mod scripts;
@@ -19,7 +22,7 @@ use scripts::{
 };
 use std::alloc::Global;
 use std::process::Abort;
-use test_segments::{Filled, Highest, Lowest};
+use test_segments::{SOURCES, Shelf, Source};
 use told::text_of;
 
 /// Segments of a store over cells, and steps by chance that are taken.
@@ -58,29 +61,22 @@ fn assert_told<S: Answers + Drop>(
 /// The plain store, and one over each source of segments, answer a script as it says.
 fn assert_all_told(rt: &impl Abort, alloc: Global, lines: &[Line]) -> Mem<()> {
     assert_told(rt, alloc, PlainStore::new(alloc, 1), lines)?;
-    assert_told(rt, alloc, lowest(alloc)?, lines)?;
-    assert_told(rt, alloc, highest(alloc)?, lines)?;
-    assert_told(rt, alloc, filled(alloc)?, lines)
+    for source in SOURCES {
+        assert_told(rt, alloc, store_over(alloc, source)?, lines)?;
+    }
+    Ok(())
 }
 
-fn lowest(alloc: Global) -> Mem<CellStore<Lowest>> {
-    CellStore::new(alloc, Lowest::new(alloc, SEGMENTS)?)
-}
-
-fn highest(alloc: Global) -> Mem<CellStore<Highest>> {
-    CellStore::new(alloc, Highest::new(alloc, SEGMENTS)?)
-}
-
-fn filled(alloc: Global) -> Mem<CellStore<Filled>> {
-    CellStore::new(alloc, Filled::new(alloc, SEGMENTS)?)
+fn store_over(alloc: Global, source: Source) -> Mem<CellStore> {
+    CellStore::new(alloc, Shelf::new(alloc, source, SEGMENTS)?)
 }
 
 /// Both stores answer a step alike.
-fn assert_same<S: Answers>(
+fn assert_same(
     rt: &impl Abort,
     alloc: Global,
     plain: &mut PlainStore,
-    store: &mut S,
+    store: &mut CellStore,
     step: Step,
 ) -> Mem<()> {
     let wanted = told_by(alloc, plain, &step)?;
@@ -93,11 +89,11 @@ fn assert_same<S: Answers>(
 }
 
 /// Both stores keep the same changes from a revision on, and show the same rows before them.
-fn assert_same_kept<S: Answers>(
+fn assert_same_kept(
     rt: &impl Abort,
     alloc: Global,
     plain: &PlainStore,
-    store: &S,
+    store: &CellStore,
     revision: u64,
 ) -> Mem<()> {
     assert_eq!(rt;
@@ -109,7 +105,7 @@ fn assert_same_kept<S: Answers>(
 }
 
 /// A new store answers steps by chance as the plain one does.
-fn assert_agrees<S: Answers + Drop>(rt: &impl Abort, alloc: Global, mut store: S) -> Mem<()> {
+fn assert_agrees(rt: &impl Abort, alloc: Global, mut store: CellStore) -> Mem<()> {
     let mut plain = PlainStore::new(alloc, 1);
     let mut random = Random::new();
     for taken in 0..STEPS {
@@ -149,9 +145,11 @@ fn rows_before_changes(rt: HostRuntime) -> Mem<()> {
     let alloc = rt.alloc();
     let plain = PlainStore::new(alloc, 1);
     assert_keeps(&rt, alloc, plain, &CHANGES_OF_A_KEY, KEPT_CHANGES)?;
-    assert_keeps(&rt, alloc, lowest(alloc)?, &CHANGES_OF_A_KEY, KEPT_CHANGES)?;
-    assert_keeps(&rt, alloc, highest(alloc)?, &CHANGES_OF_A_KEY, KEPT_CHANGES)?;
-    assert_keeps(&rt, alloc, filled(alloc)?, &CHANGES_OF_A_KEY, KEPT_CHANGES)
+    for source in SOURCES {
+        let store = store_over(alloc, source)?;
+        assert_keeps(&rt, alloc, store, &CHANGES_OF_A_KEY, KEPT_CHANGES)?;
+    }
+    Ok(())
 }
 
 #[test]
@@ -196,8 +194,8 @@ fn intervals(rt: HostRuntime) -> Mem<()> {
 
 #[test]
 fn steps_by_chance_are_answered_alike(rt: HostRuntime) -> Mem<()> {
-    let alloc = rt.alloc();
-    assert_agrees(&rt, alloc, lowest(alloc)?)?;
-    assert_agrees(&rt, alloc, highest(alloc)?)?;
-    assert_agrees(&rt, alloc, filled(alloc)?)
+    for source in SOURCES {
+        assert_agrees(&rt, rt.alloc(), store_over(rt.alloc(), source)?)?;
+    }
+    Ok(())
 }

@@ -5,7 +5,7 @@
 
 mod live;
 
-pub use live::LIVE_ROWS;
+use live::LIVE_ROWS;
 
 /// A script, and what it is answered.
 pub struct Row {
@@ -13,7 +13,17 @@ pub struct Row {
     pub answers: &'static str,
 }
 
-pub const ROWS: [Row; 24] = [
+/// The rows of calls, ticks, takes and catch-ups.
+pub fn rows() -> &'static [Row] {
+    &ROWS
+}
+
+/// The rows in which tenants take other quotas, and come and go.
+pub fn live_rows() -> &'static [Row] {
+    &LIVE_ROWS
+}
+
+const ROWS: [Row; 24] = [
     // first_put
     Row {
         script: r#"add one 7 1024 1

@@ -2,7 +2,7 @@
 use crate::Row;
 
 /// Rows whose tenants take other quotas, or are removed.
-pub const LIVE_ROWS: [Row; 3] = [
+pub(crate) const LIVE_ROWS: [Row; 3] = [
     // live_quota
     Row {
         script: r#"pool 4

@@ -2,11 +2,6 @@
 //! and one whose segments come filled.
 #![tactic(auto)]
 
-mod filled;
-mod highest;
-mod lowest;
 mod shelf;
 
-pub use filled::Filled;
-pub use highest::Highest;
-pub use lowest::Lowest;
+pub use shelf::{SOURCES, Shelf, Source};

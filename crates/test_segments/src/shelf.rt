@@ -1,25 +1,30 @@
 //! The free segments of a source.
 ghost use Rattle.std.specs.Prelude.{◌≡◌, ◌<◌, IfOk, length};
-ghost use Rattle.cell_arena.specs.Loan.{Draws};
 ghost use Rattle.test_segments.specs.Shelf.{all_held, loan_of};
 
-use cell_arena::{Cell, Fields, HeadCell, Kind, Link, Segment};
+use cell_arena::{Cell, Fields, HeadCell, Kind, Link, Segment, Segments};
 use etcd_types::{CellNo, Mem};
 use std::alloc::Global;
 use std::marker::Model;
 
-/// What the cells of new segments hold.
-#[derive(Clone, Copy)]
-pub enum Fill {
-    /// Free cells alone.
-    Free,
-    /// Stray heads, links of free cells, and bytes `0xA5`.
-    Stray,
+/// Which of its segments a source gives first, and what the cells of new ones hold.
+#[derive(Clone, Copy, Debug)]
+pub enum Source {
+    /// The lowest number first. All cells are free.
+    Lowest,
+    /// The highest number first. All cells are free.
+    Highest,
+    /// The lowest number first. The cells hold stray heads, links of free cells, and bytes `0xA5`.
+    Filled,
 }
+
+/// Each source.
+pub const SOURCES: [Source; 3] = [Source::Lowest, Source::Highest, Source::Filled];
 
 /// Free segments, with room for those that are out.
 #[derive(Drop)]
 pub struct Shelf {
+    source: Source,
     segments: Vec<Segment>,
 }
 
@@ -41,66 +46,76 @@ impl Model for Shelf {
 }
 
 impl Shelf {
-    /// So many segments, filled like this.
-    pub fn new(alloc: Global, count: u32, fill: Fill) -> Mem<Shelf>
+    /// So many segments.
+    pub fn new(alloc: Global, source: Source, count: u32) -> Mem<Shelf>
         ensures { IfOk result (λ s. s ≡ all_held count) }
     {
         let mut segments = Vec::with_capacity(alloc, count as usize)?;
         'making: for number in 0..count {
-            segments.push_reserved(segment_of(alloc, number, fill)?);
+            segments.push_reserved(new_segment(alloc, source, number)?);
         }
-        Ok(Shelf { segments })
+        Ok(Shelf { source, segments })
     }
+}
 
-    pub fn held(&self) -> u32
-        ensures { result ≡ self.now.held }
-    {
+impl Segments for Shelf {
+    ghost loan = { λ s. loan_of s };
+
+    fn left(&self) -> u32 {
         self.segments.len() as u32
     }
 
-    pub fn room(&self) -> u32
-        ensures { result ≡ self.now.room }
-    {
+    fn room(&self) -> u32 {
         (self.segments.capacity() - self.segments.len()) as u32
     }
 
-    /// Takes the segment of the lowest number.
-    pub fn take_lowest(&mut self) -> Segment
-        requires { 0 < self.old.held }
-        ensures { Draws result.number (loan_of self.old) (loan_of self.new) }
-    {
-        let at = lowest(self.segments.as_slice());
+    fn draw(&mut self) -> Segment {
+        let at = first_of(self.source, self.segments.as_slice());
         self.segments.remove(at)
     }
 
-    /// Takes the segment of the highest number.
-    pub fn take_highest(&mut self) -> Segment
-        requires { 0 < self.old.held }
-        ensures { Draws result.number (loan_of self.old) (loan_of self.new) }
-    {
-        let at = highest(self.segments.as_slice());
-        self.segments.remove(at)
-    }
-
-    /// Puts a segment back.
-    pub fn put(&mut self, segment: Segment)
-        requires { 0 < self.old.room }
-        ensures { Draws segment.number (loan_of self.new) (loan_of self.old) }
-    {
+    fn give_back(&mut self, segment: Segment) {
         self.segments.push_reserved(segment);
     }
 }
 
-/// What a cell of a new segment holds.
-fn cell_of(fill: Fill, place: u32) -> Cell
+/// Where the segment stands that a source gives first.
+fn first_of(source: Source, segments: &[Segment]) -> usize
+    requires { 0 < length segments.now }
+    ensures { result < length segments.now }
+{
+    let is_highest = matches!(source, Source::Highest);
+    let mut first = 0;
+    'looking: for at in 1..segments.len() {
+        let is_higher = segments[at].number > segments[first].number;
+        if is_higher == is_highest {
+            first = at;
+        }
+    }
+    first
+}
+
+fn new_segment(alloc: Global, source: Source, number: u32) -> Mem<Segment>
+    ensures { IfOk result (λ segment. segment.number ≡ number) }
+{
+    let mut cells = vec![in alloc; Cell::Free(Link::none()); 64]?;
+    if matches!(source, Source::Filled) {
+        'filling: for place in 0..64 {
+            cells[place as usize] = stray_cell(place);
+        }
+    }
+    Ok(Segment { number, cells })
+}
+
+/// What a cell of a filled segment holds.
+fn stray_cell(place: u32) -> Cell
     requires { place < 64 }
 {
     let link = Link::to(CellNo::at(0, 63 - place));
-    match (fill, place % 3) {
-        (Fill::Free, _) => Cell::Free(Link::none()),
-        (Fill::Stray, 0) => Cell::Head(Kind::Lease, stray_head(link)),
-        (Fill::Stray, 1) => Cell::Free(link),
-        (Fill::Stray, _) => Cell::Rest([0xA5; 48], link),
+    match place % 3 {
+        0 => Cell::Head(Kind::Lease, stray_head(link)),
+        1 => Cell::Free(link),
+        _ => Cell::Rest([0xA5; 48], link),
     }
 }
 
@@ -118,42 +133,4 @@ fn stray_head(link: Link) -> HeadCell {
             lease: 165,
         },
     }
-}
-
-fn segment_of(alloc: Global, number: u32, fill: Fill) -> Mem<Segment>
-    ensures { IfOk result (λ segment. segment.number ≡ number) }
-{
-    let mut cells = vec![in alloc; Cell::Free(Link::none()); 64]?;
-    'filling: for place in 0..64 {
-        cells[place as usize] = cell_of(fill, place);
-    }
-    Ok(Segment { number, cells })
-}
-
-/// Where the segment of the lowest number stands.
-fn lowest(segments: &[Segment]) -> usize
-    requires { 0 < length segments.now }
-    ensures { result < length segments.now }
-{
-    let mut best = 0;
-    'looking: for at in 1..segments.len() {
-        if segments[at].number < segments[best].number {
-            best = at;
-        }
-    }
-    best
-}
-
-/// Where the segment of the highest number stands.
-fn highest(segments: &[Segment]) -> usize
-    requires { 0 < length segments.now }
-    ensures { result < length segments.now }
-{
-    let mut best = 0;
-    'looking: for at in 1..segments.len() {
-        if segments[at].number > segments[best].number {
-            best = at;
-        }
-    }
-    best
 }

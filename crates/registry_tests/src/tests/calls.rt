@@ -1,4 +1,7 @@
 //! Calls, turns, seats and closing, by worked examples.
+ghost use Rattle.std.specs.Prelude.{◌+◌, ◌∷◌, []};
+ghost use Rattle.cell_arena.specs.Loan.{IsLent};
+
 mod live;
 mod threads;
 
@@ -12,7 +15,7 @@ use std::sync::Wait;
 use steps_core::OperatorFault;
 use tenant_machine::{Machine, segments_for};
 use tenant_registry::{
-    Audit, CloseFault, Closed, OpenGate, Receipt, Registry, Seat, SeatFault, TenantConfig,
+    Audit, CloseFault, Closed, Entry, OpenGate, Receipt, Registry, Seat, SeatFault, TenantConfig,
 };
 
 /// The status and body of the first put of a tenant of cluster 7.
@@ -70,23 +73,51 @@ fn call<R: Wait + Clock + Abort>(
         .expect(rt, "the tenant is there")
 }
 
+/// A machine that takes an audit's steps again, with the segments that it is lent.
+#[derive(Drop)]
+struct Again {
+    machine: Machine,
+    stock: Stock,
+    ghost lent: { IsLent machine.store.share (record {
+      left = stock.held;
+      room = stock.room;
+      numbers = stock.numbers;
+      others = (stock.held + stock.room) ∷ [];
+    }) },
+}
+
+impl Again {
+    /// From an audit's opening, if that is within the limits.
+    fn opened(alloc: Global, audit: &Audit) -> Mem<Option<Again>> {
+        let quota = u64::from(audit.quota);
+        if audit.cluster == 0
+            || quota < MIN_QUOTA
+            || quota > MAX_QUOTA
+            || audit.first < 1
+            || audit.first as u64 > LAST_REVISION
+        {
+            return Ok(None);
+        }
+        let segments = segments_for(audit.quota);
+        let machine = Machine::new(alloc, audit.cluster, audit.quota, audit.first)?;
+        let mut stock = Stock::new(alloc, segments)?;
+        stock.make_room(segments)?;
+        Ok(Some(Again { machine, stock }))
+    }
+
+    fn replies_so(&mut self, alloc: Global, entry: &Entry) -> bool {
+        let reply = self.machine.step(alloc, &mut self.stock, &entry.step);
+        reply.same_as(&entry.reply)
+    }
+}
+
 /// The machine, run over an audit's steps from its opening, gives its replies.
 fn is_lawful(alloc: Global, audit: &Audit) -> Mem<bool> {
-    if audit.cluster == 0
-        || u64::from(audit.quota) < MIN_QUOTA
-        || u64::from(audit.quota) > MAX_QUOTA
-        || audit.first < 1
-        || audit.first as u64 > LAST_REVISION
-    {
+    let Some(mut again) = Again::opened(alloc, audit)? else {
         return Ok(false);
-    }
-    let segments = segments_for(audit.quota);
-    let mut machine = Machine::new(alloc, audit.cluster, audit.quota, audit.first)?;
-    let mut stock = Stock::new(alloc, segments)?;
-    stock.make_room(segments)?;
+    };
     for entry in &audit.entries {
-        let reply = machine.step(alloc, &mut stock, &entry.step);
-        if !reply.same_as(&entry.reply) {
+        if !again.replies_so(alloc, entry) {
             return Ok(false);
         }
     }

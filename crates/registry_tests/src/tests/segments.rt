@@ -7,48 +7,63 @@ use etcd_types::Mem;
 use segment_pool::{Desk, Pool, Short, Stock, Ticket};
 use std::alloc::Global;
 use std::mem;
-use std::test::Fail;
+use std::process::Abort;
 
 fn owner(layout: &[Option<u32>], segment: u32) -> Option<u32> {
     layout.get(segment as usize).copied().flatten()
 }
 
+/// The ticket of this number drew a segment, or none did.
+fn assert_owner(
+    rt: &impl Abort,
+    alloc: Global,
+    pool: &Pool,
+    segment: u32,
+    ticket: Option<u32>,
+) -> Mem<()> {
+    let layout = pool.layout(alloc)?;
+    assert_eq!(rt; owner(layout.as_slice(), segment), ticket);
+    Ok(())
+}
+
 #[test]
-fn layout_names_who_drew(rt: HostRuntime) -> Result<(), Fail> {
+fn layout_names_who_drew(rt: HostRuntime) -> Mem<()> {
     let mut pool = Pool::new(rt.alloc(), 2)?;
     let mut one = pool.reserve(1).expect(&rt, "two are unreserved");
     let mut two = pool.reserve(1).expect(&rt, "one is unreserved");
     let first = pool.draw(&mut one);
     let second = pool.draw(&mut two);
     let (a, b) = (first.number, second.number);
-    let layout = pool.layout(rt.alloc())?;
-    assert_eq!(rt; owner(layout.as_slice(), a), Some(0));
-    assert_eq!(rt; owner(layout.as_slice(), b), Some(1));
+    assert_owner(&rt, rt.alloc(), &pool, a, Some(0))?;
+    assert_owner(&rt, rt.alloc(), &pool, b, Some(1))?;
     pool.give_back(&mut one, first);
-    let layout = pool.layout(rt.alloc())?;
-    assert_eq!(rt; owner(layout.as_slice(), a), None);
-    assert_eq!(rt; owner(layout.as_slice(), b), Some(1));
-    Ok(())
+    assert_owner(&rt, rt.alloc(), &pool, a, None)?;
+    assert_owner(&rt, rt.alloc(), &pool, b, Some(1))
+}
+
+/// A ticket's number, and how many segments it reserved.
+fn assert_ticket(rt: &impl Abort, ticket: &Ticket, number: u32, reserved: u32) {
+    assert_eq!(rt; (ticket.number(), ticket.reserved()), (number, reserved));
 }
 
 #[test]
-fn a_number_is_given_again_after_its_end(rt: HostRuntime) -> Result<(), Fail> {
+fn a_number_is_given_again_after_its_end(rt: HostRuntime) -> Mem<()> {
     let mut pool = Pool::new(rt.alloc(), 4)?;
     let one = pool.reserve(2).expect(&rt, "four are unreserved");
     let mut two = pool.reserve(2).expect(&rt, "two are unreserved");
     assert_eq!(rt; pool.grow(&mut two, 1), Err(Short));
-    assert_eq!(rt; one.number(), 0);
+    assert_ticket(&rt, &one, 0, 2);
     pool.end(one);
     assert_eq!(rt; pool.grow(&mut two, 1), Ok(()));
     pool.shrink(&mut two, 2);
-    assert_eq!(rt; (two.number(), two.reserved(), two.drawn()), (1, 1, 0));
+    assert_ticket(&rt, &two, 1, 1);
     let three = pool.reserve(3).expect(&rt, "three are unreserved");
-    assert_eq!(rt; three.number(), 0);
+    assert_ticket(&rt, &three, 0, 3);
     Ok(())
 }
 
 #[test]
-fn moves_segments_between_stocks(rt: HostRuntime) -> Result<(), Fail> {
+fn moves_segments_between_stocks(rt: HostRuntime) -> Mem<()> {
     let mut free = Stock::new(rt.alloc(), 3)?;
     let mut own = Stock::new(rt.alloc(), 0)?;
     own.make_room(2)?;
@@ -68,7 +83,7 @@ fn draw_one<S: Segments>(segments: &mut S)
 }
 
 #[test]
-fn a_desk_serves_one_ticket_after_another(rt: HostRuntime) -> Result<(), Fail> {
+fn a_desk_serves_one_ticket_after_another(rt: HostRuntime) -> Mem<()> {
     let mut pool = Pool::new(rt.alloc(), 2)?;
     let mut one = pool.reserve(2).expect(&rt, "two are unreserved");
     let mut desk = Desk {
@@ -109,7 +124,7 @@ fn layout_left(alloc: Global, first_goes: bool) -> Mem<Vec<Option<u32>>> {
 }
 
 #[test]
-fn a_region_gives_back_what_it_drew(rt: HostRuntime) -> Result<(), Fail> {
+fn a_region_gives_back_what_it_drew(rt: HostRuntime) -> Mem<()> {
     let layout = layout_left(rt.alloc(), true)?;
     assert_eq!(rt; layout.as_slice(), [None, Some(0), None].as_slice());
     let layout = layout_left(rt.alloc(), false)?;

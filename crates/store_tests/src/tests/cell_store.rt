@@ -2,6 +2,7 @@
 ghost use Rattle.std.specs.Prelude.{◌≡◌, ◌+◌, ◌<◌, ◌≤◌, ◌^◌, IsSome};
 ghost use Rattle.std.specs.List.{AllByRecursion};
 ghost use Rattle.cell_arena.specs.Loan.{IsLent};
+ghost use Rattle.test_segments.specs.Shelf.{loan_of};
 ghost use Rattle.revision_store.specs.Stored.{IsPlanFor, cells};
 
 use crate::tests::answers::Answers;
@@ -12,19 +13,20 @@ use etcd_types::{CellNo, DeleteReq, KeyValue, Mem, PutReq, Step};
 use key_index::Records;
 use revision_store::{Plan, PlannedOp, Store};
 use std::alloc::Global;
+use test_segments::Shelf;
 
 /// A store, and the source of its segments, which is its own.
 #[derive(Drop)]
-pub(super) struct CellStore<S: Segments + Drop> {
+pub(super) struct CellStore {
     store: Store,
-    segments: S,
-    ghost lent: { IsLent store.share (S.loan segments) },
+    segments: Shelf,
+    ghost lent: { IsLent store.share (loan_of segments) },
 }
 
-impl<S: Segments + Drop> CellStore<S> {
+impl CellStore {
     /// An empty store over all segments that may be drawn.
-    pub(super) fn new(alloc: Global, segments: S) -> Mem<CellStore<S>>
-        requires { (S.loan segments).left ≤ 2 ^ 14 }
+    pub(super) fn new(alloc: Global, segments: Shelf) -> Mem<CellStore>
+        requires { segments.held ≤ 2 ^ 14 }
     {
         Ok(CellStore {
             store: Store::new(alloc, segments.left() * 64, 1)?,
@@ -61,7 +63,7 @@ impl<S: Segments + Drop> CellStore<S> {
     }
 }
 
-impl<S: Segments + Drop> Answers for CellStore<S> {
+impl Answers for CellStore {
     fn answer(&mut self, alloc: Global, step: &Step) -> Mem<Told> {
         match step {
             Step::Range(request) => Ok(Told::from(self.store.plan_range(alloc, request)?)),

@@ -1,13 +1,15 @@
 //! Records in a region, over each source of segments.
 ghost use Rattle.std.specs.Prelude.{◌≡◌, ◌+◌, ◌*◌, ◌/◌, ◌≤◌, ◌^◌, length};
 ghost use Rattle.cell_arena.specs.Loan.{IsLent, undrawn};
+ghost use Rattle.test_segments.specs.Shelf.{loan_of};
 
-use cell_arena::{Fields, Kind, Region, Segments};
+use cell_arena::{Fields, Kind, Region};
 use etcd_types::Mem;
 use std::alloc::Global;
 use std::cmp::Ordering;
+use std::process::Abort;
 use std::test::Fail;
-use test_segments::{Filled, Highest, Lowest};
+use test_segments::{SOURCES, Shelf, Source};
 
 const NUMBERS: Fields = Fields {
     revision: 9,
@@ -17,16 +19,10 @@ const NUMBERS: Fields = Fields {
 };
 
 /// Whether a record reads as it was put, in a region of so many segments, and leaves nothing.
-fn keeps<S: Segments>(
-    alloc: Global,
-    segments: &mut S,
-    count: u32,
-    key: &[u8],
-    value: &[u8],
-) -> Mem<bool>
+fn keeps(alloc: Global, segments: &mut Shelf, count: u32, key: &[u8], value: &[u8]) -> Mem<bool>
     requires few { count ≤ 2 ^ 14 }
     requires fits { 1 + (length key.now + length value.now + 47) / 48 ≤ 64 * count }
-    requires lent { IsLent (undrawn count) (S.loan segments.old) }
+    requires lent { IsLent (undrawn count) (loan_of segments.old) }
 {
     let mut region = Region::new(alloc, count * 64)?;
     let cell = region.place(segments, Kind::Put, NUMBERS, key, value);
@@ -43,9 +39,9 @@ fn keeps<S: Segments>(
 }
 
 /// Whether a delete record has the other's key, its own numbers, and the older one that is set.
-fn copies<S: Segments>(alloc: Global, segments: &mut S, key: &[u8], value: &[u8]) -> Mem<bool>
+fn copies(alloc: Global, segments: &mut Shelf, key: &[u8], value: &[u8]) -> Mem<bool>
     requires fits { (length key.now + length value.now + 47) / 48 ≤ 30 }
-    requires lent { IsLent (undrawn 1) (S.loan segments.old) }
+    requires lent { IsLent (undrawn 1) (loan_of segments.old) }
 {
     let mut region = Region::new(alloc, 64)?;
     let put = region.place(segments, Kind::Put, NUMBERS, key, value);
@@ -62,38 +58,22 @@ fn copies<S: Segments>(alloc: Global, segments: &mut S, key: &[u8], value: &[u8]
     Ok(same && kind && region.older(delete) == Some(put))
 }
 
-#[test]
-fn lowest_first_keeps_records(rt: HostRuntime) -> Result<(), Fail> {
-    for len in [0, 1, 47, 48, 49, 96] {
-        assert!(rt; len <= 96);
-        let bytes = vec![in rt.alloc(); 7u8; len]?;
-        let mut segments = Lowest::new(rt.alloc(), 1)?;
-        let (key, value) = bytes.split_at(len / 2);
-        assert!(rt; keeps(rt.alloc(), &mut segments, 1, key, value)?);
-    }
+/// A region of one segment keeps a record of so many bytes, half of them its key.
+fn assert_keeps(rt: &impl Abort, alloc: Global, source: Source, len: usize) -> Mem<()> {
+    assert!(rt; len <= 96);
+    let bytes = vec![in alloc; 7u8; len]?;
+    let mut segments = Shelf::new(alloc, source, 1)?;
+    let (key, value) = bytes.split_at(len / 2);
+    assert!(rt; keeps(alloc, &mut segments, 1, key, value)?);
     Ok(())
 }
 
 #[test]
-fn highest_first_keeps_records(rt: HostRuntime) -> Result<(), Fail> {
-    for len in [0, 1, 47, 48, 49, 96] {
-        assert!(rt; len <= 96);
-        let bytes = vec![in rt.alloc(); 7u8; len]?;
-        let mut segments = Highest::new(rt.alloc(), 1)?;
-        let (key, value) = bytes.split_at(len / 2);
-        assert!(rt; keeps(rt.alloc(), &mut segments, 1, key, value)?);
-    }
-    Ok(())
-}
-
-#[test]
-fn filled_segments_keep_records(rt: HostRuntime) -> Result<(), Fail> {
-    for len in [0, 1, 47, 48, 49, 96] {
-        assert!(rt; len <= 96);
-        let bytes = vec![in rt.alloc(); 7u8; len]?;
-        let mut segments = Filled::new(rt.alloc(), 1)?;
-        let (key, value) = bytes.split_at(len / 2);
-        assert!(rt; keeps(rt.alloc(), &mut segments, 1, key, value)?);
+fn records_are_kept(rt: HostRuntime) -> Mem<()> {
+    for source in SOURCES {
+        for len in [0, 1, 47, 48, 49, 96] {
+            assert_keeps(&rt, rt.alloc(), source, len)?;
+        }
     }
     Ok(())
 }
@@ -101,19 +81,19 @@ fn filled_segments_keep_records(rt: HostRuntime) -> Result<(), Fail> {
 #[test]
 fn two_million_bytes_are_kept(rt: HostRuntime) -> Result<(), Fail> {
     let bytes = vec![in rt.alloc(); 7u8; 2000000]?;
-    let mut segments = Filled::new(rt.alloc(), 652)?;
+    let mut segments = Shelf::new(rt.alloc(), Source::Filled, 652)?;
     assert!(rt; keeps(rt.alloc(), &mut segments, 652, b"big", bytes.as_slice())?);
     Ok(())
 }
 
 #[test]
 fn a_delete_copies_the_key(rt: HostRuntime) -> Result<(), Fail> {
-    let mut segments = Filled::new(rt.alloc(), 1)?;
+    let mut segments = Shelf::new(rt.alloc(), Source::Filled, 1)?;
     let key = b"a key that fills one cell and a part of another one";
     assert!(rt; copies(rt.alloc(), &mut segments, key, b"value")?);
-    let mut segments = Highest::new(rt.alloc(), 1)?;
+    let mut segments = Shelf::new(rt.alloc(), Source::Highest, 1)?;
     assert!(rt; copies(rt.alloc(), &mut segments, b"k", b"")?);
-    let mut segments = Lowest::new(rt.alloc(), 1)?;
+    let mut segments = Shelf::new(rt.alloc(), Source::Lowest, 1)?;
     assert!(rt; copies(rt.alloc(), &mut segments, b"", key)?);
     Ok(())
 }

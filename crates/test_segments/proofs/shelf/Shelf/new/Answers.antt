@@ -14,9 +14,9 @@ making-init c = record {
 
 pub making-preserved : goal.making-preserved
 making-preserved c =
-    let pushed = ap (λ (xs : List Segment). numbers_of xs) c.push_reserved.ensures.items ∙ map-append (λ (s : Segment). s.number) c.making.segments.items (c.in_ok-segment_of.field-0 ∷ []) in
+    let pushed = ap (λ (xs : List Segment). numbers_of xs) c.push_reserved.ensures.items ∙ map-append (λ (s : Segment). s.number) c.making.segments.items (c.in_ok-new_segment.field-0 ∷ []) in
     record {
       size = omega (arith, c.push_reserved.ensures.len, c.making.invariant.size);
       room = c.push_reserved.ensures.capacity ∙ c.making.invariant.room;
-      numbers = pushed ∙ ap (λ n. numbers_of c.making.segments.items ++ n ∷ []) c.in_ok-segment_of.ensures ∙ pushed_below _ _ c.making.invariant.numbers;
+      numbers = pushed ∙ ap (λ n. numbers_of c.making.segments.items ++ n ∷ []) c.in_ok-new_segment.ensures ∙ pushed_below _ _ c.making.invariant.numbers;
     }

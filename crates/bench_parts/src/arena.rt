@@ -1,0 +1,34 @@
+//! Times how a region places, releases and reads a record of 100 bytes, beside clones of vectors of the
+//! same sizes.
+mod placing;
+mod reading;
+mod record;
+
+use crate::measure::{print_heading, print_times};
+use anyhow::Result;
+use placing::Placing;
+use reading::Reading;
+use std::alloc::Global;
+use std::time::CpuClock;
+
+const PLACING: &str = "place and release a record of 100 bytes";
+
+const DRAWING: &str = "the same with a segment drawn for it";
+
+const READING: &str = "read a record of 100 bytes";
+
+/// Turns of each way in a round.
+const TURNS: u32 = 200_000;
+
+/// Measures all, and prints a line for each.
+pub(crate) fn measure_all(rt: &(impl Print + CpuClock + Alloc<A = Global>)) -> Result<()> {
+    print_heading(rt, "region", "clones")?;
+    print_times(
+        rt,
+        PLACING,
+        &mut Placing::beside_another(rt.alloc())?,
+        TURNS,
+    )?;
+    print_times(rt, DRAWING, &mut Placing::alone(rt.alloc())?, TURNS)?;
+    print_times(rt, READING, &mut Reading::new(rt.alloc())?, TURNS)
+}

@@ -1,0 +1,36 @@
+//! Times a list in chunks, beside a plain vector of the same items: a search, and an insert with its removal.
+mod below;
+mod inserting;
+mod numbers;
+mod searching;
+
+use crate::measure::{print_heading, print_times};
+use anyhow::Result;
+use inserting::Inserting;
+use searching::Searching;
+use std::alloc::Global;
+use std::time::CpuClock;
+
+const SEARCHING: &str = "search among";
+
+const INSERTING: &str = "insert and remove by search among";
+
+/// How many items the list has.
+const COUNTS: [u32; 3] = [1_000, 30_000, 300_000];
+
+/// Turns of each way in a round.
+const TURNS: u32 = 3_000;
+
+/// Measures all, and prints a line for each.
+pub(crate) fn measure_all(rt: &(impl Print + CpuClock + Alloc<A = Global>)) -> Result<()> {
+    print_heading(rt, "chunks", "vector")?;
+    for count in COUNTS {
+        let name = format!(in rt.alloc(); "{SEARCHING} {count}")?;
+        print_times(rt, &name, &mut Searching::new(rt.alloc(), count)?, TURNS)?;
+    }
+    for count in COUNTS {
+        let name = format!(in rt.alloc(); "{INSERTING} {count}")?;
+        print_times(rt, &name, &mut Inserting::new(rt.alloc(), count)?, TURNS)?;
+    }
+    Ok(())
+}

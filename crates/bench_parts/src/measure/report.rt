@@ -1,0 +1,37 @@
+//! When a program measures, and the lines that it prints.
+ghost use Rattle.std.specs.Prelude.{◌<◌};
+
+use crate::measure::work::{Work, measure};
+use anyhow::Result;
+use std::alloc::Global;
+use std::time::CpuClock;
+
+/// Prints what stands above the lines: what our way is called, and the other one.
+pub(crate) fn print_heading(rt: &impl Print, ours: &str, other: &str) -> Result<()> {
+    println!(rt;
+        "{:<40}{:>12}{:>12}{:>10}",
+        "nanoseconds", ours, other, "ratio"
+    )?;
+    Ok(())
+}
+
+/// Measures some work, and prints its line.
+pub(crate) fn print_times<W: Work>(
+    rt: &(impl Print + CpuClock + Alloc<A = Global>),
+    name: &str,
+    work: &mut W,
+    turns: u32,
+) -> Result<()>
+    requires { 0 < turns }
+{
+    let times = measure(rt, rt.alloc(), work, turns)?;
+    let ratio = times.ratio();
+    println!(rt;
+        "{name:<40}{:>12}{:>12}{:>7}.{:02}",
+        times.ours,
+        times.other,
+        ratio / 100,
+        ratio % 100
+    )?;
+    Ok(())
+}

@@ -1,0 +1,117 @@
+//! The rows, over the host's pool and over each source of segments. Scripts by chance are asked of the program, by
+//! `scripts/check-catch-ups` and `scripts/check-tenants`.
+mod single;
+
+use etcd_types::Mem;
+use host_front::LentLine;
+use script_replay::{Asked, ReplayFault, read_line, run};
+use single::Singles;
+use std::alloc::Global;
+use std::process::Abort;
+use test_rows::{Row, live_rows, rows};
+use test_segments::{SOURCES, Source};
+
+/// What a script is answered.
+fn answers_to(rt: &impl Abort, alloc: Global, script: &[u8]) -> Vec<u8> {
+    let mut reader = script;
+    let mut answers = Vec::new(alloc);
+    let end: Result<(), ReplayFault> = run(alloc, &mut reader, &mut answers);
+    assert!(rt; end.is_ok());
+    answers
+}
+
+fn assert_answers(rt: &impl Abort, alloc: Global, script: &[u8], wanted: &[u8]) {
+    assert!(rt; answers_to(rt, alloc, script).as_slice() == wanted);
+}
+
+fn assert_row(rt: &impl Abort, alloc: Global, row: &Row) {
+    assert_answers(rt, alloc, row.script.as_bytes(), row.answers.as_bytes());
+}
+
+/// What a script is answered by tenants that each have segments of their own from a source.
+fn answers_over(alloc: Global, source: Source, script: &[u8]) -> Mem<Vec<u8>> {
+    let mut singles = Singles::new(alloc, source);
+    let mut answers = Vec::new(alloc);
+    for line in script.split(|byte| *byte == b'\n') {
+        let is_first = answers.is_empty();
+        write_over(alloc, &mut singles, read_line(line, is_first), &mut answers)?;
+    }
+    Ok(answers)
+}
+
+fn write_over(
+    alloc: Global,
+    singles: &mut Singles,
+    asked: Option<Asked<'_>>,
+    answers: &mut Vec<u8>,
+) -> Mem<()> {
+    match asked {
+        Some(Asked::Pool { segments }) => {
+            singles.segments = segments;
+            answers.extend_from_slice(b"ok\n")
+        }
+        Some(Asked::Live(LentLine::Event(event))) => {
+            let (status, body) = singles.answer(alloc, event)?;
+            let status = format!(in alloc; "{status}")?;
+            answers.extend_from_slice(status.as_bytes())?;
+            write_body(answers, &body)
+        }
+        Some(Asked::Live(line)) => {
+            answers.extend_from_slice(singles.operate(alloc, line)?.as_bytes())?;
+            answers.extend_from_slice(b"\n")
+        }
+        None => Ok(()),
+    }
+}
+
+/// A space and the body, if there is one, and the line's end, which some bodies have.
+fn write_body(answers: &mut Vec<u8>, body: &[u8]) -> Mem<()> {
+    if !body.is_empty() {
+        answers.push(b' ')?;
+        answers.extend_from_slice(body)?;
+    }
+    if !body.ends_with(b"\n") {
+        answers.push(b'\n')?;
+    }
+    Ok(())
+}
+
+#[test]
+fn rows_are_answered(rt: HostRuntime) {
+    for row in rows() {
+        assert_row(&rt, rt.alloc(), row);
+    }
+    for row in live_rows() {
+        assert_row(&rt, rt.alloc(), row);
+    }
+}
+
+/// A row is answered so over this source of segments.
+fn assert_row_over(rt: &impl Abort, alloc: Global, source: Source, row: &Row) -> Mem<()> {
+    let answers = answers_over(alloc, source, row.script.as_bytes())?;
+    assert!(rt; answers.as_slice() == row.answers.as_bytes());
+    Ok(())
+}
+
+fn assert_row_over_each(rt: &impl Abort, alloc: Global, row: &Row) -> Mem<()> {
+    for source in SOURCES {
+        assert_row_over(rt, alloc, source, row)?;
+    }
+    Ok(())
+}
+
+#[test]
+fn rows_are_answered_over_each_source(rt: HostRuntime) -> Mem<()> {
+    for row in rows() {
+        assert_row_over_each(&rt, rt.alloc(), row)?;
+    }
+    Ok(())
+}
+
+#[test]
+fn live_rows_are_answered_over_each_source(rt: HostRuntime) -> Mem<()> {
+    for row in live_rows() {
+        assert_row_over_each(&rt, rt.alloc(), row)?;
+    }
+    Ok(())
+}

@@ -1,0 +1,279 @@
+ghost use Rattle.std.specs.Prelude.{◌≡◌, ◌+◌, ◌<◌, ◌≤◌, length, [], max, IfOk, IsSome, OnErr, OnOk};
+
+use etcd_types::{CellNo, KeyValue, List, Mem};
+use key_index::record_list::{Record, RecordList};
+use key_index::{KeyIndex, Records};
+use std::alloc::Global;
+use std::marker::Model;
+use std::process::Abort;
+use std::test::Fail;
+
+fn is_older<R: Records>(records: &R, cell: CellNo, revision: u64) -> bool
+    requires { IsSome (R.cells records.now cell) }
+{
+    records.revision(cell) < revision && !records.is_put(cell)
+}
+
+/// The body that tests use meets the bound.
+#[test]
+fn reads_a_record(rt: HostRuntime) -> Result<(), Fail> {
+    let mut items = Vec::new(rt.alloc());
+    items.push(Some(Record {
+        key: Vec::new(rt.alloc()),
+        revision: 2,
+        row: None,
+        older: None,
+    }))?;
+    let records = RecordList { items };
+    assert!(rt; is_older(&records, CellNo::at(0, 0), 3));
+    Ok(())
+}
+
+/// Records in a list with their index. Each change has the next revision, from 2 on.
+#[derive(Drop)]
+struct Changes {
+    records: RecordList,
+    index: KeyIndex,
+}
+
+impl Model for Changes {
+    ghost use Rattle.key_index.specs.Index.{Heads};
+    ghost use Rattle.key_index.specs.Listed.{IsIndexedList};
+
+    ghost Value = { Heads };
+
+    ghost view = { λ s. s.index };
+
+    ghost invariant = { λ s. IsIndexedList s.records.items.items s.index.cells };
+}
+
+impl Changes {
+    fn new(alloc: Global, keys: usize) -> Mem<Changes>
+        ensures { IfOk result (λ s. s ≡ record { cells = []; capacity = keys }) }
+    {
+        Ok(Changes {
+            records: RecordList {
+                items: Vec::new(alloc),
+            },
+            index: KeyIndex::new(alloc, keys)?,
+        })
+    }
+
+    fn append(
+        &mut self,
+        rt: &impl Abort,
+        alloc: Global,
+        key: &[u8],
+        row: Option<KeyValue>,
+    ) -> Mem<()>
+        requires capacity { length self.old.cells < self.old.capacity }
+        ensures capacity { self.new.capacity ≡ self.old.capacity }
+        ensures length { length self.new.cells ≤ length self.old.cells + 1 }
+    {
+        let place = self.records.items.len();
+        assert!(rt; place < 64);
+        self.records.items.push(Some(Record {
+            key: key.to_vec(alloc)?,
+            revision: place as u64 + 2,
+            row,
+            older: None,
+        }))?;
+        self.index
+            .add(&mut self.records, CellNo::at(0, place as u32));
+        Ok(())
+    }
+
+    fn grow(&mut self, keys: u32) -> Mem<()>
+        ensures ok { OnOk result (self.new ≡ record self.old { capacity = max self.old.capacity keys }) }
+        ensures err { OnErr result (self.new ≡ self.old) }
+    {
+        self.index.grow_rooms(keys)
+    }
+
+    /// The place of a key's last change up to a revision.
+    fn last_place(&self, key: &[u8], revision: u64) -> Option<u32> {
+        let cell = self.index.at(&self.records, key, revision)?;
+        Some(cell.number())
+    }
+
+    fn cut(&mut self, revision: u64) {
+        self.index.cut(&mut self.records, revision);
+    }
+
+    fn has(&self, place: usize) -> bool {
+        matches!(self.records.items.get(place), Some(Some(_)))
+    }
+
+    /// The newest record of each key, by ascending key.
+    fn heads(&self, alloc: Global) -> Mem<Vec<CellNo>> {
+        let heads = self.index.heads_in(&self.records, &[], &[0]);
+        heads.collect(alloc)
+    }
+}
+
+/// The row that a change leaves.
+fn row_of(alloc: Global, is_put: bool) -> Option<KeyValue> {
+    if !is_put {
+        return None;
+    }
+    Some(KeyValue {
+        key: List::new(alloc),
+        create_revision: 2,
+        mod_revision: 2,
+        version: 1,
+        value: List::new(alloc),
+        lease: 0,
+    })
+}
+
+/// The life of a key, `a`, that the head of the crate tells, beside another key: each change's key, and whether
+/// it is a put.
+const LIFE: [(&[u8], bool); 8] = [
+    (b"a", true),
+    (b"a", true),
+    (b"a", false),
+    (b"b", true),
+    (b"a", true),
+    (b"b", true),
+    (b"a", false),
+    (b"b", true),
+];
+
+fn life(rt: &impl Abort, alloc: Global) -> Mem<Changes> {
+    let mut changes = Changes::new(alloc, 8)?;
+    'living: for number in 0..8usize {
+        let (key, is_put) = LIFE[number];
+        changes.append(rt, alloc, key, row_of(alloc, is_put))?;
+    }
+    Ok(changes)
+}
+
+/// A key, a revision, and the place of the key's last change up to it.
+type Last = (&'static [u8], u64, Option<u32>);
+
+/// What is last of each key, before any compaction.
+const LASTS: [Last; 5] = [
+    (b"a", 1, None),
+    (b"a", 2, Some(0)),
+    (b"a", 5, Some(2)),
+    (b"a", 7, Some(4)),
+    (b"b", 4, None),
+];
+
+fn assert_last(rt: &impl Abort, changes: &Changes, wanted: &Last) {
+    let (key, revision, place) = *wanted;
+    assert_eq!(rt; changes.last_place(key, revision), place);
+}
+
+/// The newest records stand at these places, by ascending key.
+fn assert_heads(rt: &impl Abort, alloc: Global, changes: &Changes, wanted: &[u32]) -> Mem<()> {
+    let heads = changes.heads(alloc)?;
+    assert_eq!(rt; heads.len(), wanted.len());
+    for (head, wanted) in heads.iter().zip(wanted) {
+        assert_eq!(rt; head.number(), *wanted);
+    }
+    Ok(())
+}
+
+#[test]
+fn lives_as_told(rt: HostRuntime) -> Mem<()> {
+    let changes = life(&rt, rt.alloc())?;
+    for wanted in &LASTS {
+        assert_last(&rt, &changes, wanted);
+    }
+    assert_heads(&rt, rt.alloc(), &changes, &[6, 7])
+}
+
+/// What a compaction at a revision leaves of the key.
+struct Cut {
+    revision: u64,
+    gone: &'static [usize],
+    there: &'static [usize],
+    last: Option<u32>,
+}
+
+/// Compactions one after another.
+const CUTS: [Cut; 6] = [
+    Cut {
+        revision: 3,
+        gone: &[0],
+        there: &[1, 2],
+        last: Some(1),
+    },
+    Cut {
+        revision: 4,
+        gone: &[1],
+        there: &[2],
+        last: Some(2),
+    },
+    Cut {
+        revision: 5,
+        gone: &[2],
+        there: &[4],
+        last: None,
+    },
+    Cut {
+        revision: 7,
+        gone: &[],
+        there: &[4],
+        last: Some(4),
+    },
+    Cut {
+        revision: 8,
+        gone: &[4],
+        there: &[6],
+        last: Some(6),
+    },
+    Cut {
+        revision: 9,
+        gone: &[6],
+        there: &[7],
+        last: None,
+    },
+];
+
+fn assert_cut(rt: &impl Abort, changes: &mut Changes, cut: &Cut) {
+    changes.cut(cut.revision);
+    for place in cut.gone {
+        assert!(rt; !changes.has(*place));
+    }
+    for place in cut.there {
+        assert!(rt; changes.has(*place));
+    }
+    assert_last(rt, changes, &(b"a", cut.revision, cut.last));
+}
+
+#[test]
+fn is_cut_as_told(rt: HostRuntime) -> Mem<()> {
+    let mut changes = life(&rt, rt.alloc())?;
+    for cut in &CUTS {
+        assert_cut(&rt, &mut changes, cut);
+    }
+    assert_heads(&rt, rt.alloc(), &changes, &[7])
+}
+
+/// Room for two keys grows to three, and never shrinks. The keys and their records stay, and the third finds its
+/// place.
+#[test]
+fn room_grows_and_the_keys_stay(rt: HostRuntime) -> Mem<()> {
+    let mut changes = two_keys(&rt, rt.alloc())?;
+    let grown = changes.grow(3);
+    assert_heads(&rt, rt.alloc(), &changes, &[0, 1])?;
+    grown?;
+    changes.grow(0)?;
+    changes.append(&rt, rt.alloc(), b"b", row_of(rt.alloc(), true))?;
+    assert_heads(&rt, rt.alloc(), &changes, &[0, 2, 1])?;
+    assert_last(&rt, &changes, &(b"c", 9, Some(1)));
+    Ok(())
+}
+
+/// Keys `a` and `c`, with room for no more.
+fn two_keys(rt: &impl Abort, alloc: Global) -> Mem<Changes>
+    ensures room { IfOk result (λ changes. changes.capacity ≡ 2) }
+    ensures keys { IfOk result (λ changes. length changes.cells ≤ 2) }
+{
+    let mut changes = Changes::new(alloc, 2)?;
+    changes.append(rt, alloc, b"a", row_of(alloc, true))?;
+    changes.append(rt, alloc, b"c", row_of(alloc, true))?;
+    Ok(changes)
+}

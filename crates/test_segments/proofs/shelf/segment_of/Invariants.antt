@@ -1,5 +1,0 @@
-use Rattle.std.proofs.Common.{◌≡◌, length}
-use Rattle.test_segments.proofs.shelf.segment_of.Given as goal
-
-abbrev pub invariant-filling : goal.invariant-filling
-invariant-filling l = length l.cells.items ≡ 64
