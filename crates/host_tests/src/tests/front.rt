@@ -1,169 +1,191 @@
-//! Worked rows as lists of events: what tenants of one host are answered, and a tenant alone.
-//!
-//! The events are text in tables, and one small function asks them: a test that holds many values itself is
-//! long to prove.
-ghost use Rattle.std.specs.Prelude.{◌≤◌};
-
-mod lines;
-mod rows;
-
+//! The rows as lists: all lines of a script asked at once, and each run of its events.
 use etcd_types::Mem;
-use etcd_types::limits::MAX_SEGMENTS;
-use host_front::{Front, HostEvent, HostLine, LineAnswer};
-use lines::{LIVE_QUOTA, LineRow, Said, Told};
-use rows::{ALONE, Asked, FIRST_ROWS, NEIGHBOURS, REFUSALS, Row};
+use etcd_types::limits::{DEFAULT_SEGMENTS, MAX_SEGMENTS};
+use host_front::{Front, HostEvent, HostLine, LentEvent, LentLine, LineAnswer};
+use script_replay::{Asked, read_line, write_answer};
 use std::alloc::Global;
 use std::process::Abort;
 use steps_core::Host;
+use test_rows::{Row, live_rows, rows};
 
-fn bytes(alloc: Global, text: &str) -> Mem<Vec<u8>> {
-    Vec::from_slice(alloc, text.as_bytes())
+/// A script's lines, and how many segments its host has.
+#[derive(Drop)]
+struct Script {
+    segments: u32,
+    /// What was answered to a line that asks for the segments.
+    told: Vec<u8>,
+    lines: Vec<HostLine>,
 }
 
-fn event_of(alloc: Global, asked: &Asked) -> Mem<HostEvent> {
-    Ok(match *asked {
-        Asked::Call(method, target, body) => HostEvent::Call {
-            method: bytes(alloc, method)?,
-            target: bytes(alloc, target)?,
-            body: bytes(alloc, body)?,
+impl Script {
+    fn new(alloc: Global) -> Script {
+        Script {
+            segments: DEFAULT_SEGMENTS,
+            told: Vec::new(alloc),
+            lines: Vec::new(alloc),
+        }
+    }
+
+    fn take(&mut self, alloc: Global, text: &[u8]) -> Mem<()> {
+        match read_line(text, self.lines.is_empty()) {
+            Some(Asked::Pool { segments }) => {
+                self.segments = segments;
+                self.told.extend_from_slice(b"ok\n")
+            }
+            Some(Asked::Live(line)) => Ok(self.lines.push(line_of(alloc, line)?)?),
+            None => Ok(()),
+        }
+    }
+
+    fn front(&self, alloc: Global) -> Mem<Front> {
+        let segments = self.segments.clamp(1, MAX_SEGMENTS);
+        Ok(Front::new(Host::new(alloc, segments)?))
+    }
+}
+
+fn script_of(alloc: Global, row: &Row) -> Mem<Script> {
+    let mut script = Script::new(alloc);
+    for text in row.script.as_bytes().split(|byte| *byte == b'\n') {
+        script.take(alloc, text)?;
+    }
+    Ok(script)
+}
+
+fn line_of(alloc: Global, line: LentLine<'_>) -> Mem<HostLine> {
+    Ok(match line {
+        LentLine::Event(event) => HostLine::Event(event_of(alloc, event)?),
+        LentLine::Add {
+            name,
+            cluster,
+            quota,
+            first,
+        } => HostLine::Add {
+            name: Vec::from_slice(alloc, name)?,
+            cluster,
+            quota,
+            first,
         },
-        Asked::Take(tenant, slot) => HostEvent::Take {
-            tenant: bytes(alloc, tenant)?,
+        LentLine::Resize { name, quota } => HostLine::Resize {
+            name: Vec::from_slice(alloc, name)?,
+            quota,
+        },
+        LentLine::Remove { name } => HostLine::Remove {
+            name: Vec::from_slice(alloc, name)?,
+        },
+    })
+}
+
+fn event_of(alloc: Global, event: LentEvent<'_>) -> Mem<HostEvent> {
+    Ok(match event {
+        LentEvent::Call {
+            method,
+            target,
+            body,
+        } => call_of(alloc, method, target, body)?,
+        LentEvent::Take { tenant, slot } => HostEvent::Take {
+            tenant: Vec::from_slice(alloc, tenant)?,
             slot,
         },
-        Asked::Drop(tenant, slot) => HostEvent::DropWatch {
-            tenant: bytes(alloc, tenant)?,
+        LentEvent::DropWatch { tenant, slot } => HostEvent::DropWatch {
+            tenant: Vec::from_slice(alloc, tenant)?,
             slot,
         },
-        Asked::Tick(tenant, moment) => HostEvent::Tick {
-            tenant: bytes(alloc, tenant)?,
+        LentEvent::Tick { tenant, moment } => HostEvent::Tick {
+            tenant: Vec::from_slice(alloc, tenant)?,
             moment,
         },
-        Asked::CatchUp(tenant, budget) => HostEvent::CatchUp {
-            tenant: bytes(alloc, tenant)?,
+        LentEvent::CatchUp { tenant, budget } => HostEvent::CatchUp {
+            tenant: Vec::from_slice(alloc, tenant)?,
             budget,
         },
     })
 }
 
-/// Each row is answered as it says.
-fn assert_rows(rt: &impl Abort, alloc: Global, front: &mut Front, rows: &[Row]) -> Mem<()> {
-    let mut events = Vec::new(alloc);
-    for row in rows {
-        events.push(event_of(alloc, &row.asked)?)?;
-    }
-    let answers = front.answer_all(alloc, events.as_slice())?;
-    assert!(rt; answers.len() == rows.len());
-    for (answer, row) in answers.iter().zip(rows) {
-        assert!(rt; answer.status() == row.status);
-        assert!(rt; answer.body() == row.body.as_bytes());
+fn call_of(alloc: Global, method: &[u8], target: &[u8], body: &[u8]) -> Mem<HostEvent> {
+    Ok(HostEvent::Call {
+        method: Vec::from_slice(alloc, method)?,
+        target: Vec::from_slice(alloc, target)?,
+        body: Vec::from_slice(alloc, body)?,
+    })
+}
+
+/// Adds the line of an answer.
+fn tell(rt: &impl Abort, told: &mut Vec<u8>, answer: &LineAnswer) {
+    let written = write_answer(told, answer);
+    assert!(rt; written.is_ok());
+}
+
+/// What all lines are told, asked at once.
+fn live_all(rt: &impl Abort, alloc: Global, script: &mut Script) -> Mem<()> {
+    let mut front = script.front(alloc)?;
+    for answer in &front.live_all(alloc, &script.lines)? {
+        tell(rt, &mut script.told, answer);
     }
     Ok(())
 }
 
-/// A tenant from revision 1 on, by its name, cluster ID and quota.
-type Tenant = (&'static str, u64, u64);
-
-/// A host of so many segments with these tenants answers each row as it says.
-fn assert_front(
+/// What some events are told, asked at once. Then there are none.
+fn answer_all(
     rt: &impl Abort,
     alloc: Global,
-    segments: u32,
-    tenants: &[Tenant],
-    rows: &[Row],
-) -> Mem<()>
-    requires some { 1 ≤ segments }
-    requires most { segments ≤ MAX_SEGMENTS }
-{
-    let mut front = Front::new(Host::new(alloc, segments)?);
-    for (name, cluster, quota) in tenants {
-        let added = front
-            .host()
-            .add(alloc, name.as_bytes(), *cluster, *quota, 1);
-        assert!(rt; added.is_ok(), "{name}");
+    front: &mut Front,
+    events: &mut Vec<HostEvent>,
+    told: &mut Vec<u8>,
+) -> Mem<()> {
+    for answer in front.answer_all(alloc, events)? {
+        tell(rt, told, &LineAnswer::Event(answer));
     }
-    assert_rows(rt, alloc, &mut front, rows)
+    events.clear();
+    Ok(())
 }
 
-#[test]
-fn first_rows(rt: HostRuntime) -> Mem<()> {
-    assert_front(&rt, rt.alloc(), 16, &[("one", 7, 1024)], &FIRST_ROWS)
-}
-
-#[test]
-fn a_full_neighbour_is_not_noticed(rt: HostRuntime) -> Mem<()> {
-    let tenants = [("one", 7, 8), ("two", 9, 1024)];
-    assert_front(&rt, rt.alloc(), 17, &tenants, &NEIGHBOURS)
-}
-
-#[test]
-fn alone_the_answers_are_the_same(rt: HostRuntime) -> Mem<()> {
-    assert_front(&rt, rt.alloc(), 16, &[("two", 9, 1024)], &ALONE)
-}
-
-#[test]
-fn refusals_in_their_order(rt: HostRuntime) -> Mem<()> {
-    assert_front(&rt, rt.alloc(), 16, &[("one", 7, 1024)], &REFUSALS)
-}
-
-fn line_of(alloc: Global, said: &Said) -> Mem<HostLine> {
-    Ok(match *said {
-        Said::Post(target, body) => {
-            HostLine::Event(event_of(alloc, &Asked::Call("POST", target, body))?)
+/// What the lines are told, of which each run of events is asked at once.
+fn live_in_runs(rt: &impl Abort, alloc: Global, script: Script) -> Mem<Vec<u8>> {
+    let mut front = script.front(alloc)?;
+    let Script {
+        segments: _,
+        mut told,
+        lines,
+    } = script;
+    let mut events = Vec::new(alloc);
+    for line in lines {
+        match line {
+            HostLine::Event(event) => events.push(event)?,
+            line => {
+                answer_all(rt, alloc, &mut front, &mut events, &mut told)?;
+                tell(rt, &mut told, &front.live(alloc, &line));
+            }
         }
-        Said::Add(name, cluster, quota, first) => HostLine::Add {
-            name: bytes(alloc, name)?,
-            cluster,
-            quota,
-            first,
-        },
-        Said::Resize(name, quota) => HostLine::Resize {
-            name: bytes(alloc, name)?,
-            quota,
-        },
-        Said::Remove(name) => HostLine::Remove {
-            name: bytes(alloc, name)?,
-        },
-    })
-}
-
-fn is_told(answer: &LineAnswer, told: &Told) -> bool {
-    match (answer, told) {
-        (LineAnswer::Event(answer), Told::Text(status, body)) => {
-            answer.status() == *status && answer.body() == body.as_bytes()
-        }
-        (LineAnswer::Done, Told::Done) => true,
-        (LineAnswer::No(fault), Told::No(other)) => *fault == *other,
-        _ => false,
     }
+    answer_all(rt, alloc, &mut front, &mut events, &mut told)?;
+    Ok(told)
 }
 
-fn lines_of(alloc: Global, rows: &[LineRow]) -> Mem<Vec<HostLine>> {
-    let mut lines = Vec::new(alloc);
-    for row in rows {
-        lines.push(line_of(alloc, &row.said)?)?;
-    }
-    Ok(lines)
+fn assert_lived(rt: &impl Abort, alloc: Global, row: &Row) -> Mem<()> {
+    let mut script = script_of(alloc, row)?;
+    live_all(rt, alloc, &mut script)?;
+    assert!(rt; script.told.as_slice() == row.answers.as_bytes());
+    Ok(())
 }
 
-/// What a host of four segments answers.
-fn answers_of(alloc: Global, lines: &[HostLine]) -> Mem<Vec<LineAnswer>> {
-    let mut front = Front::new(Host::new(alloc, 4)?);
-    front.live_all(alloc, lines)
-}
-
-/// Each line is answered as its row says.
-fn assert_told(rt: &impl Abort, answers: &[LineAnswer], rows: &[LineRow]) {
-    assert!(rt; answers.len() == rows.len());
-    for (answer, row) in answers.iter().zip(rows) {
-        assert!(rt; is_told(answer, &row.told));
-    }
+fn assert_lived_in_runs(rt: &impl Abort, alloc: Global, row: &Row) -> Mem<()> {
+    let told = live_in_runs(rt, alloc, script_of(alloc, row)?)?;
+    assert!(rt; told.as_slice() == row.answers.as_bytes());
+    Ok(())
 }
 
 #[test]
-fn quotas_change_and_tenants_go(rt: HostRuntime) -> Mem<()> {
-    let lines = lines_of(rt.alloc(), &LIVE_QUOTA)?;
-    let answers = answers_of(rt.alloc(), lines.as_slice())?;
-    assert_told(&rt, answers.as_slice(), &LIVE_QUOTA);
+fn rows_are_answered_at_once(rt: HostRuntime) -> Mem<()> {
+    for row in rows().iter().chain(live_rows()) {
+        assert_lived(&rt, rt.alloc(), row)?;
+    }
+    Ok(())
+}
+
+#[test]
+fn runs_of_events_are_answered_at_once(rt: HostRuntime) -> Mem<()> {
+    for row in rows().iter().chain(live_rows()) {
+        assert_lived_in_runs(&rt, rt.alloc(), row)?;
+    }
     Ok(())
 }

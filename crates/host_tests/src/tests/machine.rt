@@ -102,8 +102,12 @@ fn assert_told(rt: &impl Abort, alloc: Global, quota: u32, lines: &[Line]) -> Me
     requires quota { (min_quota ≤ quota) × (quota ≤ max_quota) }
 {
     let mut tenant = Tenant::new(alloc, quota)?;
+    assert_lines(rt, alloc, &mut tenant, lines)
+}
+
+fn assert_lines(rt: &impl Abort, alloc: Global, tenant: &mut Tenant, lines: &[Line]) -> Mem<()> {
     for (number, line) in lines.iter().enumerate() {
-        assert_line(rt, alloc, &mut tenant, number, line)?;
+        assert_line(rt, alloc, tenant, number, line)?;
     }
     Ok(())
 }
@@ -111,12 +115,26 @@ fn assert_told(rt: &impl Abort, alloc: Global, quota: u32, lines: &[Line]) -> Me
 /// A new tenant puts the keys of each revision, and then a watch of them is opened and taken from.
 fn assert_response(rt: &impl Abort, alloc: Global, response: &Response) -> Mem<()> {
     let mut tenant = Tenant::new(alloc, 64)?;
-    for count in response.puts {
+    put_keys(alloc, &mut tenant, response.puts)?;
+    tenant.told(alloc, Ask::WatchKeys)?;
+    assert_takes(rt, alloc, &mut tenant, response.takes)
+}
+
+fn put_keys(alloc: Global, tenant: &mut Tenant, counts: &[usize]) -> Mem<()> {
+    for count in counts {
         tenant.told(alloc, Ask::PutKeys(*count))?;
     }
-    tenant.told(alloc, Ask::WatchKeys)?;
-    for (number, wanted) in response.takes.iter().enumerate() {
-        assert_line(rt, alloc, &mut tenant, number, &(Ask::Take(0), *wanted))?;
+    Ok(())
+}
+
+fn assert_takes(
+    rt: &impl Abort,
+    alloc: Global,
+    tenant: &mut Tenant,
+    takes: &[&'static str],
+) -> Mem<()> {
+    for (number, wanted) in takes.iter().enumerate() {
+        assert_line(rt, alloc, tenant, number, &(Ask::Take(0), *wanted))?;
     }
     Ok(())
 }
@@ -148,9 +166,18 @@ fn assert_hint(
 
 fn assert_hinted(rt: &impl Abort, alloc: Global, lines: &[HintedLine]) -> Mem<()> {
     let mut tenant = Tenant::new(alloc, 64)?;
+    assert_hints(rt, alloc, &mut tenant, lines)
+}
+
+fn assert_hints(
+    rt: &impl Abort,
+    alloc: Global,
+    tenant: &mut Tenant,
+    lines: &[HintedLine],
+) -> Mem<()> {
     for (number, (ask, told, hinted)) in lines.iter().enumerate() {
-        assert_line(rt, alloc, &mut tenant, number, &(*ask, *told))?;
-        assert_hint(rt, alloc, &tenant, number, hinted)?;
+        assert_line(rt, alloc, tenant, number, &(*ask, *told))?;
+        assert_hint(rt, alloc, tenant, number, hinted)?;
     }
     Ok(())
 }
