@@ -2,7 +2,7 @@
 use Rattle.std.specs.Prelude.{◌≡◌, ℕ, ◌+◌, ◌/◌, ◌<◌, ◌≤◌, List, [], ◌∷◌, ◌++◌, length, slice_index_or, take}
 use Rattle.std.specs.Prelude.{drop, Bool, Vec, vec_capacity}
 use Rattle.std.specs.List.{AllByRecursion, flat_map}
-use Rattle.chunk_list.specs.Chunked.{TurnsAt}
+use Rattle.chunk_list.specs.Chunked.{Chunked, TurnsAt, position_of}
 use Rattle.chunk_list.specs.declared.chunk.TheConstants.{LEAST, MOST}
 use Rattle.chunk_list.specs.declared.place.Place.{Place}
 
@@ -73,6 +73,19 @@ pub record AddsSpares {T A : Type 0} (old new old_spare new_spare : Vec (List T)
   pub spares : length old_spare.items ≤ length new_spare.items
   pub capacity : length new.items + length new_spare.items ≤ vec_capacity new
   pub spare_capacity : length new.items + length new_spare.items ≤ vec_capacity new_spare
+
+-- so many items are left of some chunks, behind those that a walk has passed of the first
+pub record HasLeft {T : Type 0} (chunks : List (List T)) (offset left : ℕ) : Type 0 where
+  pub dense : IsDense chunks
+  pub within : 0 < left → offset ≤ length (chunk_at chunks 0)
+  pub enough : 0 < left → offset + left ≤ length (chunk_items chunks)
+
+-- the chunk of a place and those after it, which have the items from that chunk's first on
+pub record IsRestFrom {T : Type 0} (list : Chunked T) (place : Place) (chunks : List (List T)) : Type 0 where
+  pub dense : IsDense chunks
+  pub within : place.offset ≤ length (chunk_at chunks 0)
+  pub items : drop place.offset (chunk_items chunks) ≡ drop (position_of list.sizes place) list.items
+  pub enough : length (chunk_items chunks) + position_of list.sizes place ≡ length list.items + place.offset
 
 -- the chunk in which a test turns, if it turns
 pub record IsTurnIn {T : Type 0} (test : T → Bool) (chunks : List (List T)) (at : ℕ) : Type 0 where

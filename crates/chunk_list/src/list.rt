@@ -2,6 +2,7 @@
 ghost use Rattle.std.specs.Prelude.{◌≡◌, ℕ, ◌+◌, ◌-◌, ◌<◌, ◌≤◌, ◌++◌, ◌∷◌, [], List, length, slice_index_or};
 ghost use Rattle.std.specs.Prelude.{slice_set, take, filter, max, IfOk, IsOk, IsTrue, OnOk, OnErr, ◌↔◌};
 ghost use Rattle.std.specs.List.{All, insert, remove};
+ghost use Rattle.chunk_list.specs.Chunks.{IsRestFrom};
 ghost use Rattle.chunk_list.specs.Chunked.{TurnsAt, HasItem, IsPlace, IsPlaceAt, position_of};
 
 use crate::chunk::{Chunk, LEAST};
@@ -199,6 +200,14 @@ impl<T: Copy> ChunkList<T> {
         ensures within { IsTrue result → position_of self.now.sizes place < length self.now.items }
     {
         place.chunk < self.chunks.len() && place.offset < self.chunks[place.chunk].len()
+    }
+
+    /// The chunk of a place, and those after it.
+    pub(crate) fn chunks_from(&self, place: Place) -> &[Chunk<T>]
+        requires { IsPlace self.now.sizes place }
+        ensures { IsRestFrom self.now place result.now }
+    {
+        &self.chunks[place.chunk..]
     }
 
     /// The item at a place.

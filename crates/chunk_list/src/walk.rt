@@ -2,6 +2,7 @@
 ghost use Rattle.std.specs.Prelude.{◌≡◌, length, nat_eq, take, drop};
 ghost use Rattle.chunk_list.specs.Chunked.{HasItems, position_of};
 
+use crate::chunk::Chunk;
 use crate::list::ChunkList;
 use crate::place::Place;
 use std::marker::Model;
@@ -9,8 +10,10 @@ use std::marker::Model;
 /// Some of a list's items in order. Contracts see it as the list of those that are left.
 #[derive(Drop)]
 pub struct Walk<'a, T> {
-    list: &'a ChunkList<T>,
-    place: Place,
+    /// The chunk at hand, and those after it.
+    chunks: &'a [Chunk<T>],
+    /// How many items of the chunk at hand are behind.
+    offset: usize,
     left: usize,
 }
 
@@ -21,8 +24,8 @@ impl<T: Copy> ChunkList<T> {
         ensures { result ≡ take count (drop (position_of self.now.sizes from) self.now.items) }
     {
         Walk {
-            list: self,
-            place: from,
+            chunks: self.chunks_from(from),
+            offset: from.offset,
             left: count,
         }
     }
@@ -46,13 +49,13 @@ impl<'a, T> Walk<'a, T> {
 
 impl<'a, T> Model for Walk<'a, T> {
     ghost use Rattle.std.specs.Prelude.{List, take, drop};
-    ghost use Rattle.chunk_list.specs.Chunked.{HasItems, position_of};
+    ghost use Rattle.chunk_list.specs.Chunks.{HasLeft, chunk_items};
 
     ghost Value = { List T };
 
-    ghost view = { λ w. take w.left (drop (position_of w.list.now.sizes w.place) w.list.now.items) };
+    ghost view = { λ w. take w.left (drop w.offset (chunk_items w.chunks.now)) };
 
-    ghost invariant = { λ w. HasItems w.list.now w.place w.left };
+    ghost invariant = { λ w. HasLeft w.chunks.now w.offset w.left };
 }
 
 impl<'a, T: Copy> Iterator for Walk<'a, T> {
@@ -68,9 +71,12 @@ impl<'a, T: Copy> Iterator for Walk<'a, T> {
         if self.left == 0 {
             return None;
         }
-        let list = self.list;
-        let item = list.get(self.place);
-        self.place = list.next(self.place);
+        if self.offset == self.chunks[0].len() {
+            self.chunks = &self.chunks[1..];
+            self.offset = 0;
+        }
+        let item = self.chunks[0].get(self.offset);
+        self.offset += 1;
         self.left -= 1;
         Some(item)
     }
