@@ -45,26 +45,31 @@ fn assert_line<S: Answers>(rt: &impl Abort, alloc: Global, store: &mut S, line: 
     Ok(())
 }
 
-/// A new store answers each line of a script as it says.
-fn assert_told<S: Answers + Drop>(
+/// A store answers each line of a script as it says.
+fn assert_lines<S: Answers>(
     rt: &impl Abort,
     alloc: Global,
-    mut store: S,
+    store: &mut S,
     lines: &[Line],
 ) -> Mem<()> {
     for line in lines {
-        assert_line(rt, alloc, &mut store, line)?;
+        assert_line(rt, alloc, store, line)?;
     }
     Ok(())
 }
 
 /// The plain store, and one over each source of segments, answer a script as it says.
 fn assert_all_told(rt: &impl Abort, alloc: Global, lines: &[Line]) -> Mem<()> {
-    assert_told(rt, alloc, PlainStore::new(alloc, 1), lines)?;
+    assert_lines(rt, alloc, &mut PlainStore::new(alloc, 1), lines)?;
     for source in SOURCES {
-        assert_told(rt, alloc, store_over(alloc, source)?, lines)?;
+        assert_told_over(rt, alloc, source, lines)?;
     }
     Ok(())
+}
+
+fn assert_told_over(rt: &impl Abort, alloc: Global, source: Source, lines: &[Line]) -> Mem<()> {
+    let mut store = store_over(alloc, source)?;
+    assert_lines(rt, alloc, &mut store, lines)
 }
 
 fn store_over(alloc: Global, source: Source) -> Mem<CellStore> {
@@ -77,15 +82,16 @@ fn assert_same(
     alloc: Global,
     plain: &mut PlainStore,
     store: &mut CellStore,
-    step: Step,
+    step: &Step,
 ) -> Mem<()> {
-    let wanted = told_by(alloc, plain, &step)?;
-    assert_eq!(rt;
-        told_by(alloc, store, &step)?.as_str(),
-        wanted.as_str(),
-        "{step:?}"
-    );
+    let wanted = told_by(alloc, plain, step)?;
+    let told = told_by(alloc, store, step)?;
+    assert_text(rt, told.as_str(), wanted.as_str(), step);
     Ok(())
+}
+
+fn assert_text(rt: &impl Abort, told: &str, wanted: &str, step: &Step) {
+    assert!(rt; told == wanted, "{told} to {step:?}");
 }
 
 /// Both stores keep the same changes from a revision on, and show the same rows before them.
@@ -104,50 +110,52 @@ fn assert_same_kept(
     Ok(())
 }
 
+/// The next step by chance is answered alike, and now and then what is kept is the same.
+fn assert_next(
+    rt: &impl Abort,
+    alloc: Global,
+    plain: &mut PlainStore,
+    store: &mut CellStore,
+    random: &mut Random,
+    taken: u64,
+) -> Mem<()> {
+    let current = plain.current();
+    assert!(rt; current < LAST_REVISION);
+    let step = random.step(alloc, current)?;
+    assert_same(rt, alloc, plain, store, &step)?;
+    if taken % LOOKED_AT == 0 {
+        assert_same_kept(rt, alloc, plain, store, current.saturating_sub(LOOKED_AT))?;
+    }
+    Ok(())
+}
+
 /// A new store answers steps by chance as the plain one does.
 fn assert_agrees(rt: &impl Abort, alloc: Global, mut store: CellStore) -> Mem<()> {
     let mut plain = PlainStore::new(alloc, 1);
     let mut random = Random::new();
     for taken in 0..STEPS {
-        let current = plain.current();
-        assert!(rt; current < LAST_REVISION);
-        assert_same(
-            rt,
-            alloc,
-            &mut plain,
-            &mut store,
-            random.step(alloc, current)?,
-        )?;
-        if taken % LOOKED_AT == 0 {
-            assert_same_kept(rt, alloc, &plain, &store, current.saturating_sub(LOOKED_AT))?;
-        }
+        assert_next(rt, alloc, &mut plain, &mut store, &mut random, taken)?;
     }
     Ok(())
 }
 
-/// A new store that took a script keeps changes as they are told.
-fn assert_keeps<S: Answers + Drop>(
-    rt: &impl Abort,
-    alloc: Global,
-    mut store: S,
-    lines: &[Line],
-    kept: &str,
-) -> Mem<()> {
-    for line in lines {
-        assert_line(rt, alloc, &mut store, line)?;
-    }
-    assert_eq!(rt; store.kept_since(alloc, 0)?.as_str(), kept);
+/// A store that takes a script keeps its changes as they are told.
+fn assert_keeps<S: Answers>(rt: &impl Abort, alloc: Global, store: &mut S) -> Mem<()> {
+    assert_lines(rt, alloc, store, &CHANGES_OF_A_KEY)?;
+    assert_eq!(rt; store.kept_since(alloc, 0)?.as_str(), KEPT_CHANGES);
     Ok(())
+}
+
+fn assert_keeps_over(rt: &impl Abort, alloc: Global, source: Source) -> Mem<()> {
+    let mut store = store_over(alloc, source)?;
+    assert_keeps(rt, alloc, &mut store)
 }
 
 #[test]
 fn rows_before_changes(rt: HostRuntime) -> Mem<()> {
-    let alloc = rt.alloc();
-    let plain = PlainStore::new(alloc, 1);
-    assert_keeps(&rt, alloc, plain, &CHANGES_OF_A_KEY, KEPT_CHANGES)?;
+    assert_keeps(&rt, rt.alloc(), &mut PlainStore::new(rt.alloc(), 1))?;
     for source in SOURCES {
-        let store = store_over(alloc, source)?;
-        assert_keeps(&rt, alloc, store, &CHANGES_OF_A_KEY, KEPT_CHANGES)?;
+        assert_keeps_over(&rt, rt.alloc(), source)?;
     }
     Ok(())
 }

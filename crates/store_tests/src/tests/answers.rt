@@ -2,7 +2,7 @@
 use crate::tests::asked::range;
 use crate::tests::told::{Told, write_at, write_rows_of};
 use etcd_types::limits::LAST_REVISION;
-use etcd_types::{CopyOf, KeyValue, Mem, OpReply, Step};
+use etcd_types::{CopyOf, KeyValue, Mem, OpReply, RangeReq, Refusal, Step};
 use plain_store::{PlainStore, Recorded};
 use std::alloc::Global;
 
@@ -50,10 +50,19 @@ impl Answers for PlainStore {
 
 /// The row that the key of a change showed before it: none where a range there is refused.
 fn row_before(alloc: Global, store: &PlainStore, change: &Recorded) -> Mem<Option<KeyValue>> {
+    let request = range_before(alloc, change)?;
+    first_row(alloc, &store.range(alloc, &request)?)
+}
+
+fn range_before(alloc: Global, change: &Recorded) -> Mem<RangeReq> {
     let mut request = range(alloc, "", "")?;
     request.key = change.key.copy_of(alloc)?;
     request.revision = change.revision.saturating_sub(1).min(LAST_REVISION) as i64;
-    match store.range(alloc, &request)? {
+    Ok(request)
+}
+
+fn first_row(alloc: Global, told: &Result<OpReply, Refusal>) -> Mem<Option<KeyValue>> {
+    match told {
         Ok(OpReply::Range { kvs, .. }) => match kvs.as_slice() {
             [row, ..] => Ok(Some(row.copy_of(alloc)?)),
             [] => Ok(None),

@@ -250,15 +250,26 @@ fn fill(list: &mut ChunkList<u32>, items: &mut Vec<u32>, most: u32) -> Result<()
     Ok(())
 }
 
+/// Grows a list's room, and fills it: it takes so many items.
+fn assert_room(
+    rt: &impl Abort,
+    alloc: Global,
+    list: &mut ChunkList<u32>,
+    items: &mut Vec<u32>,
+    room: &(usize, u32),
+) -> Result<(), AllocError> {
+    grow(rt, alloc, list, room.0, items)?;
+    fill(list, items, room.1)?;
+    assert_eq!(rt; list.len(), room.1 as usize);
+    assert_items(rt, alloc, list, items)
+}
+
 #[test]
 fn room_grows_and_the_items_stay(rt: HostRuntime) -> Result<(), Fail> {
     let mut list = ChunkList::new(rt.alloc(), 4)?;
     let mut items = Vec::new(rt.alloc());
-    for (room, most) in &ROOMS {
-        grow(&rt, rt.alloc(), &mut list, *room, &items)?;
-        fill(&mut list, &mut items, *most)?;
-        assert_eq!(rt; list.len(), *most as usize);
-        assert_items(&rt, rt.alloc(), &list, &items)?;
+    for room in &ROOMS {
+        assert_room(&rt, rt.alloc(), &mut list, &mut items, room)?;
     }
     Ok(())
 }
