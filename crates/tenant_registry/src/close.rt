@@ -19,7 +19,7 @@ pub(crate) struct Sheet {
 }
 
 /// What a comparison found. A place is that of a sheet.
-#[derive(Clone, Copy, Debug)]
+#[derive(Clone, Copy)]
 pub(crate) enum Verdict {
     Agree,
     Double(u8),

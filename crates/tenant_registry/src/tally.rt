@@ -7,7 +7,7 @@ use std::alloc::{AllocError, Global};
 use std::marker::Model;
 
 /// A call that has a turn: its place in the audit, what was asked, and what was answered.
-#[derive(Debug, Drop)]
+#[derive(Drop)]
 pub(crate) struct Call {
     pub(crate) turn: u32,
     pub(crate) step: Step,
