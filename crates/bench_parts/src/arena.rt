@@ -23,12 +23,22 @@ const TURNS: u32 = 200_000;
 /// Measures all, and prints a line for each.
 pub(crate) fn measure_all(rt: &(impl Print + CpuClock + Alloc<A = Global>)) -> Result<()> {
     print_heading(rt, "region", "clones")?;
-    print_times(
-        rt,
-        PLACING,
-        &mut Placing::beside_another(rt.alloc())?,
-        TURNS,
-    )?;
-    print_times(rt, DRAWING, &mut Placing::alone(rt.alloc())?, TURNS)?;
-    print_times(rt, READING, &mut Reading::new(rt.alloc())?, TURNS)
+    measure_placing(rt)?;
+    measure_drawing(rt)?;
+    measure_reading(rt)
+}
+
+fn measure_placing(rt: &(impl Print + CpuClock + Alloc<A = Global>)) -> Result<()> {
+    let mut placing = Placing::beside_another(rt.alloc())?;
+    print_times(rt, PLACING, &mut placing, TURNS)
+}
+
+fn measure_drawing(rt: &(impl Print + CpuClock + Alloc<A = Global>)) -> Result<()> {
+    let mut placing = Placing::alone(rt.alloc())?;
+    print_times(rt, DRAWING, &mut placing, TURNS)
+}
+
+fn measure_reading(rt: &(impl Print + CpuClock + Alloc<A = Global>)) -> Result<()> {
+    let mut reading = Reading::new(rt.alloc())?;
+    print_times(rt, READING, &mut reading, TURNS)
 }

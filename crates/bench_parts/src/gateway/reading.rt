@@ -7,7 +7,7 @@ use gateway_json::read_step;
 use std::alloc::Global;
 
 /// The reading of a call's body.
-#[derive(Clone, Copy, Debug)]
+#[derive(Clone, Copy)]
 pub(crate) struct Reading<'a> {
     pub(crate) call: Call,
     pub(crate) body: &'a str,

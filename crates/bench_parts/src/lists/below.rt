@@ -2,7 +2,7 @@
 use chunk_list::Test;
 
 /// Whether an item is below a number.
-#[derive(Clone, Copy, Debug)]
+#[derive(Clone, Copy)]
 pub(crate) struct Below(pub(crate) u32);
 
 impl Test<u32> for Below {

@@ -27,7 +27,7 @@ pub(crate) fn vector(alloc: Global, count: u32) -> Result<Vec<u32>> {
 }
 
 /// The items one after another, in no order.
-#[derive(Clone, Copy, Debug)]
+#[derive(Clone, Copy)]
 pub(crate) struct Numbers {
     index: u32,
     count: u32,

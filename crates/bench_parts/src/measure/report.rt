@@ -1,6 +1,7 @@
 //! When a program measures, and the lines that it prints.
 ghost use Rattle.std.specs.Prelude.{◌<◌};
 
+use crate::measure::times::Times;
 use crate::measure::work::{Work, measure};
 use anyhow::Result;
 use std::alloc::Global;
@@ -25,6 +26,10 @@ pub(crate) fn print_times<W: Work>(
     requires { 0 < turns }
 {
     let times = measure(rt, rt.alloc(), work, turns)?;
+    print_line(rt, name, times)
+}
+
+fn print_line(rt: &impl Print, name: &str, times: Times) -> Result<()> {
     let ratio = times.ratio();
     println!(rt;
         "{name:<40}{:>12}{:>12}{:>7}.{:02}",

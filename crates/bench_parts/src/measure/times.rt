@@ -2,7 +2,7 @@
 ghost use Rattle.std.specs.Prelude.{◌≡◌, ◌*◌, ◌/◌, min, max};
 
 /// Nanoseconds of processor time a turn, in each way.
-#[derive(Clone, Copy, Debug)]
+#[derive(Clone, Copy)]
 pub(crate) struct Times {
     pub(crate) ours: u64,
     pub(crate) other: u64,

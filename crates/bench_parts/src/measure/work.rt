@@ -21,7 +21,7 @@ pub(crate) trait Work {
 }
 
 /// One of the two ways.
-#[derive(Clone, Copy, Debug)]
+#[derive(Clone, Copy)]
 enum Way {
     Ours,
     Other,

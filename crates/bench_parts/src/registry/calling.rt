@@ -12,7 +12,7 @@ use tenant_registry::{OpenGate, Registry, Seat};
 pub(crate) const CALLS: u32 = 20_000;
 
 /// The tenants that the threads call.
-#[derive(Clone, Copy, Debug, PartialEq, Eq)]
+#[derive(Clone, Copy)]
 pub(crate) enum Spread {
     /// Each its own.
     Apart,
@@ -76,16 +76,26 @@ fn callers_of<R: Wait + Clock>(
             Spread::Apart => *name,
             Spread::Together => NAMES[0],
         };
-        let Ok(seat) = registry.seat() else {
-            bail!("no seat is left");
-        };
-        let mut caller = Caller { seat, tenant };
-        if !is_answered(rt, alloc, registry, &mut caller, Asked::Put) {
-            bail!("a put is refused");
-        }
-        callers.push(caller)?;
+        callers.push(caller_of(rt, alloc, registry, tenant)?)?;
     }
     Ok(callers)
+}
+
+/// A thread that calls a tenant, whose first put it has made.
+fn caller_of<R: Wait + Clock>(
+    rt: &R,
+    alloc: Global,
+    registry: &mut Registry,
+    tenant: &'static [u8],
+) -> Result<Caller> {
+    let Ok(seat) = registry.seat() else {
+        bail!("no seat is left");
+    };
+    let mut caller = Caller { seat, tenant };
+    if !is_answered(rt, alloc, registry, &mut caller, Asked::Put) {
+        bail!("a put is refused");
+    }
+    Ok(caller)
 }
 
 /// Makes the calls of a thread. All are answered.

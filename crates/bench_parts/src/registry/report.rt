@@ -56,7 +56,7 @@ pub(crate) fn measure_all<R: Threads + Wait + Clock + Sync + Print + Alloc<A = G
 }
 
 /// Calls a second of all threads together.
-#[derive(Clone, Copy, Debug)]
+#[derive(Clone, Copy)]
 struct Rates {
     one: u64,
     two: u64,

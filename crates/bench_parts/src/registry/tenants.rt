@@ -35,7 +35,7 @@ pub(crate) fn opened(alloc: Global) -> Result<Registry> {
 }
 
 /// What a call asks.
-#[derive(Clone, Copy, Debug, PartialEq, Eq)]
+#[derive(Clone, Copy)]
 pub(crate) enum Asked {
     Read,
     Put,

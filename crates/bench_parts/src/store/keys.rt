@@ -12,7 +12,7 @@ pub(crate) const ROWS: u64 = 100;
 const STEP: u64 = 7_919;
 
 /// So many keys of 16 bytes, with values of one length.
-#[derive(Clone, Copy, Debug)]
+#[derive(Clone, Copy)]
 pub(crate) struct Keys {
     pub(crate) count: u32,
     pub(crate) value_len: usize,

@@ -33,7 +33,7 @@ fn print_time(rt: &impl Print, name: &str, time: u64, first: u64) -> Result<()> 
 }
 
 /// What is timed.
-#[derive(Clone, Copy, Debug)]
+#[derive(Clone, Copy)]
 enum Timed {
     /// A put beside so many synced watches: of its key, or of others.
     Put { watches: u8, is_watched: bool },
