@@ -4,6 +4,7 @@ use etcd_types::limits::{DEFAULT_SEGMENTS, MAX_SEGMENTS};
 use host_front::{Front, HostEvent, HostLine, LentEvent, LentLine, LineAnswer};
 use script_replay::{Asked, read_line, write_answer};
 use std::alloc::Global;
+use std::mem;
 use std::process::Abort;
 use steps_core::Host;
 use test_rows::{Row, live_rows, rows};
@@ -15,6 +16,8 @@ struct Script {
     /// What was answered to a line that asks for the segments.
     told: Vec<u8>,
     lines: Vec<HostLine>,
+    /// The events that are asked at once next.
+    run: Vec<HostEvent>,
 }
 
 impl Script {
@@ -23,6 +26,7 @@ impl Script {
             segments: DEFAULT_SEGMENTS,
             told: Vec::new(alloc),
             lines: Vec::new(alloc),
+            run: Vec::new(alloc),
         }
     }
 
@@ -124,41 +128,39 @@ fn live_all(rt: &impl Abort, alloc: Global, script: &mut Script) -> Mem<()> {
     Ok(())
 }
 
-/// What some events are told, asked at once. Then there are none.
-fn answer_all(
-    rt: &impl Abort,
-    alloc: Global,
-    front: &mut Front,
-    events: &mut Vec<HostEvent>,
-    told: &mut Vec<u8>,
-) -> Mem<()> {
-    for answer in front.answer_all(alloc, events)? {
-        tell(rt, told, &LineAnswer::Event(answer));
+/// What the run of events is told, asked at once. Then there is none.
+fn answer_run(rt: &impl Abort, alloc: Global, front: &mut Front, script: &mut Script) -> Mem<()> {
+    for answer in front.answer_all(alloc, &script.run)? {
+        tell(rt, &mut script.told, &LineAnswer::Event(answer));
     }
-    events.clear();
+    script.run.clear();
     Ok(())
 }
 
-/// What the lines are told, of which each run of events is asked at once.
-fn live_in_runs(rt: &impl Abort, alloc: Global, script: Script) -> Mem<Vec<u8>> {
-    let mut front = script.front(alloc)?;
-    let Script {
-        segments: _,
-        mut told,
-        lines,
-    } = script;
-    let mut events = Vec::new(alloc);
-    for line in lines {
-        match line {
-            HostLine::Event(event) => events.push(event)?,
-            line => {
-                answer_all(rt, alloc, &mut front, &mut events, &mut told)?;
-                tell(rt, &mut told, &front.live(alloc, &line));
-            }
+fn live_line(
+    rt: &impl Abort,
+    alloc: Global,
+    front: &mut Front,
+    script: &mut Script,
+    line: HostLine,
+) -> Mem<()> {
+    match line {
+        HostLine::Event(event) => Ok(script.run.push(event)?),
+        line => {
+            answer_run(rt, alloc, front, script)?;
+            tell(rt, &mut script.told, &front.live(alloc, &line));
+            Ok(())
         }
     }
-    answer_all(rt, alloc, &mut front, &mut events, &mut told)?;
-    Ok(told)
+}
+
+/// What the lines are told, of which each run of events is asked at once.
+fn live_in_runs(rt: &impl Abort, alloc: Global, script: &mut Script) -> Mem<()> {
+    let mut front = script.front(alloc)?;
+    for line in mem::replace(&mut script.lines, Vec::new(alloc)) {
+        live_line(rt, alloc, &mut front, script, line)?;
+    }
+    answer_run(rt, alloc, &mut front, script)
 }
 
 fn assert_lived(rt: &impl Abort, alloc: Global, row: &Row) -> Mem<()> {
@@ -169,8 +171,9 @@ fn assert_lived(rt: &impl Abort, alloc: Global, row: &Row) -> Mem<()> {
 }
 
 fn assert_lived_in_runs(rt: &impl Abort, alloc: Global, row: &Row) -> Mem<()> {
-    let told = live_in_runs(rt, alloc, script_of(alloc, row)?)?;
-    assert!(rt; told.as_slice() == row.answers.as_bytes());
+    let mut script = script_of(alloc, row)?;
+    live_in_runs(rt, alloc, &mut script)?;
+    assert!(rt; script.told.as_slice() == row.answers.as_bytes());
     Ok(())
 }
 
