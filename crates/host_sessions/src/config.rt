@@ -54,19 +54,22 @@ pub fn read_config(alloc: Global, text: &[u8]) -> Result<Config, ConfigFault> {
         return Err(ConfigFault::Unreadable);
     }
     let object = object_of(alloc, text)?;
-    let segments = number(&object, "segments", DEFAULT_SEGMENTS.into())?;
-    let Ok(segments) = u32::try_from(segments) else {
-        return Err(ConfigFault::Unreadable);
-    };
-    let tenants = tenants_of(alloc, &object)?;
+    config_of(alloc, &object)
+}
+
+fn config_of(alloc: Global, object: &Value) -> Result<Config, ConfigFault> {
+    let segments = segments_of(object)?;
+    let workers = workers_of(object)?;
+    let connections = connections_of(object)?;
+    let tenants = tenants_of(alloc, object)?;
     if check(segments, tenants.as_slice()).is_err() {
         return Err(ConfigFault::Unreadable);
     }
     Ok(Config {
-        listen: text_of(alloc, &object, "listen")?,
+        listen: text_of(alloc, object, "listen")?,
         segments,
-        workers: workers_of(&object)?,
-        connections: connections_of(&object)?,
+        workers,
+        connections,
         tenants,
     })
 }
@@ -98,6 +101,12 @@ fn text_of(alloc: Global, object: &Value, name: &str) -> Result<String, ConfigFa
         Some(Value::String(text)) => Ok(String::from_str(alloc, text.as_str())?),
         _ => Err(ConfigFault::Unreadable),
     }
+}
+
+fn segments_of(object: &Value) -> Result<u32, ConfigFault> {
+    u32::try_from(number(object, "segments", DEFAULT_SEGMENTS.into())?).map_err(
+        |_| ConfigFault::Unreadable,
+    )
 }
 
 fn workers_of(object: &Value) -> Result<usize, ConfigFault> {

@@ -120,7 +120,7 @@ where
 type Shift = (Seat, Result<(), ServeFault>);
 
 /// When a thread ends.
-#[derive(Clone, Copy, Debug, PartialEq, Eq)]
+#[derive(Clone, Copy)]
 enum Ends {
     /// When its last connection has ended.
     First,

@@ -19,7 +19,7 @@ use tokio::sync::mpsc::{self, ReserveOwned, UnboundedSender};
 const WAITING: usize = 256;
 
 /// A call that is offered, of the tenant at a place.
-#[derive(Clone, Copy, Debug, Drop)]
+#[derive(Clone, Copy, Drop)]
 pub(crate) struct Route {
     pub(crate) place: usize,
     pub(crate) call: Call,

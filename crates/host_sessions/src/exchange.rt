@@ -232,49 +232,58 @@ impl<I: Drop, R: Wait + Copy + Drop> Exchange<I, R> {
 
     /// Hands a brief call to the loop, or leaves it in its tenant's queue where there is no loop.
     fn hand(&mut self, route: Route, step: Step) -> Option<Answer<R>> {
-        let Some(jobs) = &self.jobs else {
-            return Some(Answer::no_memory());
-        };
-        let Ok((reply, told)) = oneshot::channel(self.alloc) else {
-            return Some(Answer::no_memory());
-        };
-        match jobs.hand(Errand { route, step, reply }) {
-            Ok(()) => {
-                self.stage = Stage::Handed(Handed { route, told });
+        match self.handed(route, step) {
+            Some(Ok(handed)) => {
+                self.stage = Stage::Handed(handed);
                 None
             }
+            Some(Err(step)) => self.queue(route, Ask::Step(step)),
+            None => Some(Answer::no_memory()),
+        }
+    }
+
+    /// What waits for the loop, or the call given back where there is no loop; none for want of memory.
+    fn handed(&self, route: Route, step: Step) -> Option<Result<Handed<R>, Step>> {
+        let jobs = self.jobs.as_ref()?;
+        let (reply, told) = oneshot::channel(self.alloc).ok()?;
+        match jobs.hand(Errand { route, step, reply }) {
+            Ok(()) => Some(Ok(Handed { route, told })),
             Err(errand) => {
                 let Errand {
-                    route,
+                    route: _,
                     step,
                     reply: _,
                 } = errand;
-                self.queue(route, Ask::Step(step))
+                Some(Err(step))
             }
         }
     }
 
     /// Leaves a job in a tenant's queue, or waits for room there.
     fn queue(&mut self, route: Route, ask: Ask) -> Option<Answer<R>> {
-        let Some(jobs) = &self.jobs else {
-            return Some(Answer::no_memory());
-        };
-        let Ok((reply, answer)) = oneshot::channel(self.alloc) else {
-            return Some(Answer::no_memory());
-        };
+        match self.queued(route, ask) {
+            Some(stage) => {
+                self.stage = stage;
+                None
+            }
+            None => Some(Answer::no_memory()),
+        }
+    }
+
+    /// The stage of a job that was left in a tenant's queue, or waits for room there; none for want of memory.
+    fn queued(&self, route: Route, ask: Ask) -> Option<Stage<I, R>> {
+        let jobs = self.jobs.as_ref()?;
+        let (reply, answer) = oneshot::channel(self.alloc).ok()?;
         let Route { place, call } = route;
         match jobs.offer(&self.rt, place, Job { call, ask, reply }) {
-            Offered::Left => self.stage = Stage::Waiting(answer),
-            Offered::Full(held) => {
-                self.stage = Stage::Queueing(Queueing {
-                    held,
-                    place,
-                    answer,
-                });
-            }
-            Offered::Refused => return Some(Answer::no_memory()),
+            Offered::Left => Some(Stage::Waiting(answer)),
+            Offered::Full(held) => Some(Stage::Queueing(Queueing {
+                held,
+                place,
+                answer,
+            })),
+            Offered::Refused => None,
         }
-        None
     }
 
     /// What the loop told of a call that it was handed. One that it gave back is left in its tenant's queue.

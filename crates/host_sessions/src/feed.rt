@@ -20,7 +20,7 @@ use tokio::sync::mpsc::error::TrySendError;
 const PLACES: usize = 2;
 
 /// Why no text can be put in.
-#[derive(Clone, Copy, Debug, PartialEq, Eq)]
+#[derive(Clone, Copy)]
 pub(crate) enum NoPlace {
     /// The client has not read what it was told, or has gone.
     Taken,

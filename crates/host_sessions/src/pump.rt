@@ -107,7 +107,7 @@ fn is_meant(hint: Option<&Hint>, watch: &OpenWatch) -> bool {
 }
 
 /// What a take leaves of a watch.
-#[derive(Clone, Copy, Debug, PartialEq, Eq)]
+#[derive(Clone, Copy)]
 enum Taken {
     Open,
     /// It was canceled, and its client has been told.

@@ -15,7 +15,7 @@ use std::sync::atomic::{AtomicU64, Ordering};
 const LOOKS: u32 = 64;
 
 /// What may be due on a tenant, in the order of the round.
-#[derive(Clone, Copy, Debug, PartialEq, Eq)]
+#[derive(Clone, Copy)]
 pub(crate) enum Duty {
     /// The clock's step.
     Tick,
@@ -61,7 +61,7 @@ impl Duty {
 }
 
 /// What a thread that serves tenants is told.
-#[derive(Clone, Copy, Debug, PartialEq, Eq)]
+#[derive(Clone, Copy)]
 pub(crate) enum Turn {
     /// It is the thread's turn on the tenant at this place.
     On(usize),

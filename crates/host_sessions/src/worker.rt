@@ -3,7 +3,7 @@ use crate::answer::{Answer, AnswerBody, Text};
 use crate::caller::Caller;
 use crate::crew::Station;
 use crate::desk::{Ask, Desk, Job, OpenWatch};
-use crate::feed::Outlet;
+use crate::feed::{Feed, Outlet};
 use crate::pump::take_each;
 use crate::rota::{Duty, Rota, Turn};
 use etcd_types::{Call, Step};
@@ -11,7 +11,7 @@ use gateway_json::read_step;
 use std::alloc::Global;
 use std::rt::Clock;
 use std::sync::{Arc, Wait};
-use tenant_registry::{Gate, Seat};
+use tenant_registry::{Gate, Receipt, Seat};
 
 /// How many jobs of a tenant are served in one turn.
 const JOBS_A_TURN: usize = 8;
@@ -115,31 +115,41 @@ impl<R: Wait + Clock + Copy + Drop> Bench<'_, R> {
         desk: &mut Desk<R>,
         step: Step,
     ) -> Answer<R> {
-        let Ok((outlet, feed)) = Outlet::new(self.rt, self.alloc, self.rota, self.place) else {
-            return Answer::no_memory();
-        };
         if desk.watches.reserve(1).is_err() {
             return Answer::no_memory();
         }
-        let receipt = match caller.call(desk.name.as_slice(), step) {
-            Ok(receipt) => receipt,
-            Err(refusal) => return Answer::refused(self.alloc, refusal),
-        };
-        let status = receipt.status();
-        let Some(slot) = receipt.slot() else {
-            return Answer::text(status, receipt.into_body());
-        };
-        if desk.watches.push(OpenWatch { slot, outlet }).is_err() {
-            let _ = caller.call(desk.name.as_slice(), Step::DropWatch(slot));
+        let Ok((outlet, feed)) = Outlet::new(self.rt, self.alloc, self.rota, self.place) else {
             return Answer::no_memory();
+        };
+        match caller.call(desk.name.as_slice(), step) {
+            Ok(receipt) => opened(caller, desk, receipt, outlet, feed),
+            Err(refusal) => Answer::refused(self.alloc, refusal),
         }
-        Answer {
-            status,
-            body: AnswerBody::Watch {
-                created: Some(Text::Made(receipt.into_body())),
-                feed,
-            },
-        }
+    }
+}
+
+/// The answer of a watch that was created, which is kept at its tenant's desk, or of what was told instead.
+fn opened<R: Wait + Clock + Copy + Drop, G: Gate>(
+    caller: &mut Caller<'_, R, G>,
+    desk: &mut Desk<R>,
+    receipt: Receipt,
+    outlet: Outlet,
+    feed: Feed<R>,
+) -> Answer<R> {
+    let status = receipt.status();
+    let Some(slot) = receipt.slot() else {
+        return Answer::text(status, receipt.into_body());
+    };
+    if desk.watches.push(OpenWatch { slot, outlet }).is_err() {
+        let _ = caller.call(desk.name.as_slice(), Step::DropWatch(slot));
+        return Answer::no_memory();
+    }
+    Answer {
+        status,
+        body: AnswerBody::Watch {
+            created: Some(Text::Made(receipt.into_body())),
+            feed,
+        },
     }
 }
 
