@@ -99,10 +99,19 @@ impl Again {
             return Ok(None);
         }
         let segments = segments_for(audit.quota);
-        let machine = Machine::new(alloc, audit.cluster, audit.quota, audit.first)?;
         let mut stock = Stock::new(alloc, segments)?;
         stock.make_room(segments)?;
+        let machine = Machine::new(alloc, audit.cluster, audit.quota, audit.first)?;
         Ok(Some(Again { machine, stock }))
+    }
+
+    fn replies_all(&mut self, alloc: Global, entries: &[Entry]) -> bool {
+        for entry in entries {
+            if !self.replies_so(alloc, entry) {
+                return false;
+            }
+        }
+        true
     }
 
     fn replies_so(&mut self, alloc: Global, entry: &Entry) -> bool {
@@ -113,15 +122,10 @@ impl Again {
 
 /// The machine, run over an audit's steps from its opening, gives its replies.
 fn is_lawful(alloc: Global, audit: &Audit) -> Mem<bool> {
-    let Some(mut again) = Again::opened(alloc, audit)? else {
-        return Ok(false);
-    };
-    for entry in &audit.entries {
-        if !again.replies_so(alloc, entry) {
-            return Ok(false);
-        }
+    match Again::opened(alloc, audit)? {
+        Some(mut again) => Ok(again.replies_all(alloc, audit.entries.as_slice())),
+        None => Ok(false),
     }
-    Ok(true)
 }
 
 /// The seats of a caller who is alone.
