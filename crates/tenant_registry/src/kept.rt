@@ -164,10 +164,10 @@ impl Kept {
         ensures err { OnErr result (free.new ≡ free.old) }
     {
         let segments = segments_for(opening.quota);
-        let machine = Machine::new(alloc, opening.cluster, opening.quota, opening.first)?;
-        let audit = Audit::new(alloc, opening)?;
         let mut left = Stock::new(alloc, 0)?;
         left.make_room(segments)?;
+        let audit = Audit::new(alloc, opening)?;
+        let machine = Machine::new(alloc, opening.cluster, opening.quota, opening.first)?;
         // From here on no memory is taken, so no segment is lost.
         free.move_to(&mut left, segments);
         Ok(Kept {
