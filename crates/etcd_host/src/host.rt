@@ -36,7 +36,32 @@ where
     let tenants = mem::replace(&mut config.tenants, Vec::new(alloc));
     let mut registry = Registry::new(alloc, tenants, config.segments).map_err(refused)?;
     let seats = seats(alloc, &mut registry, config.seats())?;
-    let listening = Sessions::listen(&rt, &config)?;
+    let seats = serve(rt, &config, &registry, seats)?;
+    close(&rt, registry, seats)
+}
+
+/// Serves as many connections as are configured, and gives the seats back.
+fn serve<R>(
+    rt: R,
+    config: &Config,
+    registry: &Registry,
+    seats: Vec<Seat>,
+) -> Result<Vec<Seat>, HostFault>
+where
+    R: Wait
+        + Threads
+        + Clock
+        + Net
+        + RandomSource
+        + AllocGlobal
+        + Print
+        + Copy
+        + Drop
+        + Send
+        + Sync
+        + 'static,
+{
+    let listening = Sessions::listen(&rt, config)?;
     let Ok(address) = listening.address() else {
         return Err(HostFault::Io);
     };
@@ -44,19 +69,24 @@ where
     let Ended {
         connections: _,
         seats,
-    } = Sessions::serve(rt, listening, &registry, seats, &OpenGate)?;
+    } = Sessions::serve(rt, listening, registry, seats, &OpenGate)?;
     println!(rt; "ended")?;
-    match registry.close(seats) {
-        Ok(_) => println!(rt; "closed")?,
-        Err(fault) => {
-            let fault = HostFault::from(fault);
-            if fault == HostFault::Mismatch {
-                println!(rt; "mismatch")?;
-            }
-            return Err(fault);
+    Ok(seats)
+}
+
+/// Closes the registry, whose audits have to be the seats' lists, and says so.
+fn close(rt: &impl Print, registry: Registry, seats: Vec<Seat>) -> Result<(), HostFault> {
+    let fault = match registry.close(seats) {
+        Ok(_) => {
+            println!(rt; "closed")?;
+            return Ok(());
         }
+        Err(fault) => HostFault::from(fault),
+    };
+    if fault == HostFault::Mismatch {
+        println!(rt; "mismatch")?;
     }
-    Ok(())
+    Err(fault)
 }
 
 /// The configuration on standard input.
