@@ -9,7 +9,7 @@ use std::sync::atomic::{AtomicBool, Ordering};
 use std::test::Fail;
 use std::thread::{self, Threads};
 use std::time::{Clock, Duration};
-use tenant_registry::Gate;
+use tenant_registry::{Gate, Registry, Seat};
 
 const PUT_TWO: &'static [u8] =
     b"POST /t/two/v3/kv/put HTTP/1.1\r\nhost: h\r\ncontent-length: 29\r\nconnection: close\r\n\r\n{\"key\":\"Zm9v\",\"value\":\"YmFy\"}";
@@ -65,29 +65,33 @@ where
     first == End::Finished && second == End::Finished
 }
 
+/// Serves a put on each tenant, the first of which the gate holds, and says whether both connections are finished.
+fn are_finished<R>(rt: R, registry: &Registry, seats: Vec<Seat>, gate: &Until) -> Result<bool, Fail>
+where
+    R: Wait + Threads + Clock + RandomSource + AllocGlobal + Copy + Drop + Send + Sync + 'static,
+{
+    let one = Peer::new(rt.alloc(), PUT_REQUEST)?;
+    let two = Peer::new(rt.alloc(), PUT_TWO)?;
+    let told = AtomicBool::new(false);
+    let are_finished = &told;
+    let _ = Sessions::serve_with(rt, registry, seats, gate, |jobs| {
+        are_finished.store(two_connections(rt, &jobs, gate, one, two), Ordering::SeqCst);
+        Ok(())
+    })?;
+    Ok(told.load(Ordering::SeqCst))
+}
+
 #[test]
 fn a_call_on_another_tenant_does_not_wait(rt: HostRuntime) -> Result<(), Fail> {
-    let alloc = rt.alloc();
-    let mut registry = two_tenants(alloc)?;
-    let seats = seats(alloc, &mut registry, SEATS)?;
+    let mut registry = two_tenants(rt.alloc())?;
+    let seats = seats(rt.alloc(), &mut registry, SEATS)?;
     let gate = Until {
         held: AtomicBool::new(false),
         answered: AtomicBool::new(false),
         last: AtomicBool::new(false),
     };
-    let one = Peer::new(alloc, PUT_REQUEST)?;
-    let two = Peer::new(alloc, PUT_TWO)?;
-    let told = AtomicBool::new(false);
-    let is_whole = &told;
-    let holding = &gate;
-    Sessions::serve_with(rt, &registry, seats, &gate, |jobs| {
-        is_whole.store(
-            two_connections(rt, &jobs, holding, one, two),
-            Ordering::SeqCst,
-        );
-        Ok(())
-    })?;
-    assert!(rt; told.load(Ordering::SeqCst));
+    let are_finished = are_finished(rt, &registry, seats, &gate)?;
+    assert!(rt; are_finished);
     assert!(rt; gate.held.load(Ordering::SeqCst) && !gate.last.load(Ordering::SeqCst));
     Ok(())
 }

@@ -1,6 +1,6 @@
 //! A server and a client over loopback, in one process.
 use crate::tenants::{PUT_REQUEST, PUT_TEXT, seats, two_tenants};
-use host_sessions::{ConfigFault, ListenFault, Listening, Sessions, read_config};
+use host_sessions::{Config, ConfigFault, Ended, ListenFault, Sessions, read_config};
 use std::alloc::{AllocGlobal, Global};
 use std::io::{Read, Write};
 use std::net::{Net, SocketAddr, TcpStream};
@@ -28,26 +28,41 @@ fn exchange<R: Net>(
     Ok(answer)
 }
 
-#[test]
-fn a_put_is_answered_over_loopback(rt: HostRuntime) -> Result<(), Fail> {
-    let alloc = rt.alloc();
-    let config = read_config(alloc, CONFIG)?;
-    let listening = Sessions::listen(&rt, &config)?;
+/// What a server of two tenants is at its end, and what a client was answered whose one connection it served.
+fn served<R>(rt: R, alloc: Global, config: &Config) -> Result<(Ended, Vec<u8>), Fail>
+where
+    R: Wait
+        + Threads
+        + Clock
+        + Net
+        + RandomSource
+        + AllocGlobal
+        + Copy
+        + Drop
+        + Send
+        + Sync
+        + 'static,
+{
+    let listening = Sessions::listen(&rt, config)?;
     let address = listening.address()?;
     let mut registry = two_tenants(alloc)?;
-    let wanted = config.seats();
-    let seats = seats(alloc, &mut registry, wanted)?;
+    let seats = seats(alloc, &mut registry, config.seats())?;
     let (ended, answer) = thread::join(
         &rt,
         || Sessions::serve(rt, listening, &registry, seats, &OpenGate),
         || exchange(&rt, alloc, address, PUT_REQUEST),
     );
     let answer = answer?;
+    Ok((ended?, answer))
+}
+
+#[test]
+fn a_put_is_answered_over_loopback(rt: HostRuntime) -> Result<(), Fail> {
+    let config = read_config(rt.alloc(), CONFIG)?;
+    let (ended, answer) = served(rt, rt.alloc(), &config)?;
     assert!(rt; answer.as_slice().starts_with(b"HTTP/1.1 200 OK\r\n"));
     assert!(rt; answer.as_slice().ends_with(PUT_TEXT));
-    let ended = ended?;
-    assert_eq!(rt; ended.connections, 1);
-    assert_eq!(rt; ended.seats.len(), wanted);
+    assert_eq!(rt; (ended.connections, ended.seats.len()), (1, config.seats()));
     Ok(())
 }
 

@@ -3,23 +3,25 @@ use crate::peer::Peer;
 use crate::tenants::{PUT_REQUEST, SEATS, ask, seats, two_tenants};
 use etcd_types::Call;
 use host_sessions::{End, Sessions};
-use std::alloc::AllocGlobal;
+use std::alloc::{AllocGlobal, Global};
 use std::random::RandomSource;
 use std::sync::atomic::{AtomicBool, Ordering};
 use std::sync::{Arc, Wait};
 use std::test::Fail;
 use std::thread::Threads;
 use std::time::Clock;
-use tenant_registry::OpenGate;
+use tenant_registry::{OpenGate, Registry, Seat};
 
 const WATCH: &'static [u8] =
     b"POST /t/one/v3/watch HTTP/1.1\r\nhost: h\r\ncontent-length: 33\r\n\r\n{\"create_request\":{\"key\":\"Zm9v\"}}";
+
+const NEW_WATCH: &str = "{\"create_request\":{\"key\":\"Zm9v\"}}";
 
 /// More reads and writes than a connection of these tests makes.
 const ENOUGH: u32 = 1000;
 
 /// What a connection left.
-#[derive(Drop)]
+#[derive(Clone, Copy)]
 struct Left {
     had_fault: bool,
     is_finished: bool,
@@ -40,31 +42,54 @@ fn round<R>(
 where
     R: Wait + Threads + Clock + RandomSource + AllocGlobal + Copy + Drop + Send + Sync + 'static,
 {
+    let peer = Peer::failing(rt.alloc(), says, enough, reads_left, writes_left)?;
+    let seen = Arc::try_clone(&peer.seen)?;
+    let mut left = left_by(rt, peer)?;
+    left.had_fault = seen.fault.load(Ordering::SeqCst);
+    Ok(left)
+}
+
+/// What a peer leaves, but for its fault.
+fn left_by<R>(rt: R, peer: Peer) -> Result<Left, Fail>
+where
+    R: Wait + Threads + Clock + RandomSource + AllocGlobal + Copy + Drop + Send + Sync + 'static,
+{
     let alloc = rt.alloc();
     let mut registry = two_tenants(alloc)?;
     let seats = seats(alloc, &mut registry, SEATS)?;
     let mut seat = registry.seat()?;
-    let peer = Peer::failing(alloc, says, enough, reads_left, writes_left)?;
-    let seen = Arc::try_clone(&peer.seen)?;
+    let is_finished = is_finished_by(rt, &registry, seats, peer)?;
+    left_on(&rt, alloc, &registry, &mut seat, is_finished)
+}
+
+/// Serves a peer, and says whether its connection is finished.
+fn is_finished_by<R>(rt: R, registry: &Registry, seats: Vec<Seat>, peer: Peer) -> Result<bool, Fail>
+where
+    R: Wait + Threads + Clock + RandomSource + AllocGlobal + Copy + Drop + Send + Sync + 'static,
+{
     let is_finished = AtomicBool::new(false);
     let told = &is_finished;
-    let _ = Sessions::serve_with(rt, &registry, seats, &OpenGate, |jobs| {
+    let _ = Sessions::serve_with(rt, registry, seats, &OpenGate, |jobs| {
         let end = Sessions::serve_one(rt, &jobs, peer);
         told.store(end == End::Finished, Ordering::SeqCst);
         Ok(())
     })?;
-    let status = ask(&rt, alloc, &registry, &mut seat, Call::Status, "{}")?;
-    let watch = ask(
-        &rt,
-        alloc,
-        &registry,
-        &mut seat,
-        Call::Watch,
-        "{\"create_request\":{\"key\":\"Zm9v\"}}",
-    )?;
+    Ok(is_finished.load(Ordering::SeqCst))
+}
+
+/// What is left on the first tenant.
+fn left_on<R: Wait + Clock>(
+    rt: &R,
+    alloc: Global,
+    registry: &Registry,
+    seat: &mut Seat,
+    is_finished: bool,
+) -> Result<Left, Fail> {
+    let status = ask(rt, alloc, registry, seat, Call::Status, "{}")?;
+    let watch = ask(rt, alloc, registry, seat, Call::Watch, NEW_WATCH)?;
     Ok(Left {
-        had_fault: seen.fault.load(Ordering::SeqCst),
-        is_finished: is_finished.load(Ordering::SeqCst),
+        had_fault: false,
+        is_finished,
         slot: watch.slot(),
         is_put: status.body().ends_with(b"\"revision\":\"2\"}}"),
     })
