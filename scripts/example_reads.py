@@ -315,7 +315,8 @@ def pages_while_another_writes(stage):
 
     def write():
         gateway, state, number = Gateway(url), {}, 0
-        while not stop.is_set():
+        # A writer that never waits would fill the tenant's quota, which nothing compacts.
+        while not stop.wait(0.005):
             key, value = b"app/%02d" % (number * 37 % 100), b"%d" % number
             if number % 3 == 2 and key in state:
                 answer = gateway.call("kv/deleterange", key=key)
