@@ -1,6 +1,6 @@
 //! Tenants with segments of their own, each from any source, which are answered as a host answers them.
 ghost use Rattle.std.specs.Prelude.{◌≡◌, ◌+◌, ◌≤◌, IfOk, IfSome, true};
-ghost use Rattle.etcd_types.specs.Limits.{max_quota, min_quota};
+ghost use Rattle.etcd_types.specs.Limits.{last_revision, max_quota, min_quota};
 
 use cell_arena::Segments;
 use etcd_types::limits::{DEFAULT_SEGMENTS, LAST_REVISION, MAX_QUOTA, MIN_QUOTA};
@@ -50,7 +50,7 @@ impl Single {
         quota: u64,
         first: u64,
     ) -> Mem<Option<Single>> {
-        if cluster == 0 || !is_quota(quota) || first == 0 || first > LAST_REVISION {
+        if !is_opening(cluster, quota, first) {
             return Ok(None);
         }
         let quota = quota as u32;
@@ -123,6 +123,17 @@ impl Single {
     }
 }
 
+/// The numbers of a tenant that comes are within the limits.
+fn is_opening(cluster: u64, quota: u64, first: u64) -> bool
+    ensures cluster { result ≡ true → 1 ≤ cluster }
+    ensures least { result ≡ true → min_quota ≤ quota }
+    ensures greatest { result ≡ true → quota ≤ max_quota }
+    ensures revision { result ≡ true → 1 ≤ first }
+    ensures last { result ≡ true → first ≤ last_revision }
+{
+    cluster != 0 && is_quota(quota) && first != 0 && first <= LAST_REVISION
+}
+
 fn is_quota(quota: u64) -> bool
     ensures least { result ≡ true → min_quota ≤ quota }
     ensures greatest { result ≡ true → quota ≤ max_quota }
@@ -188,16 +199,19 @@ impl Singles {
         quota: u64,
         first: u64,
     ) -> Mem<&'static str> {
-        let Some(single) = Single::new(alloc, self.source, name, cluster, quota, first)? else {
+        if !is_opening(cluster, quota, first) {
             return Ok("no limits");
-        };
+        }
         if self.place_of(name).is_some() {
             return Ok("no taken");
         }
-        if single.reserved > self.unreserved() {
+        if segments_for(quota as u32) > self.unreserved() {
             return Ok("no short");
         }
-        self.tenants.push(single)?;
+        match Single::new(alloc, self.source, name, cluster, quota, first)? {
+            Some(single) => self.tenants.push(single)?,
+            None => return Ok("no limits"),
+        }
         Ok("ok")
     }
 
