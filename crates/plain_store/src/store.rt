@@ -96,10 +96,11 @@ impl PlainStore {
             return Ok(Err(refusal));
         }
         let revision = self.current + 1;
+        let key = request.key.copy_of(alloc)?;
         let prev_kv = row_before(alloc, request, now)?;
         let row = row_put(alloc, revision, request, now)?;
         self.changes.push(Recorded {
-            key: request.key.copy_of(alloc)?,
+            key,
             revision,
             row: Some(row),
         })?;

@@ -16,7 +16,7 @@ pub invariant_of-self-2 : goal.invariant_of-self-2
 invariant_of-self-2 c =
     let s : Store = record { current = c.self.inside.current; compacted = c.self.inside.compacted; changes = c.self.inside.changes } in
     let fits : s.current + 1 < 2 ^ 63 = rw (← c.self.view_is) at c.requires in
-    rw (c.in_ok-push.ensures.ok, c.in_ok-copy_of.ensures, c.in_ok-row.ensures, c.live-now.ensures, c.as_slice.ensures, c.as_slice-2.ensures) (put_is_plain s c.args.request.now fits c.self.invariant)
+    rw (c.in_ok-push.ensures.ok, c.in_ok-key.ensures, c.in_ok-row.ensures, c.live-now.ensures, c.as_slice.ensures, c.as_slice-2.ensures) (put_is_plain s c.args.request.now fits c.self.invariant)
 
 pub returns-clause-store : goal.returns-clause-store
 returns-clause-store c =
@@ -24,4 +24,4 @@ returns-clause-store c =
     let p = c.args.request.now in
     let quiet : c.put_refusal.result ≡ None = search rules in
     let none : refused_over p (live p.key s.current s.changes) ≡ None = rw (c.live-now.ensures, c.as_slice.ensures, c.as_slice-2.ensures) at (sym c.put_refusal.ensures ∙ quiet) in
-    rw (← c.self.view_is, none, c.in_ok-push.ensures.ok, c.in_ok-copy_of.ensures, c.in_ok-row.ensures, c.live-now.ensures, c.as_slice.ensures, c.as_slice-2.ensures) (put_is_recorded s p c.self.invariant.store)
+    rw (← c.self.view_is, none, c.in_ok-push.ensures.ok, c.in_ok-key.ensures, c.in_ok-row.ensures, c.live-now.ensures, c.as_slice.ensures, c.as_slice-2.ensures) (put_is_recorded s p c.self.invariant.store)
