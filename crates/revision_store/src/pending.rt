@@ -125,11 +125,11 @@ impl<'a> Pending<'a> {
             ≡ op_reply (pending_reads self.old) (self.old.store.kept.current + 1) (PutOp request.now)) }
         ensures memory { OnErr result (self.new ≡ self.old) }
     {
+        self.puts.reserve(1)?;
         let now = present(alloc, self.store, request)?;
         let revision = self.store.current() + 1;
         let row = row_put(alloc, revision, request, now.as_ref())?;
         let place = self.writes.len();
-        self.puts.reserve(1)?;
         self.writes.push(Write::Put(row))?;
         self.puts.push_reserved(place);
         Ok(put_reply(revision, row_asked(now, request.prev_kv)))
