@@ -1,6 +1,6 @@
 //! Tenants with segments of their own, each from any source, which are answered as a host answers them.
 ghost use Rattle.std.specs.Prelude.{◌≡◌, ◌+◌, ◌≤◌, IfOk, IfSome, true};
-ghost use Rattle.etcd_types.specs.Limits.{last_revision, max_quota, min_quota};
+ghost use Rattle.etcd_types.specs.Limits.{max_quota, min_quota};
 
 use cell_arena::Segments;
 use etcd_types::limits::{DEFAULT_SEGMENTS, LAST_REVISION, MAX_QUOTA, MIN_QUOTA};
@@ -50,7 +50,7 @@ impl Single {
         quota: u64,
         first: u64,
     ) -> Mem<Option<Single>> {
-        if !is_opening(cluster, quota, first) {
+        if cluster == 0 || !is_quota(quota) || first == 0 || first > LAST_REVISION {
             return Ok(None);
         }
         let quota = quota as u32;
@@ -123,17 +123,6 @@ impl Single {
     }
 }
 
-/// The numbers of a tenant that comes are within the limits.
-fn is_opening(cluster: u64, quota: u64, first: u64) -> bool
-    ensures cluster { result ≡ true → 1 ≤ cluster }
-    ensures least { result ≡ true → min_quota ≤ quota }
-    ensures greatest { result ≡ true → quota ≤ max_quota }
-    ensures revision { result ≡ true → 1 ≤ first }
-    ensures last { result ≡ true → first ≤ last_revision }
-{
-    cluster != 0 && is_quota(quota) && first != 0 && first <= LAST_REVISION
-}
-
 fn is_quota(quota: u64) -> bool
     ensures least { result ≡ true → min_quota ≤ quota }
     ensures greatest { result ≡ true → quota ≤ max_quota }
@@ -199,19 +188,16 @@ impl Singles {
         quota: u64,
         first: u64,
     ) -> Mem<&'static str> {
-        if !is_opening(cluster, quota, first) {
+        let Some(single) = Single::new(alloc, self.source, name, cluster, quota, first)? else {
             return Ok("no limits");
-        }
+        };
         if self.place_of(name).is_some() {
             return Ok("no taken");
         }
-        if segments_for(quota as u32) > self.unreserved() {
+        if single.reserved > self.unreserved() {
             return Ok("no short");
         }
-        match Single::new(alloc, self.source, name, cluster, quota, first)? {
-            Some(single) => self.tenants.push(single)?,
-            None => return Ok("no limits"),
-        }
+        self.tenants.push(single)?;
         Ok("ok")
     }
 
