@@ -3,20 +3,23 @@ mod asked;
 mod cell_store;
 mod chunks;
 mod interval;
-mod kept;
 mod keys;
 mod leases;
 mod random;
 mod records;
+mod scripts;
 mod told;
 
 use answers::Answers;
 use cell_store::CellStore;
 use etcd_types::limits::LAST_REVISION;
 use etcd_types::{Mem, Step};
-use kept::{CHANGES, KEPT};
 use plain_store::PlainStore;
 use random::Random;
+use scripts::{
+    ACROSS_COMPACTIONS, CHANGED_PUTS, CHANGES_OF_A_KEY, FILTERED_RANGES, INTERVALS, KEPT_CHANGES,
+    LIMITED_RANGES, Line, OLD_REVISIONS, SORTED_RANGES, THREE_ROWS,
+};
 use std::alloc::Global;
 use std::process::Abort;
 use test_segments::{SOURCES, Shelf, Source};
@@ -33,6 +36,40 @@ const LOOKED_AT: u64 = 16;
 /// What a store answers to a step, as text.
 fn told_by<S: Answers>(alloc: Global, store: &mut S, step: &Step) -> Mem<String> {
     text_of(alloc, &store.answer(alloc, step)?)
+}
+
+/// A store answers a line of a script as it says.
+fn assert_line<S: Answers>(rt: &impl Abort, alloc: Global, store: &mut S, line: &Line) -> Mem<()> {
+    let step = line.0.step(alloc)?;
+    assert_eq!(rt; told_by(alloc, store, &step)?.as_str(), line.1);
+    Ok(())
+}
+
+/// A store answers each line of a script as it says.
+fn assert_lines<S: Answers>(
+    rt: &impl Abort,
+    alloc: Global,
+    store: &mut S,
+    lines: &[Line],
+) -> Mem<()> {
+    for line in lines {
+        assert_line(rt, alloc, store, line)?;
+    }
+    Ok(())
+}
+
+/// The plain store, and one over each source of segments, answer a script as it says.
+fn assert_all_told(rt: &impl Abort, alloc: Global, lines: &[Line]) -> Mem<()> {
+    assert_lines(rt, alloc, &mut PlainStore::new(alloc, 1), lines)?;
+    for source in SOURCES {
+        assert_told_over(rt, alloc, source, lines)?;
+    }
+    Ok(())
+}
+
+fn assert_told_over(rt: &impl Abort, alloc: Global, source: Source, lines: &[Line]) -> Mem<()> {
+    let mut store = store_over(alloc, source)?;
+    assert_lines(rt, alloc, &mut store, lines)
 }
 
 fn store_over(alloc: Global, source: Source) -> Mem<CellStore> {
@@ -102,18 +139,10 @@ fn assert_agrees(rt: &impl Abort, alloc: Global, mut store: CellStore) -> Mem<()
     Ok(())
 }
 
-/// A store that takes the changes of a key keeps them as they are told.
+/// A store that takes a script keeps its changes as they are told.
 fn assert_keeps<S: Answers>(rt: &impl Abort, alloc: Global, store: &mut S) -> Mem<()> {
-    for change in &CHANGES {
-        take(alloc, store, &change.step(alloc)?)?;
-    }
-    assert_eq!(rt; store.kept_since(alloc, 0)?.as_str(), KEPT);
-    Ok(())
-}
-
-/// Takes a step; what it is answered is not looked at.
-fn take<S: Answers>(alloc: Global, store: &mut S, step: &Step) -> Mem<()> {
-    drop(store.answer(alloc, step)?);
+    assert_lines(rt, alloc, store, &CHANGES_OF_A_KEY)?;
+    assert_eq!(rt; store.kept_since(alloc, 0)?.as_str(), KEPT_CHANGES);
     Ok(())
 }
 
@@ -129,6 +158,46 @@ fn rows_before_changes(rt: HostRuntime) -> Mem<()> {
         assert_keeps_over(&rt, rt.alloc(), source)?;
     }
     Ok(())
+}
+
+#[test]
+fn old_revisions(rt: HostRuntime) -> Mem<()> {
+    assert_all_told(&rt, rt.alloc(), &OLD_REVISIONS)
+}
+
+#[test]
+fn across_compactions(rt: HostRuntime) -> Mem<()> {
+    assert_all_told(&rt, rt.alloc(), &ACROSS_COMPACTIONS)
+}
+
+#[test]
+fn limited_ranges(rt: HostRuntime) -> Mem<()> {
+    assert_all_told(&rt, rt.alloc(), &LIMITED_RANGES)
+}
+
+#[test]
+fn filtered_ranges(rt: HostRuntime) -> Mem<()> {
+    assert_all_told(&rt, rt.alloc(), &FILTERED_RANGES)
+}
+
+#[test]
+fn sorted_ranges(rt: HostRuntime) -> Mem<()> {
+    assert_all_told(&rt, rt.alloc(), &SORTED_RANGES)
+}
+
+#[test]
+fn three_rows(rt: HostRuntime) -> Mem<()> {
+    assert_all_told(&rt, rt.alloc(), &THREE_ROWS)
+}
+
+#[test]
+fn changed_puts(rt: HostRuntime) -> Mem<()> {
+    assert_all_told(&rt, rt.alloc(), &CHANGED_PUTS)
+}
+
+#[test]
+fn intervals(rt: HostRuntime) -> Mem<()> {
+    assert_all_told(&rt, rt.alloc(), &INTERVALS)
 }
 
 #[test]
