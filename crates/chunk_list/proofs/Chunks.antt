@@ -1,14 +1,14 @@
 -- Lists of chunks: what stands before, at and after one of them, and what a change of it leaves.
 use Rattle.std.proofs.Common.{◌≡◌, ◌≢◌, ℕ, zero, suc, ◌+◌, ◌-◌, ◌*◌, ◌<◌, ◌≤◌, List, [], ◌∷◌, ◌++◌, length, get_or, set, take, drop, map, refl, sym, ap, subst, ◌∙◌, arith}
 use Rattle.std.specs.List.{insert, remove, AllByRecursion}
-use Rattle.std.proofs.lemmas.List.{append_assoc, length-append, get_or_default, set-append_left, set-append_right, set_split, take-append-drop, drop_more, get_or_at, get_or-append-add, length-drop, get_or-set_other, get_or-set_same, length-set, length-map, get_or-map, take-map, drop-set-lt, take-append-le, take-take, take-set-le, drop-set, drop_at, take_at, length-take-le, drop_all}
-use Rattle.std.proofs.lemmas.List.Edits.{insert_end, length-insert, length-remove, get_or-remove_below, insert-append_left, insert-append_right, remove-append_left, remove-append_right}
+use Rattle.std.proofs.lemmas.List.{append_assoc, length-append, get_or_default, set-append_left, set-append_right, set_split, take-append-drop, drop_more, take_more, set_at, get_or_at, get_or-append-add, length-drop, get_or-set_other, get_or-set_same, length-set, length-map, get_or-map, take-map, drop-set-lt, take-set-le, drop-set, take_at, length-take-le, drop_all}
+use Rattle.std.proofs.lemmas.List.Edits.{insert_end, length-insert, insert-append_left, insert-append_right, remove-append_left, remove-append_right}
 use Rattle.std.proofs.lemmas.List.Concat.{flat_map-append, get_or-flat_map, length-flat_map}
 use Rattle.std.proofs.lemmas.List.Sums.{sum-map}
 use Rattle.std.specs.Prelude.{sum}
 use Rattle.chunk_list.specs.Chunked.{start_of, position_of, IsPlace, HasItem}
 use Rattle.chunk_list.specs.Chunks.{chunk_items, chunk_at, replaced, IsDense, LacksOne, IsOpenedAt, AreChunks}
-use Rattle.chunk_list.specs.declared.chunk.TheConstants.{LEAST, MOST}
+use Rattle.chunk_list.specs.declared.span.TheConstants.{LEAST, MOST}
 use Rattle.chunk_list.specs.declared.place.Place.{Place}
 
 module _ {T : Type 0} where
@@ -20,37 +20,71 @@ module _ {T : Type 0} where
   pub chunk_read : (chunks : List (List T)) (i : ℕ) (p : List T) → p ≡ get_or chunks i p → i < length chunks → p ≡ chunk_at chunks i
   chunk_read chunks i p is lt = is ∙ get_or_default chunks i p [] lt
 
-  pub chunks_joined : (chunks : List (List T)) (i : ℕ) (next here here' : List T) → i + 1 < length chunks → next ≡ get_or chunks (i + 1) next → here ≡ get_or (remove chunks (i + 1)) i here → here' ≡ here ++ next → set (remove chunks (i + 1)) i here' ≡ replaced chunks i 2 ((chunk_at chunks i ++ chunk_at chunks (i + 1)) ∷ [])
-  chunks_joined chunks i next here here' lt next_is here_is both =
-      let a : List (List T) = take (i + 1) chunks in
-      let b : List (List T) = drop (suc (i + 1)) chunks in
-      let la : length a ≡ i + 1 = length-take-le (i + 1) chunks (omega arith) in
-      let fewer : i < length (remove chunks (i + 1)) = omega (arith, length-remove chunks (i + 1) lt) in
-      let e : here ≡ chunk_at chunks i = here_is ∙ get_or-remove_below chunks (i + 1) here i (omega arith) lt ∙ get_or_default chunks i here [] (omega arith) in
-      let f : next ≡ chunk_at chunks (i + 1) = chunk_read chunks (i + 1) next next_is lt in
-      let front : take i (a ++ b) ≡ take i chunks = take-append-le i a b (omega arith) ∙ take-take i (i + 1) chunks (omega arith) in
-      let rest : drop (suc i) (a ++ b) ≡ b = drop_at a b (suc i) (omega arith) in
-      let two : suc (i + 1) ≡ i + 2 = omega arith in
-      let now : here' ≡ chunk_at chunks i ++ chunk_at chunks (i + 1) = cc in
-      let tail : b ≡ drop (i + 2) chunks = ap (λ n. drop n chunks) two in
-      set_split (remove chunks (i + 1)) i here' fewer ∙ (cc)
+  -- the same of one that stands for itself
+  pub self_read : (chunks : List (List T)) (i : ℕ) → i < length chunks → chunk_at chunks i ≡ get_or chunks i (chunk_at chunks i)
+  self_read chunks i lt = sym (get_or_default chunks i (chunk_at chunks i) [] lt)
 
-  pub chunks_shifted : (chunks : List (List T)) (i : ℕ) (next next' here here' : List T) (item : T) → i + 1 < length chunks → next ≡ get_or chunks (i + 1) next → 0 < length next → item ≡ get_or next 0 item → next' ≡ remove next 0 → here ≡ get_or (set chunks (i + 1) next') i here → here' ≡ insert here (length here) item → set (set chunks (i + 1) next') i here' ≡ replaced chunks i 2 ((chunk_at chunks i ++ take 1 (chunk_at chunks (i + 1))) ∷ drop 1 (chunk_at chunks (i + 1)) ∷ [])
-  chunks_shifted chunks i next next' here here' item lt next_is some item_is rest_is here_is both =
-      let s : List (List T) = set chunks (i + 1) next' in
+  -- ---- what the moves make of the chunks
+
+  pub chunks_cut : (chunks opened moved new : List (List T)) (i keep : ℕ) → i < length chunks → opened ≡ insert chunks (i + 1) [] → moved ≡ set opened (i + 1) (drop keep (chunk_at opened i)) → new ≡ set moved i (take keep (chunk_at moved i)) → new ≡ replaced chunks i 1 (take keep (chunk_at chunks i) ∷ drop keep (chunk_at chunks i) ∷ [])
+  chunks_cut chunks opened moved new i keep lt open_is move_is new_is =
+      let p : List T = chunk_at chunks i in
+      let before : List (List T) = take i chunks in
+      let after : List (List T) = drop (i + 1) chunks in
+      let n : length before ≡ i = length-take-le i chunks (omega (arith, lt)) in
+      let one : suc i ≡ i + 1 = omega arith in
+      let opened' : opened ≡ before ++ (p ∷ ([] ∷ after)) =
+      open_is ∙ ap (λ xs. xs ++ [] ∷ after) (take_more chunks i [] lt) ∙ append_assoc before (p ∷ []) ([] ∷ after) in
+      let here : chunk_at opened i ≡ p = ap (λ xs. chunk_at xs i) opened' ∙ get_or_at before p ([] ∷ after) [] i n in
+      let m : length (before ++ p ∷ []) ≡ i + 1 = omega (arith, n, length-append before (p ∷ [])) in
+      let moved' : moved ≡ before ++ (p ∷ (drop keep p ∷ after)) =
+      move_is
+      ∙ ap (λ q. set opened (i + 1) (drop keep q)) here
+      ∙ ap (λ xs. set xs (i + 1) (drop keep p)) (opened' ∙ sym (append_assoc before (p ∷ []) ([] ∷ after)))
+      ∙ set_at (before ++ p ∷ []) [] after (drop keep p) (i + 1) m
+      ∙ append_assoc before (p ∷ []) (drop keep p ∷ after) in
+      let there : chunk_at moved i ≡ p = ap (λ xs. chunk_at xs i) moved' ∙ get_or_at before p (drop keep p ∷ after) [] i n in
+      new_is
+      ∙ ap (λ q. set moved i (take keep q)) there
+      ∙ ap (λ xs. set xs i (take keep p)) moved'
+      ∙ set_at before p (drop keep p ∷ after) (take keep p) i n
+
+  pub chunks_joined : (chunks both new : List (List T)) (i : ℕ) → i + 1 < length chunks → both ≡ set chunks i (chunk_at chunks i ++ chunk_at chunks (i + 1)) → new ≡ remove both (i + 1) → new ≡ replaced chunks i 2 ((chunk_at chunks i ++ chunk_at chunks (i + 1)) ∷ [])
+  chunks_joined chunks both new i lt both_is new_is =
+      let pq : List T = chunk_at chunks i ++ chunk_at chunks (i + 1) in
+      let one : suc i ≡ i + 1 = omega arith in
+      let two : suc (i + 1) ≡ i + 2 = omega arith in
+      let n : length (take i chunks) ≡ i = length-take-le i chunks (omega (arith, lt)) in
+      let m : length (take i chunks ++ pq ∷ []) ≡ i + 1 = omega (arith, n, length-append (take i chunks) (pq ∷ [])) in
+      let split : both ≡ (take i chunks ++ pq ∷ []) ++ drop (i + 1) chunks =
+      both_is ∙ set_split chunks i pq (omega (arith, lt)) ∙ ap (λ k. take i chunks ++ pq ∷ drop k chunks) one ∙ sym (append_assoc (take i chunks) (pq ∷ []) (drop (i + 1) chunks)) in
+      let front : take (i + 1) both ≡ take i chunks ++ pq ∷ [] = ap (take (i + 1)) split ∙ take_at (take i chunks ++ pq ∷ []) (drop (i + 1) chunks) (i + 1) m in
+      let rest : drop (suc (i + 1)) both ≡ drop (i + 2) chunks =
+      ap (λ k. drop k both) two ∙ ap (drop (i + 2)) both_is ∙ drop-set-lt (i + 2) chunks i pq (omega arith) in
+      new_is
+      ∙ ap (λ xs. xs ++ drop (suc (i + 1)) both) front
+      ∙ ap (λ xs. (take i chunks ++ pq ∷ []) ++ xs) rest
+      ∙ append_assoc (take i chunks) (pq ∷ []) (drop (i + 2) chunks)
+
+  pub chunks_shifted : (chunks less new : List (List T)) (i end : ℕ) (item : T) → i + 1 < length chunks → 0 < length (chunk_at chunks (i + 1)) → end ≡ length (chunk_at chunks i) → item ≡ get_or (chunk_at chunks (i + 1)) 0 item → less ≡ set chunks (i + 1) (remove (chunk_at chunks (i + 1)) 0) → new ≡ set less i (insert (chunk_at less i) end item) → new ≡ replaced chunks i 2 ((chunk_at chunks i ++ take 1 (chunk_at chunks (i + 1))) ∷ drop 1 (chunk_at chunks (i + 1)) ∷ [])
+  chunks_shifted chunks less new i end item lt some end_is item_is less_is new_is =
+      let p : List T = chunk_at chunks i in
+      let q : List T = chunk_at chunks (i + 1) in
       let ne : i ≢ i + 1 = omega arith in
-      let within : i < length s = subst (λ n. i < n) (sym (length-set chunks (i + 1) next')) (omega arith) in
-      let e : here ≡ chunk_at chunks i = here_is ∙ get_or-set_other chunks (i + 1) i next' here ne ∙ get_or_default chunks i here [] (omega arith) in
-      let f : next ≡ chunk_at chunks (i + 1) = chunk_read chunks (i + 1) next next_is lt in
-      let front : take i s ≡ take i chunks = take-set-le i chunks (i + 1) next' (omega arith) in
       let one : suc i ≡ i + 1 = omega arith in
       let two : i + 1 + 1 ≡ i + 2 = omega arith in
-      let rest : drop (suc i) s ≡ next' ∷ drop (i + 2) chunks = ap (λ n. drop n s) one ∙ drop-set chunks (i + 1) next' lt ∙ ap (λ n. next' ∷ drop n chunks) two in
-      let first : take 1 next ≡ item ∷ [] = first_of next item some item_is in
-      let now : here' ≡ here ++ item ∷ [] = both ∙ insert_end here item in
-      let now' : here' ≡ chunk_at chunks i ++ take 1 (chunk_at chunks (i + 1)) = now ∙ ap (λ x. x ++ item ∷ []) e ∙ ap (λ x. chunk_at chunks i ++ x) (sym first ∙ ap (take 1) f) in
-      let left : next' ≡ drop 1 (chunk_at chunks (i + 1)) = rest_is ∙ ap (drop 1) f in
-      set_split s i here' within ∙ (cc)
+      let within : i < length less = omega (arith, lt, ap length less_is, length-set chunks (i + 1) (remove q 0)) in
+      let here : chunk_at less i ≡ p = ap (λ xs. chunk_at xs i) less_is ∙ get_or-set_other chunks (i + 1) i (remove q 0) [] ne in
+      let now : insert (chunk_at less i) end item ≡ p ++ take 1 q =
+      ap (λ xs. insert xs end item) here ∙ ap (λ k. insert p k item) end_is ∙ insert_end p item ∙ ap (λ xs. p ++ xs) (sym (first_of q item some item_is)) in
+      let front : take i less ≡ take i chunks = ap (take i) less_is ∙ take-set-le i chunks (i + 1) (remove q 0) (omega arith) in
+      let rest : drop (suc i) less ≡ drop 1 q ∷ drop (i + 2) chunks =
+      ap (λ k. drop k less) one ∙ ap (drop (i + 1)) less_is ∙ drop-set chunks (i + 1) (remove q 0) lt ∙ ap (λ k. remove q 0 ∷ drop k chunks) two in
+      new_is
+      ∙ set_split less i (insert (chunk_at less i) end item) within
+      ∙ ap (λ xs. xs ++ insert (chunk_at less i) end item ∷ drop (suc i) less) front
+      ∙ ap (λ x. take i chunks ++ x ∷ drop (suc i) less) now
+      ∙ ap (λ xs. take i chunks ++ (p ++ take 1 q) ∷ xs) rest
     where
       first_of : (xs : List T) (x : T) → 0 < length xs → x ≡ get_or xs 0 x → take 1 xs ≡ x ∷ []
       first_of [] x h is = absurd (omega (arith, h))
@@ -284,23 +318,19 @@ module _ {T : Type 0} where
   opened_inserted old new at offset at' offset' x opened =
       inserted new at' offset' x opened.chunk_in opened.offset_in ∙ ap (λ n. insert (chunk_items new) n x) opened.position ∙ ap (λ xs. insert xs (length (chunk_items (take at old)) + offset) x) opened.items
 
-  -- where there is room for one more item, a chunk is spare
-  pub spare_left : (chunks : List (List T)) (most spares most_spare count room : ℕ) → AreChunks chunks most spares most_spare count room → length (chunk_items chunks) < room → (0 < spares) × (length chunks < most)
-  spare_left chunks most spares most_spare count room sound less =
-      let few = dense_count chunks sound.dense in
-      (omega (arith, few, sound.total, less), omega (arith, few, sound.total, sound.capacity, less))
+  -- where there is room for one more item, there may be one more chunk
+  pub spare_left : (chunks : List (List T)) (most count room : ℕ) → AreChunks chunks most count room → length (chunk_items chunks) < room → length chunks < most
+  spare_left chunks most count room sound less = omega (arith, dense_count chunks sound.dense, sound.total, less)
 
-  pub sound_inserted : (old new : List (List T)) (most spares most_spare count room most' spares' most_spare' at offset at' offset' : ℕ) (x : T) → AreChunks old most spares most_spare count room → length (chunk_items old) < room → IsOpenedAt old new at offset at' offset' → length new + spares' ≡ length old + spares → most ≤ most' → most_spare ≤ most_spare' → length (chunk_items (take at old)) + offset ≤ length (chunk_items old) → AreChunks (set new at' (insert (chunk_at new at') offset' x)) most' spares' most_spare' (count + 1) room
-  sound_inserted old new most spares most_spare count room most' spares' most_spare' at offset at' offset' x sound less opened total more more_spare within =
+  pub sound_inserted : (old new : List (List T)) (most count room most' at offset at' offset' : ℕ) (x : T) → AreChunks old most count room → length (chunk_items old) < room → IsOpenedAt old new at offset at' offset' → most' ≡ most → length (chunk_items (take at old)) + offset ≤ length (chunk_items old) → AreChunks (set new at' (insert (chunk_at new at') offset' x)) most' (count + 1) room
+  sound_inserted old new most count room most' at offset at' offset' x sound less opened same within =
       let n = ap length (opened_inserted old new at offset at' offset' x opened) in
       let m = length-insert (chunk_items old) (length (chunk_items (take at old)) + offset) x within in
       let k = length-set new at' (insert (chunk_at new at') offset' x) in
       record {
         some = omega (arith, opened.chunk_in, k);
         dense = dense_set new at' (insert (chunk_at new at') offset' x) (λ h. omega (arith, dense_here new at' h opened.dense, length-insert (chunk_at new at') offset' x opened.offset_in)) opened.dense;
-        total = omega (arith, k, total, sound.total);
-        capacity = omega (arith, k, total, more, sound.capacity);
-        spare_capacity = omega (arith, k, total, more_spare, sound.spare_capacity);
+        total = omega (arith, same, sound.total);
         len = omega (arith, n, m, sound.len);
         within = omega (arith, n, m);
       }

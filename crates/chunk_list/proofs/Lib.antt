@@ -3,3 +3,7 @@ pub mod Lists
 pub mod Walks
 pub mod Turns
 pub mod Turning
+pub mod Stretches
+pub mod Shelves
+pub mod Edits
+pub mod Steps

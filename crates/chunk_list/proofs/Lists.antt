@@ -5,9 +5,9 @@ use Rattle.std.proofs.lemmas.List.{length-append, length-set, map-set, set-get_o
 use Rattle.std.proofs.lemmas.List.Edits.{length-remove}
 use Rattle.chunk_list.specs.Chunked.{Chunked, position_of, IsPlace, HasItem}
 use Rattle.chunk_list.specs.Chunks.{chunk_items, chunk_at, IsDense, LacksOne, IsOpenedAt, AreChunks}
-use Rattle.chunk_list.specs.declared.chunk.TheConstants.{LEAST}
+use Rattle.chunk_list.specs.declared.span.TheConstants.{LEAST}
 use Rattle.chunk_list.specs.declared.place.Place.{Place}
-use Rattle.chunk_list.proofs.Chunks.{IsIn, place_in, item_in, chunk_read, item_at, written, removed, opened_inserted, sound_inserted, dense_set, dense_here, short_after, items_split, sizes_at}
+use Rattle.chunk_list.proofs.Chunks.{IsIn, place_in, item_in, chunk_read, self_read, item_at, written, removed, opened_inserted, sound_inserted, dense_set, dense_here, short_after, items_split, sizes_at}
 
 module _ {T : Type 0} where
   -- what a contract sees of these chunks
@@ -30,6 +30,11 @@ module _ {T : Type 0} where
       let q = item_in chunks v.sizes place saw.sizes item in
       let is : chunk ≡ chunk_at chunks place.chunk = chunk_read chunks place.chunk chunk read q.0.chunk_in in
       record { place_is = q.0; less = subst (λ xs. place.offset < length xs) (sym is) q.1; is = is; items = saw.items }
+
+  pub here_at : (chunks : List (List T)) (v : Chunked T) (place : Place) → IsSeen chunks v → HasItem v.sizes place → IsHere chunks v place (chunk_at chunks place.chunk)
+  here_at chunks v place saw item =
+      let q = item_in chunks v.sizes place saw.sizes item in
+      here chunks v place (chunk_at chunks place.chunk) saw item (self_read chunks place.chunk q.0.chunk_in)
 
   in_chunk : (chunks : List (List T)) (v : Chunked T) (place : Place) (chunk : List T) → IsHere chunks v place chunk → place.offset < length (chunk_at chunks place.chunk)
   in_chunk chunks v place chunk h = subst (λ xs. place.offset < length xs) h.is h.less
@@ -56,8 +61,8 @@ module _ {T : Type 0} where
       ∙ set-get_or (map (λ p. length p) chunks) place.chunk 0
       ∙ saw.sizes
 
-  pub set_sound : (chunks : List (List T)) (v : Chunked T) (place : Place) (chunk chunk' : List T) (x : T) (most spares most_spare count room : ℕ) → AreChunks chunks most spares most_spare count room → IsHere chunks v place chunk → chunk' ≡ set chunk place.offset x → AreChunks (set chunks place.chunk chunk') most spares most_spare count room
-  set_sound chunks v place chunk chunk' x most spares most_spare count room sound h is =
+  pub set_sound : (chunks : List (List T)) (v : Chunked T) (place : Place) (chunk chunk' : List T) (x : T) (most count room : ℕ) → AreChunks chunks most count room → IsHere chunks v place chunk → chunk' ≡ set chunk place.offset x → AreChunks (set chunks place.chunk chunk') most count room
+  set_sound chunks v place chunk chunk' x most count room sound h is =
       let m = length-set chunks place.chunk chunk' in
       let n = ap length (set_items chunks v place chunk chunk' x h is) in
       let o = length-set v.items (position_of v.sizes place) x in
@@ -66,9 +71,7 @@ module _ {T : Type 0} where
       record {
         some = omega (arith, m, sound.some);
         dense = dense_set chunks place.chunk chunk' (λ q. omega (arith, same, dense_here chunks place.chunk q sound.dense)) sound.dense;
-        total = omega (arith, m, sound.total);
-        capacity = omega (arith, m, sound.capacity);
-        spare_capacity = omega (arith, m, sound.spare_capacity);
+        total = sound.total;
         len = omega (arith, n, o, i, sound.len);
         within = omega (arith, n, o, i, sound.within);
       }
@@ -100,13 +103,11 @@ module _ {T : Type 0} where
   pub short_here : (chunks : List (List T)) (v : Chunked T) (place : Place) (chunk chunk' : List T) → IsDense chunks → IsHere chunks v place chunk → chunk' ≡ remove chunk place.offset → LacksOne (set chunks place.chunk chunk') place.chunk
   short_here chunks v place chunk chunk' dense h is = short_after chunks place.chunk chunk' h.place_is.chunk_in (chunk_less chunks v place chunk chunk' h is) dense
 
-  pub sound_less : (chunks new : List (List T)) (most spares most_spare count room most' spares' most_spare' : ℕ) → AreChunks chunks most spares most_spare count room → 0 < length new → IsDense new → length new + spares' ≡ length chunks + spares → most ≤ most' → most_spare ≤ most_spare' → length (chunk_items new) + 1 ≡ length (chunk_items chunks) → AreChunks new most' spares' most_spare' (count - 1) room
-  sound_less chunks new most spares most_spare count room most' spares' most_spare' sound some dense total m n less = record {
+  pub sound_less : (chunks new : List (List T)) (most count room most' : ℕ) → AreChunks chunks most count room → 0 < length new → IsDense new → most' ≡ most → length (chunk_items new) + 1 ≡ length (chunk_items chunks) → AreChunks new most' (count - 1) room
+  sound_less chunks new most count room most' sound some dense same less = record {
     some = some;
     dense = dense;
-    total = omega (arith, total, sound.total);
-    capacity = omega (arith, total, m, sound.capacity);
-    spare_capacity = omega (arith, total, n, sound.spare_capacity);
+    total = omega (arith, same, sound.total);
     len = omega (arith, less, sound.len);
     within = omega (arith, less, sound.within);
   }
@@ -125,8 +126,8 @@ module _ {T : Type 0} where
       ∙ ap (λ xs. insert xs (length (chunk_items (take place.chunk chunks)) + place.offset) x) saw.items
       ∙ ap (λ n. insert v.items n x) (sym q.position_is)
 
-  pub insert_sound : (chunks new : List (List T)) (v : Chunked T) (place opened : Place) (chunk chunk' : List T) (x : T) (most spares most_spare count room most' spares' most_spare' : ℕ) → AreChunks chunks most spares most_spare count room → IsSeen chunks v → IsPlace v.sizes place → length v.items < room → IsOpenedAt chunks new place.chunk place.offset opened.chunk opened.offset → chunk ≡ get_or new opened.chunk chunk → chunk' ≡ insert chunk opened.offset x → length new + spares' ≡ length chunks + spares → most ≤ most' → most_spare ≤ most_spare' → AreChunks (set new opened.chunk chunk') most' spares' most_spare' (count + 1) room
-  insert_sound chunks new v place opened chunk chunk' x most spares most_spare count room most' spares' most_spare' sound saw at less h read is total more more_spare =
+  pub insert_sound : (chunks new : List (List T)) (v : Chunked T) (place opened : Place) (chunk chunk' : List T) (x : T) (most count room most' : ℕ) → AreChunks chunks most count room → IsSeen chunks v → IsPlace v.sizes place → length v.items < room → IsOpenedAt chunks new place.chunk place.offset opened.chunk opened.offset → chunk ≡ get_or new opened.chunk chunk → chunk' ≡ insert chunk opened.offset x → most' ≡ most → AreChunks (set new opened.chunk chunk') most' (count + 1) room
+  insert_sound chunks new v place opened chunk chunk' x most count room most' sound saw at less h read is same =
       let q = place_in chunks v.sizes place saw.sizes at in
       let e : chunk' ≡ insert (chunk_at new opened.chunk) opened.offset x = is ∙ ap (λ p. insert p opened.offset x) (chunk_read new opened.chunk chunk read h.chunk_in) in
       let i = ap length saw.items in
@@ -135,5 +136,5 @@ module _ {T : Type 0} where
       let after : List T = chunk_items (drop (place.chunk + 1) chunks) in
       let within : length (chunk_items (take place.chunk chunks)) + place.offset ≤ length (chunk_items chunks) = omega (arith, n, q.offset_in, length-append (chunk_items (take place.chunk chunks)) (p ++ after), length-append p after) in
       let few : length (chunk_items chunks) < room = omega (arith, i, less) in
-      subst (λ p. AreChunks (set new opened.chunk p) most' spares' most_spare' (count + 1) room) (sym e)
-      (sound_inserted chunks new most spares most_spare count room most' spares' most_spare' place.chunk place.offset opened.chunk opened.offset x sound few h total more more_spare within)
+      subst (λ p. AreChunks (set new opened.chunk p) most' (count + 1) room) (sym e)
+      (sound_inserted chunks new most count room most' place.chunk place.offset opened.chunk opened.offset x sound few h same within)

@@ -1,15 +1,14 @@
 -- Positions and places.
-use Rattle.std.proofs.Common.{◌≡◌, ℕ, zero, suc, refl, ◌+◌, ◌-◌, ◌<◌, ◌≤◌, List, [], ◌∷◌, ◌++◌, length, get_or, set, take, drop, sym, ap, subst, ◌∙◌, arith, inl, inr}
+use Rattle.std.proofs.Common.{◌≡◌, ℕ, zero, suc, ◌+◌, ◌-◌, ◌<◌, ◌≤◌, List, [], ◌∷◌, ◌++◌, length, get_or, set, take, drop, sym, ap, subst, ◌∙◌, arith, inl, inr}
 use Rattle.std.specs.Prelude.{Bool, true}
 use Rattle.std.proofs.lemmas.Bool.{cases_lt}
-use Rattle.std.proofs.lemmas.List.{length-append, length-set, length-take-le, length-drop, append-nil, take_more, take_all, take-append-le, take-append-drop, drop_more, get_or-take, get_or_default, set_at, get_or-drop}
+use Rattle.std.proofs.lemmas.List.{length-append, length-set, length-take-le, length-drop, append-nil, take_more, take_all, take-append-le, take-append-drop, get_or-take, get_or_default, set_at, get_or-drop}
 use Rattle.std.proofs.lemmas.List.Filters.{FiltersInPlace, FiltersInPlace-more_set}
-use Rattle.std.proofs.Math.ListN.{get_or-append}
-use Rattle.std.proofs.Math.Seq.{take-append-add, drop-append-add, drop-append_seam}
+use Rattle.std.proofs.Math.Seq.{take-append-add, drop-append-add}
 use Rattle.chunk_list.specs.Chunked.{Chunked, position_of, IsPlace, HasItem, IsPlaceAt}
-use Rattle.chunk_list.specs.Chunks.{chunk_items, chunk_at, IsDense, AreChunks, HasLeft, IsRestFrom}
+use Rattle.chunk_list.specs.Chunks.{chunk_items, chunk_at, IsDense, AreChunks}
 use Rattle.chunk_list.specs.declared.place.Place.{Place}
-use Rattle.chunk_list.proofs.Chunks.{place_in, items_append, items_split, sizes_length, sizes_at, sizes_start, dense_front, dense_join, dense_rest, chunk_read}
+use Rattle.chunk_list.proofs.Chunks.{place_in, items_append, items_split, sizes_length, sizes_at, sizes_start, dense_front, dense_join}
 use Rattle.chunk_list.proofs.Lists.{IsSeen}
 
 -- a slice from a place on is the rest of the list
@@ -105,8 +104,8 @@ module _ {T : Type 0} where
       ∙ ap (λ xs. take (length (chunk_items (take place.chunk chunks)) + place.offset) xs) saw.items
       ∙ ap (λ n. take n v.items) (sym q.position_is)
 
-  pub cut_sound : (chunks new : List (List T)) (v : Chunked T) (place : Place) (chunk chunk' : List T) (most spares most_spare count room most' spares' most_spare' left : ℕ) → AreChunks chunks most spares most_spare count room → IsSeen chunks v → IsPlace v.sizes place → new ≡ take (place.chunk + 1) chunks → chunk ≡ get_or new place.chunk chunk → chunk' ≡ take place.offset chunk → left ≡ position_of v.sizes place → length new + spares' ≡ length chunks + spares → most ≤ most' → most_spare ≤ most_spare' → AreChunks (set new place.chunk chunk') most' spares' most_spare' left room
-  cut_sound chunks new v place chunk chunk' most spares most_spare count room most' spares' most_spare' left sound saw at cut read is left_is total more more_spare =
+  pub cut_sound : (chunks new : List (List T)) (v : Chunked T) (place : Place) (chunk chunk' : List T) (most count room most' left : ℕ) → AreChunks chunks most count room → IsSeen chunks v → IsPlace v.sizes place → new ≡ take (place.chunk + 1) chunks → chunk ≡ get_or new place.chunk chunk → chunk' ≡ take place.offset chunk → left ≡ position_of v.sizes place → most' ≡ most → AreChunks (set new place.chunk chunk') most' left room
+  cut_sound chunks new v place chunk chunk' most count room most' left sound saw at cut read is left_is same =
       let q = place_in chunks v.sizes place saw.sizes at in
       let n = ap length (cut_items chunks new v place chunk chunk' saw at cut read is) in
       let i = ap length saw.items in
@@ -119,117 +118,40 @@ module _ {T : Type 0} where
       record {
         some = omega (arith, k, l);
         dense = subst IsDense (sym chunks_are) (dense_join (take place.chunk chunks) chunk' [] (dense_front chunks place.chunk q.chunk_in sound.dense) ((λ h. absurd (omega (arith, h))), tt));
-        total = omega (arith, k, total, sound.total);
-        capacity = omega (arith, k, total, more, sound.capacity);
-        spare_capacity = omega (arith, k, total, more_spare, sound.spare_capacity);
+        total = omega (arith, same, sound.total);
         len = omega (arith, n, m, left_is);
         within = omega (arith, n, m, i, short, sound.within);
       }
 
   -- ---- one item after another
 
-  pub walk_step : (items : List T) (at at' left : ℕ) (x : T) → 0 < left → at + left ≤ length items → x ≡ get_or items at x → at' ≡ at + 1 → take left (drop at items) ≡ x ∷ take (left - 1) (drop at' items)
-  walk_step items at at' left x some within is next =
-      let one : left ≡ suc (left - 1) = omega arith in
-      ap (λ n. take n (drop at items)) one
-      ∙ ap (take (suc (left - 1))) (drop_more items at x (omega (arith, some)))
-      ∙ ap (λ y. y ∷ take (left - 1) (drop (at + 1) items)) (sym is)
-      ∙ ap (λ n. x ∷ take (left - 1) (drop n items)) (sym next)
-
   -- the items of the first chunks, and then those of the others
   pub rest_items : (chunks : List (List T)) (i : ℕ) → chunk_items chunks ≡ chunk_items (take i chunks) ++ chunk_items (drop i chunks)
   rest_items chunks i = ap chunk_items (sym (take-append-drop i chunks)) ∙ items_append (take i chunks) (drop i chunks)
 
   -- a walk begins at a place
-  pub rest_from : (chunks : List (List T)) (v : Chunked T) (place : Place) → IsSeen chunks v → IsDense chunks → IsPlace v.sizes place → IsRestFrom v place (drop place.chunk chunks)
-  rest_from chunks v place saw dense is =
+  pub rest_from : (chunks : List (List T)) (v : Chunked T) (place : Place) → IsSeen chunks v → IsPlace v.sizes place → drop place.offset (chunk_items (drop place.chunk chunks)) ≡ drop (position_of v.sizes place) v.items
+  rest_from chunks v place saw is =
       let i = place.chunk in
       let at = place_in chunks v.sizes place saw.sizes is in
       let a : List T = chunk_items (take i chunks) in
       let b : List T = chunk_items (drop i chunks) in
-      let first : chunk_at (drop i chunks) 0 ≡ chunk_at chunks i = get_or-drop i chunks 0 [] ∙ ap (λ n. get_or chunks n []) (omega arith) in
-      record {
-        dense = dense_rest chunks i dense;
-        within = omega (arith, at.offset_in, ap length first);
-        items = sym (drop-append-add a b place.offset)
-            ∙ ap (drop (length a + place.offset)) (sym (rest_items chunks i) ∙ saw.items)
-            ∙ ap (λ n. drop n v.items) (sym at.position_is);
-        enough = omega (arith, ap length (rest_items chunks i), length-append a b, ap length saw.items, at.position_is);
-      }
+      sym (drop-append-add a b place.offset)
+      ∙ ap (drop (length a + place.offset)) (sym (rest_items chunks i) ∙ saw.items)
+      ∙ ap (λ n. drop n v.items) (sym at.position_is)
 
-  -- an item of the chunk at hand
-  pub item_left : (chunks : List (List T)) (offset left : ℕ) (x : T) → HasLeft chunks offset left → 0 < left → offset < length (chunk_at chunks 0) → x ≡ get_or (chunk_at chunks 0) offset x → (take left (drop offset (chunk_items chunks)) ≡ x ∷ take (left - 1) (drop (offset + 1) (chunk_items chunks))) × HasLeft chunks (offset + 1) (left - 1)
-  item_left [] offset left x has some less is = absurd (omega (arith, less))
-  item_left (p ∷ ps) offset left x has some less is = (
-    walk_step (chunk_items (p ∷ ps)) offset (offset + 1) left x some (has.enough some) (is ∙ sym (get_or-append p (chunk_items ps) x offset less)) refl,
-    record {
-      dense = has.dense;
-      within = λ _. omega (arith, less);
-      enough = λ more. omega (arith, more, has.enough some);
-    },
-  )
+  pub rest_length : (chunks : List (List T)) (v : Chunked T) (place : Place) → IsSeen chunks v → IsPlace v.sizes place → length (chunk_items (drop place.chunk chunks)) + position_of v.sizes place ≡ length v.items + place.offset
+  rest_length chunks v place saw is =
+      let at = place_in chunks v.sizes place saw.sizes is in
+      let a : List T = chunk_items (take place.chunk chunks) in
+      let b : List T = chunk_items (drop place.chunk chunks) in
+      omega (arith, ap length (rest_items chunks place.chunk), length-append a b, ap length saw.items, at.position_is)
 
-  -- the next chunk comes to hand, and has an item
-  pub next_left : (chunks : List (List T)) (offset left : ℕ) → HasLeft chunks offset left → 0 < left → offset ≡ length (chunk_at chunks 0) → (drop offset (chunk_items chunks) ≡ chunk_items (drop 1 chunks)) × (HasLeft (drop 1 chunks) 0 left × (0 < length (chunk_at (drop 1 chunks) 0)))
-  next_left [] offset left has some is = absurd (omega (arith, some, has.enough some))
-  next_left (p ∷ []) offset left has some is = absurd (omega (arith, some, has.enough some, is, length-append p []))
-  next_left (p ∷ q ∷ ps) offset left has some is =
-      let full : length p + left ≤ length p + length (chunk_items (q ∷ ps)) = omega (arith, has.enough some, is, length-append p (chunk_items (q ∷ ps))) in (
-        ap (λ n. drop n (p ++ chunk_items (q ∷ ps))) is ∙ drop-append_seam p (chunk_items (q ∷ ps)),
-        (
-          record { dense = has.dense.1; within = λ _. omega arith; enough = λ _. omega (arith, full) },
-          first_some q ps left has.dense.1 some (omega (arith, full)),
-        ),
-      )
-    where
-      first_some : (q : List T) (ps : List (List T)) (left : ℕ) → IsDense (q ∷ ps) → 0 < left → left ≤ length (chunk_items (q ∷ ps)) → 0 < length q
-      first_some q [] left dense some within = omega (arith, some, within, length-append q [])
-      first_some q (r ∷ ps) left dense some within = omega (arith, dense.0 (omega arith))
-
-  -- the chunk at hand has the next item of a walk that had these left
-  pub record IsAtHand (chunks : List (List T)) (offset left : ℕ) (chunks' : List (List T)) (offset' left' : ℕ) : Type 0 where
-    pub same : take left (drop offset (chunk_items chunks)) ≡ take left' (drop offset' (chunk_items chunks'))
-    pub has : HasLeft chunks' offset' left'
-    pub some : 0 < left'
-    pub less : offset' < length (chunk_at chunks' 0)
-
-  pub some_left : (chunks : List (List T)) (offset left : ℕ) → HasLeft chunks offset left → 0 < left → 0 < length chunks
-  some_left [] offset left has some = absurd (omega (arith, some, has.enough some))
-  some_left (p ∷ ps) offset left has some = omega arith
-
-  some_at : (chunks : List (List T)) (offset : ℕ) → offset < length (chunk_at chunks 0) → 0 < length chunks
-  some_at [] offset less = absurd (omega (arith, less))
-  some_at (p ∷ ps) offset less = omega arith
-
-  pub hand_next : (chunks chunks' : List (List T)) (offset left offset' left' : ℕ) → HasLeft chunks offset left → 0 < left → offset ≡ length (chunk_at chunks 0) → chunks' ≡ drop 1 chunks → offset' ≡ 0 → left' ≡ left → IsAtHand chunks offset left chunks' offset' left'
-  hand_next chunks chunks' offset left offset' left' has some full is none kept =
-      let next = next_left chunks offset left has some full in
-      subst (λ l. IsAtHand chunks offset left chunks' offset' l) (sym kept)
-      (subst (λ o. IsAtHand chunks offset left chunks' o left) (sym none)
-      (subst (λ xs. IsAtHand chunks offset left xs 0 left) (sym is) (record {
-        same = ap (take left) next.0;
-        has = next.1.0;
-        some = some;
-        less = next.1.1;
-      })))
-
-  pub hand_same : (chunks chunks' : List (List T)) (offset left offset' left' : ℕ) → HasLeft chunks offset left → 0 < left → (offset ≡ length (chunk_at chunks 0) → ⊥) → chunks' ≡ chunks → offset' ≡ offset → left' ≡ left → IsAtHand chunks offset left chunks' offset' left'
-  hand_same chunks chunks' offset left offset' left' has some short is at kept =
-      subst (λ l. IsAtHand chunks offset left chunks' offset' l) (sym kept)
-      (subst (λ o. IsAtHand chunks offset left chunks' o left) (sym at)
-      (subst (λ xs. IsAtHand chunks offset left xs offset left) (sym is) (record {
-        same = refl;
-        has = has;
-        some = some;
-        less = elim (cases_lt offset (length (chunk_at chunks 0))) [ inl less ↦ less | inr more ↦ absurd (short (omega (arith, more, has.within some))) ];
-      })))
-
-  -- the walk goes one item on
-  pub gone_on : (chunks chunks' : List (List T)) (offset left offset' left' : ℕ) (p : List T) (x : T) → IsAtHand chunks offset left chunks' offset' left' → p ≡ get_or chunks' 0 p → x ≡ get_or (get_or chunks' 0 p) offset' x → (take left (drop offset (chunk_items chunks)) ≡ x ∷ take (left' - 1) (drop (offset' + 1) (chunk_items chunks'))) × HasLeft chunks' (offset' + 1) (left' - 1)
-  gone_on chunks chunks' offset left offset' left' p x hand read is =
-      let here : p ≡ chunk_at chunks' 0 = chunk_read chunks' 0 p read (some_at chunks' offset' hand.less) in
-      let on = item_left chunks' offset' left' x hand.has hand.some hand.less (is ∙ ap (λ q. get_or q offset' x) (sym read ∙ here)) in
-      (hand.same ∙ on.0, on.1)
+  -- an item is left in dense chunks, so the first one has an item
+  pub first_some : (chunks : List (List T)) (left : ℕ) → IsDense chunks → 0 < left → left ≤ length (chunk_items chunks) → (0 < length chunks) × (0 < length (chunk_at chunks 0))
+  first_some [] left dense some within = absurd (omega (arith, some, within))
+  first_some (p ∷ []) left dense some within = (omega arith, omega (arith, some, within, length-append p []))
+  first_some (p ∷ q ∷ ps) left dense some within = (omega arith, omega (arith, dense.0 (omega arith)))
 
   pub kept_read : (test : T → Bool) (xs ys : List T) (k i : ℕ) (d : T) → FiltersInPlace test xs ys k i → get_or ys i d ≡ get_or xs i d
   kept_read test xs ys k i d kept =

@@ -1,2 +1,3 @@
 pub mod Chunked
 pub mod Chunks
+pub mod Shelves

@@ -1,14 +1,15 @@
 //! A list in chunks.
 ghost use Rattle.std.specs.Prelude.{◌≡◌, ℕ, ◌+◌, ◌-◌, ◌<◌, ◌≤◌, ◌++◌, ◌∷◌, [], List, length, slice_index_or};
-ghost use Rattle.std.specs.Prelude.{slice_set, take, filter, max, IfOk, IsOk, IsTrue, OnOk, OnErr, ◌↔◌};
+ghost use Rattle.std.specs.Prelude.{slice_set, take, drop, filter, max, IfOk, IsOk, IsTrue, OnOk, OnErr, ◌↔◌};
 ghost use Rattle.std.specs.List.{All, insert, remove};
-ghost use Rattle.chunk_list.specs.Chunks.{IsRestFrom};
-ghost use Rattle.chunk_list.specs.Chunked.{TurnsAt, HasItem, IsPlace, IsPlaceAt, position_of};
+ghost use Rattle.chunk_list.specs.Chunked.{TurnsAt, HasItem, HasItems, IsPlace, IsPlaceAt, position_of};
 
-use crate::chunk::{Chunk, LEAST};
-use crate::moves::{give_back, make_spares, open, refill};
+use crate::moves::{give_back, open, refill};
 use crate::place::Place;
 use crate::search::{Test, first_chunk, first_item};
+use crate::shelf::Shelf;
+use crate::span::LEAST;
+use crate::walk::Walk;
 use std::alloc::{AllocError, Global};
 use std::marker::Model;
 
@@ -16,16 +17,14 @@ use std::marker::Model;
 #[derive(Drop)]
 pub struct ChunkList<T> {
     /// The chunks that have the items, in order. There is one at least, and the last may be empty.
-    chunks: Vec<Chunk<T>>,
-    /// The chunks that are in no use, whatever stands in them.
-    spare: Vec<Chunk<T>>,
+    shelf: Shelf<T>,
     /// How many items there are.
     count: usize,
     room: usize,
 }
 
 impl<T> Model for ChunkList<T> {
-    ghost use Rattle.std.specs.Prelude.{length, map, vec_capacity};
+    ghost use Rattle.std.specs.Prelude.{length, map};
     ghost use Rattle.chunk_list.specs.Chunked.{Chunked, chunked_code};
     ghost use Rattle.chunk_list.specs.Chunks.{AreChunks, chunk_items};
 
@@ -34,14 +33,12 @@ impl<T> Model for ChunkList<T> {
     ghost coded = { chunked_code T.code };
 
     ghost view = { λ a. record {
-      items = chunk_items a.chunks.items;
-      sizes = map (λ c. length c) a.chunks.items;
+      items = chunk_items a.shelf.chunks;
+      sizes = map (λ c. length c) a.shelf.chunks;
       room = a.room;
     } };
 
-    ghost invariant = { λ a.
-        AreChunks a.chunks.items (vec_capacity a.chunks) (length a.spare.items)
-        (vec_capacity a.spare) a.count a.room };
+    ghost invariant = { λ a. AreChunks a.shelf.chunks a.shelf.most a.count a.room };
 }
 
 impl<T: Copy> ChunkList<T> {
@@ -50,30 +47,21 @@ impl<T: Copy> ChunkList<T> {
         ensures items { IfOk result (λ list. list.items ≡ []) }
         ensures room { IfOk result (λ list. list.room ≡ room) }
     {
-        let most = room / LEAST + 2;
-        let mut chunks = Vec::with_capacity(alloc, most)?;
-        let mut spare = Vec::with_capacity(alloc, most)?;
-        chunks.push_reserved(Chunk::new(alloc)?);
-        'making: for _made in 0..room / LEAST + 1 {
-            spare.push_reserved(Chunk::new(alloc)?);
-        }
         Ok(ChunkList {
-            chunks,
-            spare,
+            shelf: Shelf::new(alloc, room / LEAST + 2)?,
             count: 0,
             room,
         })
     }
 
-    /// Makes room for so many items in all. Where it finds no memory, the chunks that it could make stay
-    /// spare, and nothing else changes. The room is never less than before, and all places stay.
+    /// Makes room for so many items in all. Where it finds no memory, nothing changes. The room is never less than before, and all places stay.
     pub fn grow_room(&mut self, room: usize) -> Result<(), AllocError>
         ensures ok { OnOk result (self.new ≡ record self.old { room = max self.old.room room }) }
         ensures err { OnErr result (self.new ≡ self.old) }
         ensures sure { room ≤ self.old.room → IsOk result }
     {
         if room > self.room {
-            make_spares(&mut self.chunks, &mut self.spare, room / LEAST + 2)?;
+            self.shelf.grow(room / LEAST + 2)?;
             self.room = room;
         }
         Ok(())
@@ -110,8 +98,8 @@ impl<T: Copy> ChunkList<T> {
     pub fn end(&self) -> Place
         ensures { IsPlaceAt self.now result (length self.now.items) }
     {
-        let chunk = self.chunks.len() - 1;
-        let offset = self.chunks[chunk].len();
+        let chunk = self.shelf.count() - 1;
+        let offset = self.shelf.len(chunk);
         Place { chunk, offset }
     }
 
@@ -120,8 +108,8 @@ impl<T: Copy> ChunkList<T> {
         requires { HasItem self.now.sizes place }
         ensures { IsPlaceAt self.now result (position_of self.now.sizes place + 1) }
     {
-        let len = self.chunks[place.chunk].len();
-        if place.offset + 1 == len && place.chunk + 1 < self.chunks.len() {
+        let len = self.shelf.len(place.chunk);
+        if place.offset + 1 == len && place.chunk + 1 < self.shelf.count() {
             return Place {
                 chunk: place.chunk + 1,
                 offset: 0,
@@ -138,10 +126,10 @@ impl<T: Copy> ChunkList<T> {
         requires { position ≤ length self.now.items }
         ensures { IsPlaceAt self.now result position }
     {
-        let last = self.chunks.len() - 1;
+        let last = self.shelf.count() - 1;
         let mut left = position;
         'passing: for chunk in 0..last {
-            let len = self.chunks[chunk].len();
+            let len = self.shelf.len(chunk);
             if left < len {
                 return Place {
                     chunk,
@@ -178,7 +166,7 @@ impl<T: Copy> ChunkList<T> {
         }
         let mut passed = 0;
         'adding: for chunk in from.chunk..to.chunk {
-            passed += self.chunks[chunk].len();
+            passed += self.shelf.len(chunk);
         }
         (passed + to.offset).saturating_sub(from.offset)
     }
@@ -189,8 +177,8 @@ impl<T: Copy> ChunkList<T> {
         ensures place { IsPlace self.now.sizes result }
         ensures turn { (k : ℕ) → TurnsAt (S.test test.now) self.now.items k → IsPlaceAt self.now result k }
     {
-        let chunk = first_chunk(&self.chunks, test);
-        let offset = first_item(self.chunks[chunk].items(), test);
+        let chunk = first_chunk(&self.shelf, test);
+        let offset = first_item(self.shelf.items(chunk), test);
         Place { chunk, offset }
     }
 
@@ -199,15 +187,15 @@ impl<T: Copy> ChunkList<T> {
         ensures item { IsTrue result ↔ HasItem self.now.sizes place }
         ensures within { IsTrue result → position_of self.now.sizes place < length self.now.items }
     {
-        place.chunk < self.chunks.len() && place.offset < self.chunks[place.chunk].len()
+        place.chunk < self.shelf.count() && place.offset < self.shelf.len(place.chunk)
     }
 
-    /// The chunk of a place, and those after it.
-    pub(crate) fn chunks_from(&self, place: Place) -> &[Chunk<T>]
-        requires { IsPlace self.now.sizes place }
-        ensures { IsRestFrom self.now place result.now }
+    /// So many items from a place on, in order.
+    pub fn walk(&self, from: Place, count: usize) -> Walk<'_, T>
+        requires { HasItems self.now from count }
+        ensures { result ≡ take count (drop (position_of self.now.sizes from) self.now.items) }
     {
-        &self.chunks[place.chunk..]
+        self.shelf.walk(from.chunk, from.offset, count)
     }
 
     /// The item at a place.
@@ -215,7 +203,7 @@ impl<T: Copy> ChunkList<T> {
         requires { HasItem self.now.sizes place }
         ensures { result ≡ slice_index_or self.now.items (position_of self.now.sizes place) result }
     {
-        self.chunks[place.chunk].get(place.offset)
+        self.shelf.get(place.chunk, place.offset)
     }
 
     /// Writes an item over the one at a place. All places stay.
@@ -225,8 +213,7 @@ impl<T: Copy> ChunkList<T> {
         ensures sizes { self.new.sizes ≡ self.old.sizes }
         ensures room { self.new.room ≡ self.old.room }
     {
-        let chunk = &mut self.chunks[place.chunk];
-        chunk.set(place.offset, item);
+        self.shelf.set(place.chunk, place.offset, item);
     }
 
     /// Puts an item at a place, before what stood there.
@@ -236,9 +223,8 @@ impl<T: Copy> ChunkList<T> {
         ensures items { self.new.items ≡ insert self.old.items (position_of self.old.sizes place) item }
         ensures room { self.new.room ≡ self.old.room }
     {
-        let opened = open(&mut self.chunks, &mut self.spare, place);
-        let chunk = &mut self.chunks[opened.chunk];
-        chunk.insert(opened.offset, item);
+        let opened = open(&mut self.shelf, place);
+        self.shelf.insert(opened.chunk, opened.offset, item);
         self.count += 1;
     }
 
@@ -259,12 +245,11 @@ impl<T: Copy> ChunkList<T> {
         ensures items { self.new.items ≡ remove self.old.items (position_of self.old.sizes place) }
         ensures room { self.new.room ≡ self.old.room }
     {
-        let chunk = &mut self.chunks[place.chunk];
-        let item = chunk.remove(place.offset);
-        let left = chunk.len();
+        let item = self.shelf.remove(place.chunk, place.offset);
+        let left = self.shelf.len(place.chunk);
         self.count -= 1;
         if left < LEAST {
-            refill(&mut self.chunks, &mut self.spare, place.chunk);
+            refill(&mut self.shelf, place.chunk);
         }
         item
     }
@@ -276,9 +261,8 @@ impl<T: Copy> ChunkList<T> {
         ensures room { self.new.room ≡ self.old.room }
     {
         let left = self.position(place);
-        give_back(&mut self.chunks, &mut self.spare, place.chunk + 1);
-        let chunk = &mut self.chunks[place.chunk];
-        chunk.truncate(place.offset);
+        give_back(&mut self.shelf, place.chunk);
+        self.shelf.truncate(place.chunk, place.offset);
         self.count = left;
     }
 

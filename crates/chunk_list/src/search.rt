@@ -4,7 +4,7 @@ ghost use Rattle.std.specs.List.{All};
 ghost use Rattle.chunk_list.specs.Chunked.{TurnsAt};
 ghost use Rattle.chunk_list.specs.Chunks.{IsDense, IsTurnIn, chunk_items};
 
-use crate::chunk::Chunk;
+use crate::shelf::Shelf;
 
 /// A test of items, as whether an item is below something that is looked for.
 pub trait Test<T> {
@@ -40,17 +40,17 @@ pub(crate) fn first_item<T: Copy, S: Test<T>>(items: &[T], test: &S) -> usize
 }
 
 /// The first chunk at whose last item the test doesn't hold, or the last chunk.
-pub(crate) fn first_chunk<T: Copy, S: Test<T>>(chunks: &[Chunk<T>], test: &S) -> usize
-    requires some { 0 < length chunks.now }
-    requires dense { IsDense chunks.now }
-    requires can { All (S.can test.now) (chunk_items chunks.now) }
-    ensures { IsTurnIn (S.test test.now) chunks.now result }
+pub(crate) fn first_chunk<T: Copy, S: Test<T>>(shelf: &Shelf<T>, test: &S) -> usize
+    requires some { 0 < length shelf.now.chunks }
+    requires dense { IsDense shelf.now.chunks }
+    requires can { All (S.can test.now) (chunk_items shelf.now.chunks) }
+    ensures { IsTurnIn (S.test test.now) shelf.now.chunks result }
 {
     let mut low = 0;
-    let mut high = chunks.len() - 1;
+    let mut high = shelf.count() - 1;
     while low < high {
         let middle = low + (high - low) / 2;
-        let last = chunks[middle].last();
+        let last = shelf.last(middle);
         if test.holds(last) {
             low = middle + 1;
         } else {

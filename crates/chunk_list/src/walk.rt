@@ -1,32 +1,39 @@
 //! Items one after another.
-ghost use Rattle.std.specs.Prelude.{◌≡◌, length, nat_eq, take, drop};
-ghost use Rattle.chunk_list.specs.Chunked.{HasItems, position_of};
+ghost use Rattle.std.specs.Prelude.{◌≡◌, ◌++◌, length, nat_eq, take};
+ghost use Rattle.chunk_list.specs.Chunks.{chunk_items};
+ghost use Rattle.chunk_list.specs.Shelves.{HasLeft, chunks_in};
 
-use crate::chunk::Chunk;
-use crate::list::ChunkList;
-use crate::place::Place;
+use crate::span::Span;
 use std::marker::Model;
 
 /// Some of a list's items in order. Contracts see it as the list of those that are left.
 #[derive(Drop)]
 pub struct Walk<'a, T> {
-    /// The chunk at hand, and those after it.
-    chunks: &'a [Chunk<T>],
-    /// How many items of the chunk at hand are behind.
-    offset: usize,
+    /// All places of the list's chunks.
+    places: &'a [T],
+    /// The items that are left of the chunk at hand.
+    at_hand: &'a [T],
+    /// The chunks after it.
+    spans: &'a [Span],
     left: usize,
 }
 
-impl<T: Copy> ChunkList<T> {
-    /// So many items from a place on, in order.
-    pub fn walk(&self, from: Place, count: usize) -> Walk<'_, T>
-        requires { HasItems self.now from count }
-        ensures { result ≡ take count (drop (position_of self.now.sizes from) self.now.items) }
+impl<'a, T: Copy> Walk<'a, T> {
+    /// So many items: those at hand, and then those of chunks.
+    pub(crate) fn over(
+        places: &'a [T],
+        at_hand: &'a [T],
+        spans: &'a [Span],
+        left: usize,
+    ) -> Walk<'a, T>
+        requires { HasLeft places.now at_hand.now spans.now left }
+        ensures { result ≡ take left (at_hand.now ++ chunk_items (chunks_in places.now spans.now)) }
     {
         Walk {
-            chunks: self.chunks_from(from),
-            offset: from.offset,
-            left: count,
+            places,
+            at_hand,
+            spans,
+            left,
         }
     }
 }
@@ -48,14 +55,15 @@ impl<'a, T> Walk<'a, T> {
 }
 
 impl<'a, T> Model for Walk<'a, T> {
-    ghost use Rattle.std.specs.Prelude.{List, take, drop};
-    ghost use Rattle.chunk_list.specs.Chunks.{HasLeft, chunk_items};
+    ghost use Rattle.std.specs.Prelude.{◌++◌, List, take};
+    ghost use Rattle.chunk_list.specs.Chunks.{chunk_items};
+    ghost use Rattle.chunk_list.specs.Shelves.{HasLeft, chunks_in};
 
     ghost Value = { List T };
 
-    ghost view = { λ w. take w.left (drop w.offset (chunk_items w.chunks.now)) };
+    ghost view = { λ w. take w.left (w.at_hand.now ++ chunk_items (chunks_in w.places.now w.spans.now)) };
 
-    ghost invariant = { λ w. HasLeft w.chunks.now w.offset w.left };
+    ghost invariant = { λ w. HasLeft w.places.now w.at_hand.now w.spans.now w.left };
 }
 
 impl<'a, T: Copy> Iterator for Walk<'a, T> {
@@ -71,12 +79,13 @@ impl<'a, T: Copy> Iterator for Walk<'a, T> {
         if self.left == 0 {
             return None;
         }
-        if self.offset == self.chunks[0].len() {
-            self.chunks = &self.chunks[1..];
-            self.offset = 0;
+        if self.at_hand.is_empty() {
+            let span = self.spans[0];
+            self.at_hand = &self.places[span.first..span.first + span.len];
+            self.spans = &self.spans[1..];
         }
-        let item = self.chunks[0].get(self.offset);
-        self.offset += 1;
+        let item = self.at_hand[0];
+        self.at_hand = &self.at_hand[1..];
         self.left -= 1;
         Some(item)
     }

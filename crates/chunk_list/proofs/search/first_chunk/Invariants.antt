@@ -7,9 +7,9 @@ abbrev pub invariant-loop-low : goal.invariant-loop-low
 invariant-loop-low g l =
     record {
       ordered : l.low ≤ l.high;
-      within : l.high < length l.chunks;
-      from : (k : ℕ) → TurnsAt (g.S.Test.test l.test) (chunk_items l.chunks) k → length (chunk_items (take l.low l.chunks)) ≤ k;
-      to : (k : ℕ) → TurnsAt (g.S.Test.test l.test) (chunk_items l.chunks) k → l.high + 1 < length l.chunks → k < length (chunk_items (take (l.high + 1) l.chunks));
+      within : l.high < length l.shelf.chunks;
+      from : (k : ℕ) → TurnsAt (g.S.Test.test l.test) (chunk_items l.shelf.chunks) k → length (chunk_items (take l.low l.shelf.chunks)) ≤ k;
+      to : (k : ℕ) → TurnsAt (g.S.Test.test l.test) (chunk_items l.shelf.chunks) k → l.high + 1 < length l.shelf.chunks → k < length (chunk_items (take (l.high + 1) l.shelf.chunks));
     }
 
 abbrev pub decreases-loop-low : goal.decreases-loop-low

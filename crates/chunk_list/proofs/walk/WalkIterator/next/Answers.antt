@@ -1,31 +1,41 @@
-use Rattle.std.proofs.Common.{◌<◌, ◌∙◌, length, sym, ap, arith}
-use Rattle.chunk_list.proofs.Chunks.{chunk_read}
-use Rattle.chunk_list.proofs.Walks.{IsAtHand, gone_on, hand_next, hand_same, rest_whole, some_left}
+use Rattle.std.proofs.Common.{◌≡◌, ◌<◌, ◌∙◌, ℕ, Bool, true, false, length, take, drop, ◌-◌, ◌++◌, ◌∷◌, sym, ap, arith}
+use Rattle.std.specs.Prelude.{nat_eq}
+use Rattle.std.proofs.lemmas.Bool.Decides.{nat_tests}
+use Rattle.chunk_list.specs.Chunks.{chunk_items}
+use Rattle.chunk_list.specs.Shelves.{chunks_in}
+use Rattle.chunk_list.proofs.Walks.{rest_whole}
+use Rattle.chunk_list.proofs.Steps.{IsAtHand, gone_on, hand_next, hand_same, part_whole}
 use Rattle.chunk_list.proofs.walk.WalkIterator.next.Goals as goal
-use Rattle.chunk_list.proofs.walk.WalkIterator.next.Goals.{then-self-len, else-self-len}
+use Rattle.chunk_list.proofs.walk.WalkIterator.next.Goals.{then-is_empty, else-is_empty}
+
+none_of : (n : ℕ) (b : Bool) → b ≡ nat_eq n 0 → b ≡ true → n ≡ 0
+none_of n b is holds = grind (arith, nat_tests)
+
+some_of : (n : ℕ) (b : Bool) → b ≡ nat_eq n 0 → b ≡ false → 0 < n
+some_of n b is fails = grind (arith, nat_tests)
 
 pub invariant_of-self : goal.invariant_of-self
 invariant_of-self g c =
     let old = c.self.inside in
-    let new = c.if-self-len.self-inside in
+    let new = c.if-is_empty.self-inside in
     let some : 0 < old.left = omega arith in
-    let read = ap length (chunk_read old.chunks.now 0 c.index-self-0.result c.index-self-0.is (some_left old.chunks.now old.offset old.left c.self.invariant some)) in
-    let size = c.len.ensures.len ∙ ap length (sym c.index-self-0.is) ∙ read in
-    let hand : IsAtHand old.chunks.now old.offset old.left new.chunks.now new.offset new.left = elim c.if-self-len.branch [
-      | then-self-len w ↦ hand_next old.chunks.now new.chunks.now old.offset old.left new.offset new.left c.self.invariant some (w.if-self-len.true ∙ size) (ap (λ s. s.chunks.now) w.self-inside-is ∙ rest_whole 1 old.chunks.now) (ap (λ s. s.offset) w.self-inside-is) (ap (λ s. s.left) w.self-inside-is)
-      | else-self-len w ↦ hand_same old.chunks.now new.chunks.now old.offset old.left new.offset new.left c.self.invariant some (λ full. w.if-self-len.false (full ∙ sym size)) (ap (λ s. s.chunks.now) w.self-inside-is) (ap (λ s. s.offset) w.self-inside-is) (ap (λ s. s.left) w.self-inside-is)
+    let hand : IsAtHand old.places.now old.at_hand.now old.spans.now old.left new.places.now new.at_hand.now new.spans.now new.left = elim c.if-is_empty.branch [
+      | then-is_empty w ↦ hand_next old.places.now old.at_hand.now old.spans.now old.left _ new.places.now new.at_hand.now new.spans.now new.left c.self.invariant some (none_of (length old.at_hand.now) c.is_empty.result c.is_empty.ensures w.if-is_empty.true) (ap (λ s. s.places.now) w.self-inside-is) (ap (λ s. s.at_hand.now) w.self-inside-is ∙ part_whole _ _ old.places.now) (ap (λ s. s.spans.now) w.self-inside-is ∙ rest_whole 1 old.spans.now) (ap (λ s. s.left) w.self-inside-is)
+      | else-is_empty w ↦ hand_same old.places.now old.at_hand.now old.spans.now old.left new.places.now new.at_hand.now new.spans.now new.left c.self.invariant (some_of (length old.at_hand.now) c.is_empty.result c.is_empty.ensures w.if-is_empty.false) (ap (λ s. s.places.now) w.self-inside-is) (ap (λ s. s.at_hand.now) w.self-inside-is) (ap (λ s. s.spans.now) w.self-inside-is) (ap (λ s. s.left) w.self-inside-is)
     ] in
-    (gone_on old.chunks.now new.chunks.now old.offset old.left new.offset new.left c.index-self-0-2.result c.get-item.result hand c.index-self-0-2.is c.get-item.ensures).1
+    let on = gone_on old.places.now old.at_hand.now old.spans.now old.left new.places.now new.at_hand.now new.spans.now new.left _ c.index-self-0.result hand some c.index-self-0.is (rest_whole 1 new.at_hand.now) in
+    on.1
 
 pub returns-clause-steps : goal.returns-clause-steps
 returns-clause-steps g c =
     let old = c.self.inside in
-    let new = c.if-self-len.self-inside in
+    let new = c.if-is_empty.self-inside in
     let some : 0 < old.left = omega arith in
-    let read = ap length (chunk_read old.chunks.now 0 c.index-self-0.result c.index-self-0.is (some_left old.chunks.now old.offset old.left c.self.invariant some)) in
-    let size = c.len.ensures.len ∙ ap length (sym c.index-self-0.is) ∙ read in
-    let hand : IsAtHand old.chunks.now old.offset old.left new.chunks.now new.offset new.left = elim c.if-self-len.branch [
-      | then-self-len w ↦ hand_next old.chunks.now new.chunks.now old.offset old.left new.offset new.left c.self.invariant some (w.if-self-len.true ∙ size) (ap (λ s. s.chunks.now) w.self-inside-is ∙ rest_whole 1 old.chunks.now) (ap (λ s. s.offset) w.self-inside-is) (ap (λ s. s.left) w.self-inside-is)
-      | else-self-len w ↦ hand_same old.chunks.now new.chunks.now old.offset old.left new.offset new.left c.self.invariant some (λ full. w.if-self-len.false (full ∙ sym size)) (ap (λ s. s.chunks.now) w.self-inside-is) (ap (λ s. s.offset) w.self-inside-is) (ap (λ s. s.left) w.self-inside-is)
+    let hand : IsAtHand old.places.now old.at_hand.now old.spans.now old.left new.places.now new.at_hand.now new.spans.now new.left = elim c.if-is_empty.branch [
+      | then-is_empty w ↦ hand_next old.places.now old.at_hand.now old.spans.now old.left _ new.places.now new.at_hand.now new.spans.now new.left c.self.invariant some (none_of (length old.at_hand.now) c.is_empty.result c.is_empty.ensures w.if-is_empty.true) (ap (λ s. s.places.now) w.self-inside-is) (ap (λ s. s.at_hand.now) w.self-inside-is ∙ part_whole _ _ old.places.now) (ap (λ s. s.spans.now) w.self-inside-is ∙ rest_whole 1 old.spans.now) (ap (λ s. s.left) w.self-inside-is)
+      | else-is_empty w ↦ hand_same old.places.now old.at_hand.now old.spans.now old.left new.places.now new.at_hand.now new.spans.now new.left c.self.invariant (some_of (length old.at_hand.now) c.is_empty.result c.is_empty.ensures w.if-is_empty.false) (ap (λ s. s.places.now) w.self-inside-is) (ap (λ s. s.at_hand.now) w.self-inside-is) (ap (λ s. s.spans.now) w.self-inside-is) (ap (λ s. s.left) w.self-inside-is)
     ] in
-    sym c.self.view_is ∙ (gone_on old.chunks.now new.chunks.now old.offset old.left new.offset new.left c.index-self-0-2.result c.get-item.result hand c.index-self-0-2.is c.get-item.ensures).0
+    let on = gone_on old.places.now old.at_hand.now old.spans.now old.left new.places.now new.at_hand.now new.spans.now new.left _ c.index-self-0.result hand some c.index-self-0.is (rest_whole 1 new.at_hand.now) in
+    sym c.self.view_is
+    ∙ on.0
+    ∙ ap (λ x. x ∷ take (new.left - 1) (take (length new.at_hand.now - 1) (drop 1 new.at_hand.now) ++ chunk_items (chunks_in new.places.now new.spans.now))) c.index-self-0.is
