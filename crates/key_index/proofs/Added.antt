@@ -6,7 +6,7 @@ use Rattle.std.proofs.lemmas.Bool.{cases_lt, cases_eq, cases_order}
 use Rattle.std.proofs.lemmas.List.Edits.{length-insert, get_or-insert_below, get_or-insert_at, get_or-insert_above}
 use Rattle.etcd_model.specs.Order.{key_cmp}
 use Rattle.key_index.specs.Links.{Cells, Linked, IsChained, IsNewest, NoneAfter, IsPlaced, without, with_link, with_older}
-use Rattle.key_index.specs.Index.{IsIndexOf, IsGapFor, IsAt}
+use Rattle.key_index.specs.Index.{AreHeads, IsGapFor, IsAt}
 use Rattle.key_index.specs.Sought.{entry_key}
 use Rattle.key_index.proofs.Links.{one_linked, less_from_greater, not_less, if_same, if_other, without_some, none_from_gap}
 
@@ -109,7 +109,7 @@ module _ (w m : Cells) (cell : ℕ) (e1 : Linked)
   )
 
   -- the new record takes the place of the one before
-  pub index_replaced : (heads : List ℕ) (i : ℕ) → IsIndexOf w heads → IsAt w heads e1.change.key i → IsIndexOf m (set heads i cell)
+  pub index_replaced : (heads : List ℕ) (i : ℕ) → AreHeads w heads → IsAt w heads e1.change.key i → AreHeads m (set heads i cell)
   index_replaced heads i index at =
       let same_length = length-set heads i cell in
       let k0 = at.of_key.0 in
@@ -163,7 +163,7 @@ module _ (w m : Cells) (cell : ℕ) (e1 : Linked)
       }
 
   -- the new record goes where no record of its key was
-  pub index_inserted : (heads : List ℕ) (i : ℕ) → IsIndexOf w heads → IsGapFor w heads e1.change.key i → IsIndexOf m (insert heads i cell)
+  pub index_inserted : (heads : List ℕ) (i : ℕ) → AreHeads w heads → IsGapFor w heads e1.change.key i → AreHeads m (insert heads i cell)
   index_inserted heads i index gap =
       let longer = length-insert heads i cell gap.in_range in
       let new = insert heads i cell in
@@ -244,7 +244,7 @@ module _ (w m : Cells) (cell : ℕ) (e1 : Linked)
 
 -- what `add` sets: the index and the links with the new record, which has this link
 pub record AreAdded (m : Cells) (heads : List ℕ) : Type 0 where
-  pub index : IsIndexOf m heads
+  pub index : AreHeads m heads
   pub chained : IsChained m
 
 module _ (m : Cells) (cell : ℕ) (placed : IsPlaced m cell) where
@@ -268,7 +268,7 @@ module _ (m : Cells) (cell : ℕ) (placed : IsPlaced m cell) where
   same_key = ap entry_key placed.here.1
 
   -- a head that has the key had it without the new record
-  at_without : (heads : List ℕ) (i : ℕ) → IsIndexOf (without m cell) heads → IsAt m heads (entry_key (m cell)) i → IsAt (without m cell) heads placed.here.0.change.key i
+  at_without : (heads : List ℕ) (i : ℕ) → AreHeads (without m cell) heads → IsAt m heads (entry_key (m cell)) i → IsAt (without m cell) heads placed.here.0.change.key i
   at_without heads i index at =
       let n = index.newest i at.in_range in
       let same : n.0 ≡ at.of_key.0 = one_linked (m (get_or heads i 0)) n.0 at.of_key.0 (without_some m cell _ n.0 n.1).1 at.of_key.1 in
@@ -281,7 +281,7 @@ module _ (m : Cells) (cell : ℕ) (placed : IsPlaced m cell) where
     greater_after = λ j e le lt has. subst (λ (k : List ℕ). key_cmp e.change.key k ≡ Greater) same_key (gap.greater_after j e le lt (without_some m cell _ e has).1);
   }
 
-  pub added_at : (heads : List ℕ) (i h : ℕ) → IsIndexOf (without m cell) heads → IsChained (without m cell) → IsAt m heads (entry_key (m cell)) i → h ≡ get_or heads i 0 → AreAdded (with_link m cell (Some h)) (set heads i cell)
+  pub added_at : (heads : List ℕ) (i h : ℕ) → AreHeads (without m cell) heads → IsChained (without m cell) → IsAt m heads (entry_key (m cell)) i → h ≡ get_or heads i 0 → AreAdded (with_link m cell (Some h)) (set heads i cell)
   added_at heads i h index chained at is =
       let link : Option ℕ = Some h in
       let old = at_without heads i index at in
@@ -297,7 +297,7 @@ module _ (m : Cells) (cell : ℕ) (placed : IsPlaced m cell) where
             (λ eq. let p : link ≡ None = eq in let bad : ⊥ = cc in absurd bad);
       }
 
-  pub added_new : (heads : List ℕ) (i : ℕ) → IsIndexOf (without m cell) heads → IsChained (without m cell) → IsGapFor m heads (entry_key (m cell)) i → AreAdded (with_link m cell None) (insert heads i cell)
+  pub added_new : (heads : List ℕ) (i : ℕ) → AreHeads (without m cell) heads → IsChained (without m cell) → IsGapFor m heads (entry_key (m cell)) i → AreAdded (with_link m cell None) (insert heads i cell)
   added_new heads i index chained gap =
       let link : Option ℕ = None in
       let old = gap_without heads i gap in

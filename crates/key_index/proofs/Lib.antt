@@ -1,5 +1,7 @@
 pub mod Links
 pub mod Added
+pub mod Parting
+pub mod PutOrNot
 pub mod Spans
 pub mod Costs
 pub mod Dropped
@@ -14,3 +16,5 @@ pub mod OrderKept
 pub mod OrderAdded
 pub mod Listing
 pub mod Turned
+pub mod Parted
+pub mod Both

@@ -12,7 +12,7 @@ use Rattle.std.proofs.lemmas.Cmp.{tied_itself}
 use Rattle.etcd_model.specs.Order.{key_cmp}
 use Rattle.etcd_model.proofs.OrderLaws.{tied_keys}
 use Rattle.key_index.specs.Links.{Cells, Linked, without, IsChained, IsOfKey, IsNewest}
-use Rattle.key_index.specs.Index.{IsIndexOf, IsSpread, IsGapFor, IsAt}
+use Rattle.key_index.specs.Index.{AreHeads, IsSpread, IsGapFor, IsAt}
 
 -- the revision of the record under a cell
 abbrev pub revision_of : Option Linked → ℕ
@@ -114,11 +114,11 @@ goes_on cells chained c d head revision now e at of older is above bound =
           next.1.next b g has (key ∙ next.1.key) (omega arith),
     )
 
-pub spread_from_index : (m : Cells) (heads : List ℕ) → IsIndexOf m heads → IsSpread m heads
+pub spread_from_index : (m : Cells) (heads : List ℕ) → AreHeads m heads → IsSpread m heads
 spread_from_index m heads index = record { some = λ i lt. ((index.newest i lt).0, (index.newest i lt).1); sorted = index.sorted }
 
 -- a key that has a gap has no record
-pub none_from_gap : (m : Cells) (heads key : List ℕ) (i : ℕ) → IsIndexOf m heads → IsGapFor m heads key i → (c : ℕ) (e : Linked) → m c ≡ Some e → e.change.key ≢ key
+pub none_from_gap : (m : Cells) (heads key : List ℕ) (i : ℕ) → AreHeads m heads → IsGapFor m heads key i → (c : ℕ) (e : Linked) → m c ≡ Some e → e.change.key ≢ key
 none_from_gap m heads key i index gap c e has same =
     let p = index.whole c e has in
     let eq : p.2.0.change.key ≡ key = p.2.2 ∙ same in
@@ -128,7 +128,7 @@ none_from_gap m heads key i index gap c e has same =
     ]
 
 -- the record that is found is the newest of its key
-pub newest_at : (m : Cells) (heads key : List ℕ) (i c : ℕ) → IsIndexOf m heads → IsAt m heads key i → c ≡ get_or heads i c → IsNewest m c × IsOfKey m key c
+pub newest_at : (m : Cells) (heads key : List ℕ) (i c : ℕ) → AreHeads m heads → IsAt m heads key i → c ≡ get_or heads i c → IsNewest m c × IsOfKey m key c
 newest_at m heads key i c index at is =
     let eq : get_or heads i 0 ≡ c = sym (is ∙ get_or_default heads i c 0 at.in_range) in
     (subst (λ (x : ℕ). IsNewest m x) eq (index.newest i at.in_range), subst (λ (x : ℕ). IsOfKey m key x) eq at.of_key)
@@ -148,7 +148,7 @@ without_some m c b e has = elim (cases_eq b c) [
   | inr differs ↦ (differs, sym (if_other b c None (m b) differs) ∙ has)
 ]
 
-pub spread_with : (m : Cells) (c : ℕ) (heads : List ℕ) → IsIndexOf (without m c) heads → IsSpread m heads
+pub spread_with : (m : Cells) (c : ℕ) (heads : List ℕ) → AreHeads (without m c) heads → IsSpread m heads
 spread_with m c heads index =
     let there : (i : ℕ) (e : Linked) → i < length heads → m (get_or heads i 0) ≡ Some e → without m c (get_or heads i 0) ≡ Some e = λ i e lt has.
     let n = index.newest i lt in

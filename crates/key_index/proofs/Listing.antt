@@ -30,11 +30,11 @@ cells_push items r = fun_ext (λ b. elim (cases_order b (length items)) [
   ]
 ])
 
-module _ (items : List (Option Record)) (heads : List ℕ) (listed : IsIndexedList items heads) where
+module _ (items : List (Option Record)) (live dead : List ℕ) (listed : IsIndexedList items live dead) where
   -- what a compaction leaves is listed
-  pub listed_cut : (next : List (Option Record)) (left : List ℕ) (revision : ℕ) → IsCompacted (listed_cells items) (listed_cells next) revision → length next ≡ length items
-      → IsIndexOf (listed_cells next) left → IsChained (listed_cells next) → IsIndexedList next left
-  listed_cut next left revision compacted same index chained = record {
+  pub listed_cut : (next : List (Option Record)) (live_left dead_left : List ℕ) (revision : ℕ) → IsCompacted (listed_cells items) (listed_cells next) revision → length next ≡ length items
+      → IsIndexOf (listed_cells next) live_left dead_left → IsChained (listed_cells next) → IsIndexedList next live_left dead_left
+  listed_cut next live_left dead_left revision compacted same index chained = record {
     index = index;
     chained = chained;
     numbered = λ c e at.
@@ -57,8 +57,8 @@ module _ (items : List (Option Record)) (heads : List ℕ) (listed : IsIndexedLi
     placed_next = subst (λ (m : Cells). IsPlaced m c) (sym records)
         (placed_record (listed_cells items) c (listed_link r) none_there (λ b g at same. omega (arith, listed.numbered b g at, is)))
 
-    pub index_next : IsIndexOf (without (listed_cells pushed) c) heads
-    index_next = subst (λ (m : Cells). IsIndexOf m heads) (sym before) listed.index
+    pub index_next : IsIndexOf (without (listed_cells pushed) c) live dead
+    index_next = subst (λ (m : Cells). IsIndexOf m live dead) (sym before) listed.index
 
     pub chained_next : IsChained (without (listed_cells pushed) c)
     chained_next = subst IsChained (sym before) listed.chained

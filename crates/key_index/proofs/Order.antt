@@ -1,20 +1,22 @@
 -- The cells of all records, in the order of their changes.
-use Rattle.std.proofs.Common.{◌≡◌, ℕ, ◌+◌, ◌≤◌, List, [], ◌∷◌, length, get_or, Option, Some, None, IsSome, true, sym, ap, ◌∙◌, refl, subst, arith, inl, inr}
-use Rattle.std.specs.Prelude.{nat_le, sum_by, option_map}
+use Rattle.std.proofs.Common.{◌≡◌, ℕ, ◌+◌, ◌≤◌, List, [], ◌∷◌, length, get_or, Option, Some, None, IsSome, Bool, true, sym, ap, ◌∙◌, refl, subst, arith, inl, inr}
+use Rattle.std.specs.Prelude.{nat_le, not, sum_by, option_map}
 use Rattle.std.specs.List.{AllByRecursion, cons_option}
 use Rattle.std.specs.Str.{bytes_eq}
 use Rattle.std.proofs.lemmas.Bool.{le-leb, leb-true, and_parts, and_from}
 use Rattle.std.proofs.lemmas.Slice.Eq.{bytes_eq-Decides}
+use Rattle.std.proofs.lemmas.List.Filters.{length-filter_both}
 use Rattle.std.proofs.lemmas.List.Sums.{sum_by-cons}
 use Rattle.etcd_model.specs.Changes.{Recorded, is_up_to, last}
 use Rattle.model_laws.specs.Recording.{IsIn}
 use Rattle.model_laws.proofs.LastIsLaws.{last_is, last_of_none}
 use Rattle.key_index.specs.Links.{Cells, Linked, change_at, IsChained, IsLast, NoneUpTo}
-use Rattle.key_index.specs.Index.{IsIndexOf}
+use Rattle.key_index.specs.Index.{AreHeads, AreParted, is_kind}
 use Rattle.key_index.specs.Compaction.{held, cost_of, times}
 use Rattle.key_index.specs.Order.{AreAll, changes_in, IsInOrder}
 use Rattle.key_index.proofs.Links.{not_less, one_linked}
 use Rattle.key_index.proofs.Compacted.{change_some}
+use Rattle.key_index.proofs.PutOrNot.{other_kind}
 use Rattle.key_index.proofs.Times.{times_cases, times_rest, times_here, times_once, few_of}
 
 -- ---- what is in a list
@@ -76,13 +78,20 @@ cell_in cells y (c ∷ cs) h = go (cells c) refl (cell_in cells y cs)
 -- ---- heads
 
 -- heads are distinct cells, each in the order
-pub heads_few : (cells : Cells) (heads order : List ℕ) → IsIndexOf cells heads → AreAll cells order → length heads ≤ length order
+pub heads_few : (cells : Cells) (heads order : List ℕ) → AreHeads cells heads → AreAll cells order → length heads ≤ length order
 heads_few cells heads order index all = few_of heads order
     (λ c. times_once c heads (λ i j below lt same. (
     let n = index.newest j lt in
     let here : cells (get_or heads i 0) ≡ Some n.0 = subst (λ (x : ℕ). cells x ≡ Some n.0) (sym same) n.1 in
     not_less n.0.change.key n.0.change.key refl (index.sorted i j n.0 n.0 below lt here n.1))))
     (λ i lt. let n = index.newest i lt in omega (arith, all.once (get_or heads i 0) n.0 n.1))
+
+-- and so are those of two lists together
+pub parted_few : (cells : Cells) (put : Bool) (these others order : List ℕ) → AreParted cells put these others → AreAll cells order → length these + length others ≤ length order
+parted_few cells put these others order parted all =
+    let both = length-filter_both (is_kind cells put) (is_kind cells (not put)) (other_kind cells put) parted.heads in
+    let few = heads_few cells parted.heads order parted.are all in
+    omega (arith, both, few, ap length parted.these_are, ap length parted.others_are)
 
 -- ---- what is last of a key
 

@@ -2,19 +2,22 @@
 use Rattle.std.proofs.Common.{◌≡◌, ◌≢◌, ℕ, suc, ◌+◌, ◌-◌, ◌<◌, ◌≤◌, List, [], ◌∷◌, ◌++◌, length, get_or, set, take, drop, Option, Some, Bool, true, false, sym, ap, ◌∙◌, refl, subst, arith, inl, inr, ◌⊎◌, append_assoc, get_or-set_other}
 use Rattle.std.specs.declared.cmp.Ordering.TheVariants.{Less}
 use Rattle.std.specs.List.{insert}
+use Rattle.std.specs.Prelude.{not, filter, is_some}
 use Rattle.std.specs.Str.{bytes_eq}
-use Rattle.std.proofs.Math.Seq.{take-suc-set, drop-cons, take-append_seam, drop-append_seam}
+use Rattle.std.proofs.Math.Seq.{take-suc-set, drop-cons}
 use Rattle.std.proofs.lemmas.Bool.{cases_eq, cases_lt, cases_order}
 use Rattle.std.proofs.lemmas.List.{drop-set-lt, length-take-le, length-append, take-append-drop}
 use Rattle.std.proofs.lemmas.List.Edits.{length-insert, get_or-insert_below, get_or-insert_at, get_or-insert_above}
 use Rattle.std.proofs.lemmas.Slice.Eq.{bytes_eq-Decides}
 use Rattle.etcd_model.specs.Order.{key_cmp}
 use Rattle.etcd_model.specs.Changes.{Recorded}
-use Rattle.key_index.specs.Links.{Cells, Linked, IsNewest, change_at}
-use Rattle.key_index.specs.Index.{IsIndexOf}
-use Rattle.key_index.specs.Compaction.{IsKept, IsCompacted, IsCompactedAt, Remains}
+use Rattle.key_index.specs.Links.{Cells, Linked, IsNewest}
+use Rattle.key_index.specs.Index.{AreHeads, AreNewest, AreParted, StayParted, is_kind, is_put_of}
+use Rattle.key_index.specs.Compaction.{AreDone, IsBehindNone, IsDone, IsKept, IsCompactedAt, IsUntouched, Remains}
 use Rattle.key_index.proofs.Links.{one_linked, not_less}
 use Rattle.key_index.proofs.Compacted.{linked_some, change_some}
+use Rattle.key_index.proofs.Parting.{StandsAmong, stands_among, filter-alike, insert_seam}
+use Rattle.key_index.proofs.PutOrNot.{all_from_places, other_kind, same_kind}
 
 same_or_not : (a b : List ℕ) → (a ≡ b) ⊎ (a ≢ b)
 same_or_not a b = go (bytes_eq a b) refl
@@ -30,11 +33,11 @@ was_at m new revision key compacted c g has = elim (same_or_not g.change.key key
   | inr other ↦ (g, compacted.no_others c g other has, refl)
 ]
 
-key_of : (f g : Linked) → f.change ≡ g.change → f.change.key ≡ g.change.key
+pub key_of : (f g : Linked) → f.change ≡ g.change → f.change.key ≡ g.change.key
 key_of f g same = ap (λ (x : Recorded). x.key) same
 
 module _ (m new : Cells) (revision : ℕ) (e : Linked) (compacted : IsCompactedAt m new revision e.change.key) where
-  module _ (heads : List ℕ) (p : ℕ) (index : IsIndexOf m heads) (lt : p < length heads) (at : m (get_or heads p 0) ≡ Some e) where
+  module _ (heads : List ℕ) (p : ℕ) (index : AreHeads m heads) (lt : p < length heads) (at : m (get_or heads p 0) ≡ Some e) where
     -- another place has another key
     apart : (j : ℕ) (f : Linked) → j ≢ p → j < length heads → m (get_or heads j 0) ≡ Some f → f.change.key ≢ e.change.key
     apart j f differs below has key = elim (cases_order j p) [
@@ -63,7 +66,7 @@ module _ (m new : Cells) (revision : ℕ) (e : Linked) (compacted : IsCompactedA
         let less : key_cmp f.0.change.key g.0.change.key ≡ Less = index.sorted i j f.0 g.0 below within f.1 g.1 in
         subst (λ (k : List ℕ). key_cmp x.change.key k ≡ Less) (key_of g.0 y g.2) (subst (λ (k : List ℕ). key_cmp k g.0.change.key ≡ Less) (key_of f.0 x f.2) less)
 
-    pub index_kept : IsNewest new (get_or heads p 0) → IsIndexOf new heads
+    pub index_kept : IsNewest new (get_or heads p 0) → AreHeads new heads
     index_kept newest_here =
         let newest : (j : ℕ) → j < length heads → IsNewest new (get_or heads j 0) = λ j below.
         elim (cases_eq j p) [
@@ -82,7 +85,7 @@ module _ (m new : Cells) (revision : ℕ) (e : Linked) (compacted : IsCompactedA
               (q.0, q.1, (n.0, n.1, sym (key_of w.0 n.0 w.2) ∙ ap (λ (x : Linked). x.change.key) one ∙ q.2.2 ∙ key_of f.0 g f.2));
         }
 
-  module _ (ys : List ℕ) (p h : ℕ) (le : p ≤ length ys) (index : IsIndexOf m (insert ys p h)) (at : m h ≡ Some e) (none : (c : ℕ) (g : Linked) → new c ≡ Some g → g.change.key ≢ e.change.key) where
+  module _ (ys : List ℕ) (p h : ℕ) (le : p ≤ length ys) (index : AreHeads m (insert ys p h)) (at : m h ≡ Some e) (none : (c : ℕ) (g : Linked) → new c ≡ Some g → g.change.key ≢ e.change.key) where
     longer : length (insert ys p h) ≡ length ys + 1
     longer = length-insert ys p h le
 
@@ -138,7 +141,7 @@ module _ (m new : Cells) (revision : ℕ) (e : Linked) (compacted : IsCompactedA
       ]
     ]
 
-    pub index_dropped : IsIndexOf new ys
+    pub index_dropped : AreHeads new ys
     index_dropped = record {
       newest = λ j lt.
           let w = was j lt in
@@ -169,118 +172,142 @@ module _ (m new : Cells) (revision : ℕ) (e : Linked) (compacted : IsCompactedA
 
 -- ---- what was done so far
 
--- records of a key are untouched
-pub record IsUntouched (m now : Cells) (key : List ℕ) : Type 0 where
-  pub there : (c : ℕ) (e : Linked) → m c ≡ Some e → e.change.key ≡ key → now c ≡ Some e
-  pub back : (c : ℕ) (e : Linked) → now c ≡ Some e → e.change.key ≡ key → m c ≡ Some e
-
--- records of a key are what is kept
-pub record IsDone (m now : Cells) (revision : ℕ) (key : List ℕ) : Type 0 where
-  pub stays : (c : ℕ) (e : Linked) → m c ≡ Some e → e.change.key ≡ key → IsKept m revision e.change → change_at now c ≡ Some e.change
-  pub only : (c : ℕ) (e : Linked) → now c ≡ Some e → e.change.key ≡ key → (change_at m c ≡ Some e.change) × IsKept m revision e.change
-
--- the keys of the first places are done, and the others untouched
-pub record IsSoFar (m now : Cells) (heads : List ℕ) (revision i : ℕ) : Type 0 where
-  pub done : (j : ℕ) (e : Linked) → j < i → m (get_or heads j 0) ≡ Some e → IsDone m now revision e.change.key
-  pub ahead : (j : ℕ) (e : Linked) → i ≤ j → j < length heads → m (get_or heads j 0) ≡ Some e → IsUntouched m now e.change.key
-  pub back : (c : ℕ) (e : Linked) → now c ≡ Some e → (f : Linked) × (m c ≡ Some f) × (f.change ≡ e.change)
-
-pub so_far_start : (m : Cells) (heads : List ℕ) (revision : ℕ) → IsSoFar m m heads revision 0
+pub so_far_start : (m : Cells) (heads : List ℕ) (revision : ℕ) → AreDone m m heads revision 0
 so_far_start m heads revision = record {
   done = λ j e lt has. absurd (omega (arith, lt));
-  ahead = λ j e le lt has. record { there = λ c g at key. at; back = λ c g at key. at };
+  others = λ key ahead. record { there = λ c g at is. at; back = λ c g at is. at };
   back = λ c e has. (e, has, refl);
 }
 
-module _ (m now : Cells) (heads : List ℕ) (revision : ℕ) (index : IsIndexOf m heads) where
-  pub so_far_done : (i : ℕ) → length heads ≤ i → IsSoFar m now heads revision i → IsCompacted m now revision
-  so_far_done i all so_far = record {
-    stays = λ c e has kept.
-        let q = index.whole c e has in
-        (so_far.done q.0 q.2.0 (omega (arith, q.1, all)) q.2.1).stays c e has (sym q.2.2) kept;
-    only = λ c e has.
-        let f = so_far.back c e has in
-        let q = index.whole c f.0 f.1 in
-        (so_far.done q.0 q.2.0 (omega (arith, q.1, all)) q.2.1).only c e has (sym (key_of f.0 e f.2) ∙ sym q.2.2);
+-- what is kept of a key that was untouched is the same before and now
+kept_now : (m now : Cells) (revision : ℕ) (key : List ℕ) → IsUntouched m now key → (x : Recorded) → x.key ≡ key → IsKept m revision x → IsKept now revision x
+kept_now m now revision key untouched x is kept = elim kept [
+  | inl from ↦ inl from
+  | inr p ↦ inr (p.0, λ b g has same low. p.1 b g (untouched.back b g has (same ∙ is)) same low)
+]
+
+kept_before : (m now : Cells) (revision : ℕ) (key : List ℕ) → IsUntouched m now key → (x : Recorded) → x.key ≡ key → IsKept now revision x → IsKept m revision x
+kept_before m now revision key untouched x is kept = elim kept [
+  | inl from ↦ inl from
+  | inr p ↦ inr (p.0, λ b g has same low. p.1 b g (untouched.there b g has (same ∙ is)) same low)
+]
+
+-- what is done of a key that was untouched is done
+pub then_done : (m now new : Cells) (revision : ℕ) (key : List ℕ) → IsUntouched m now key → IsDone now new revision key → IsDone m new revision key
+then_done m now new revision key untouched done = record {
+  stays = λ c g has is kept. done.stays c g (untouched.there c g has is) is (kept_now m now revision key untouched g.change is kept);
+  only = λ c g has is.
+      let o = done.only c g has is in
+      let f = linked_some now c g.change o.0 in
+      let there = untouched.back c f.0 f.1 (key_of f.0 g f.2 ∙ is) in
+      (change_some m c f.0 there ∙ ap (λ (x : Recorded). let q : Option Recorded = Some x in q) f.2, kept_before m now revision key untouched g.change is o.1);
+}
+
+-- and what was done of a key that is untouched then stays done
+pub still_done : (m now new : Cells) (revision : ℕ) (key : List ℕ) → IsDone m now revision key → IsUntouched now new key → IsDone m new revision key
+still_done m now new revision key done untouched = record {
+  stays = λ c g has is kept.
+      let f = linked_some now c g.change (done.stays c g has is kept) in
+      let there = untouched.there c f.0 f.1 (key_of f.0 g f.2 ∙ is) in
+      change_some new c f.0 there ∙ ap (λ (x : Recorded). let q : Option Recorded = Some x in q) f.2;
+  only = λ c g has is. done.only c g (untouched.back c g has is) is;
+}
+
+-- the other keys are untouched where one was compacted
+pub others_untouched : (now new : Cells) (revision : ℕ) (compacted_key key : List ℕ) → IsCompactedAt now new revision compacted_key → compacted_key ≢ key → IsUntouched now new key
+others_untouched now new revision compacted_key key compacted differs = record {
+  there = λ c g has is. compacted.others c g (λ same. differs (sym same ∙ is)) has;
+  back = λ c g has is. compacted.no_others c g (λ same. differs (sym same ∙ is)) has;
+}
+
+pub compacted_done : (now new : Cells) (revision : ℕ) (key : List ℕ) → IsCompactedAt now new revision key → IsDone now new revision key
+compacted_done now new revision key compacted = record { stays = compacted.stays; only = compacted.only }
+
+module _ (m now : Cells) (heads : List ℕ) (revision : ℕ) (heads_are : AreNewest m heads) (i : ℕ) (lt : i < length heads) (e : Linked) (at : m (get_or heads i 0) ≡ Some e) (so_far : AreDone m now heads revision i) where
+  -- the heads before have other keys
+  behind_none : IsBehindNone m heads i e.change.key
+  behind_none j f below has key = not_less f.change.key e.change.key key (heads_are.sorted j i f e below lt has at)
+
+  untouched : IsUntouched m now e.change.key
+  untouched = so_far.others e.change.key behind_none
+
+  -- the next head is untouched
+  pub still_there : now (get_or heads i 0) ≡ Some e
+  still_there = untouched.there (get_or heads i 0) e at refl
+
+  pub still_newest : IsNewest now (get_or heads i 0)
+  still_newest =
+      let n = heads_are.newest i lt in
+      let one : n.0 ≡ e = one_linked (m (get_or heads i 0)) n.0 e n.1 at in
+      (e, still_there, λ b g has key. omega (arith, n.2 b g (untouched.back b g has key) (key ∙ ap (λ (x : Linked). x.change.key) (sym one)), ap (λ (x : Linked). x.change.revision) one))
+
+  pub so_far_step : (new : Cells) → IsCompactedAt now new revision e.change.key → AreDone m new heads revision (i + 1)
+  so_far_step new compacted = record {
+    done = λ j f below has. elim (cases_eq j i) [
+      | inl eq ↦
+          let one : e ≡ f = one_linked (m (get_or heads i 0)) e f at (subst (λ (x : ℕ). m (get_or heads x 0) ≡ Some f) eq has) in
+          subst (λ (x : Linked). IsDone m new revision x.change.key) one (then_done m now new revision e.change.key untouched (compacted_done now new revision e.change.key compacted))
+      | inr other ↦
+          let less : j < i = omega (arith, below, other) in
+          still_done m now new revision f.change.key (so_far.done j f less has)
+          (others_untouched now new revision e.change.key f.change.key compacted (λ same. behind_none j f less has (sym same)))
+    ];
+    others = λ key none.
+        let u = so_far.others key (λ j f below has. none j f (omega (arith, below)) has) in
+        let v = others_untouched now new revision e.change.key key compacted (none i e (omega arith) at) in
+        record {
+          there = λ c g is same. v.there c g (u.there c g is same) same;
+          back = λ c g is same. u.back c g (v.back c g is same) same;
+        };
+    back = λ c g has.
+        let f = was_at now new revision e.change.key compacted c g has in
+        let b = so_far.back c f.0 f.1 in
+        (b.0, b.1, b.2 ∙ f.2);
   }
 
-  module _ (i : ℕ) (lt : i < length heads) (e : Linked) (at : m (get_or heads i 0) ≡ Some e) (so_far : IsSoFar m now heads revision i) where
-    -- the next head is untouched
-    pub still_there : now (get_or heads i 0) ≡ Some e
-    still_there = (so_far.ahead i e (omega arith) lt at).there (get_or heads i 0) e at refl
+-- ---- lists of heads, where one key was compacted
 
-    module _ (new : Cells) (compacted : IsCompactedAt now new revision e.change.key) where
-      -- another place has another key
-      differs : (j : ℕ) (f : Linked) → j ≢ i → j < length heads → m (get_or heads j 0) ≡ Some f → f.change.key ≢ e.change.key
-      differs j f other below has key = elim (cases_order j i) [
-        | inl eq ↦ other eq
-        | inr o ↦ elim o [
-          | inl low ↦ not_less f.change.key e.change.key key (index.sorted j i f e low lt has at)
-          | inr high ↦ not_less e.change.key f.change.key (sym key) (index.sorted i j e f high below at has)
-        ]
-      ]
+module _ (m new : Cells) (revision : ℕ) (e : Linked) (compacted : IsCompactedAt m new revision e.change.key) (put : Bool) (ys others : List ℕ) (k h : ℕ) (le : k ≤ length ys) (parted : AreParted m put (insert ys k h) others) (at : m h ≡ Some e) where
+  stands : StandsAmong (is_kind m put) (is_kind m (not put)) parted.heads ys k h
+  stands = stands_among (is_kind m put) (is_kind m (not put)) (other_kind m put) parted.heads ys k h le (sym parted.these_are)
 
-      untouched : IsUntouched m now e.change.key
-      untouched = so_far.ahead i e (omega arith) lt at
+  whole : AreHeads m (insert stands.rest stands.at h)
+  whole = subst (AreHeads m) stands.all_is parted.are
 
-      -- what is kept of the key is the same before and now
-      kept_now : (x : Recorded) → x.key ≡ e.change.key → IsKept m revision x → IsKept now revision x
-      kept_now x key kept = elim kept [
-        | inl from ↦ inl from
-        | inr p ↦ inr (p.0, λ b g has same low. p.1 b g (untouched.back b g has (same ∙ key)) same low)
-      ]
+  -- a head that is left is of its kind as before
+  alike : (kind : Bool) (c : ℕ) → IsNewest new c → is_kind m kind c ≡ is_kind new kind c
+  alike kind c n =
+      let f = was_at m new revision e.change.key compacted c n.0 n.1 in
+      same_kind kind (m c) (new c) (ap is_put_of f.1 ∙ ap (λ (x : Recorded). is_some x.row) f.2 ∙ sym (ap is_put_of n.1))
 
-      kept_before : (x : Recorded) → x.key ≡ e.change.key → IsKept now revision x → IsKept m revision x
-      kept_before x key kept = elim kept [
-        | inl from ↦ inl from
-        | inr p ↦ inr (p.0, λ b g has same low. p.1 b g (untouched.there b g has (same ∙ key)) same low)
-      ]
+  filters : (kind : Bool) (xs : List ℕ) → AreHeads new xs → filter (is_kind m kind) xs ≡ filter (is_kind new kind) xs
+  filters kind xs are = filter-alike (is_kind m kind) (is_kind new kind) xs (all_from_places (λ c. is_kind m kind c ≡ is_kind new kind c) xs (λ i lt. alike kind (get_or xs i 0) (are.newest i lt)))
 
-      done_here : IsDone m new revision e.change.key
-      done_here = record {
-        stays = λ c g has key kept. compacted.stays c g (untouched.there c g has key) key (kept_now g.change key kept);
-        only = λ c g has key.
-            let o = compacted.only c g has key in
-            let f = linked_some now c g.change o.0 in
-            let there = untouched.back c f.0 f.1 (key_of f.0 g f.2 ∙ key) in
-            (change_some m c f.0 there ∙ ap (λ (x : Recorded). let q : Option Recorded = Some x in q) f.2, kept_before g.change key o.1);
+  pub parted_dropped : ((c : ℕ) (g : Linked) → new c ≡ Some g → g.change.key ≢ e.change.key) → AreParted new put ys others
+  parted_dropped none =
+      let are : AreHeads new stands.rest = index_dropped m new revision e compacted stands.rest stands.at h stands.within whole at none in
+      record {
+        heads = stands.rest;
+        are = are;
+        these_are = sym stands.these ∙ filters put stands.rest are;
+        others_are = parted.others_are ∙ sym stands.others ∙ filters (not put) stands.rest are;
       }
 
-      done_there : (key : List ℕ) → key ≢ e.change.key → IsDone m now revision key → IsDone m new revision key
-      done_there key other done = record {
-        stays = λ c g has same kept.
-            let f = linked_some now c g.change (done.stays c g has same kept) in
-            let there = compacted.others c f.0 (λ eq. other (sym same ∙ sym (key_of f.0 g f.2) ∙ eq)) f.1 in
-            change_some new c f.0 there ∙ ap (λ (x : Recorded). let q : Option Recorded = Some x in q) f.2;
-        only = λ c g has same. done.only c g (compacted.no_others c g (λ eq. other (sym same ∙ eq)) has) same;
-      }
-
-      pub so_far_step : IsSoFar m new heads revision (i + 1)
-      so_far_step = record {
-        done = λ j f below has. elim (cases_eq j i) [
-          | inl eq ↦
-              let one : e ≡ f = one_linked (m (get_or heads i 0)) e f at (subst (λ (x : ℕ). m (get_or heads x 0) ≡ Some f) eq has) in
-              subst (λ (x : Linked). IsDone m new revision x.change.key) one done_here
-          | inr other ↦ done_there f.change.key (differs j f other (omega (arith, below, lt)) has) (so_far.done j f (omega (arith, below, other)) has)
-        ];
-        ahead = λ j f above below has.
-            let other = differs j f (λ eq. omega (arith, eq, above)) below has in
-            let u = so_far.ahead j f (omega (arith, above)) below has in
-            record {
-              there = λ c g is key. compacted.others c g (λ same. other (sym key ∙ same)) (u.there c g is key);
-              back = λ c g is key. u.back c g (compacted.no_others c g (λ same. other (sym key ∙ same)) is) key;
-            };
-        back = λ c g has.
-            let f = was_at now new revision e.change.key compacted c g has in
-            let b = so_far.back c f.0 f.1 in
-            (b.0, b.1, b.2 ∙ f.2);
+  pub parted_kept : IsNewest new h → AreParted new put (insert ys k h) others
+  parted_kept newest =
+      let here : get_or (insert stands.rest stands.at h) stands.at 0 ≡ h = get_or-insert_at stands.rest stands.at h 0 stands.within in
+      let longer = length-insert stands.rest stands.at h stands.within in
+      let kept : AreHeads new (insert stands.rest stands.at h) = index_kept m new revision e compacted (insert stands.rest stands.at h) stands.at whole (omega (arith, longer, stands.within))
+      (subst (λ (x : ℕ). m x ≡ Some e) (sym here) at) (subst (IsNewest new) (sym here) newest) in
+      let are : AreHeads new parted.heads = subst (AreHeads new) (sym stands.all_is) kept in
+      record {
+        heads = parted.heads;
+        are = are;
+        these_are = parted.these_are ∙ filters put parted.heads are;
+        others_are = parted.others_are ∙ filters (not put) parted.heads are;
       }
 
 -- ---- the heads that are left, and those ahead
-
-insert_seam : (xs ys : List ℕ) (k h : ℕ) → length xs ≡ k → insert (xs ++ ys) k h ≡ xs ++ h ∷ ys
-insert_seam xs ys k h is =
-    subst (λ (n : ℕ). insert (xs ++ ys) n h ≡ xs ++ h ∷ ys) is (rw (take-append_seam xs ys, drop-append_seam xs ys) refl)
 
 module _ (xs : List ℕ) (k i h : ℕ) (le : k ≤ i) (lt : i < length xs) (is : get_or xs i 0 ≡ h) where
   next_one : drop i xs ≡ h ∷ drop (i + 1) xs
@@ -302,31 +329,24 @@ module _ (xs : List ℕ) (k i h : ℕ) (le : k ≤ i) (lt : i < length xs) (is :
       let back : drop (i + 1) (set xs k h) ≡ drop (i + 1) xs = drop-set-lt (i + 1) xs k h (omega (arith, le)) in
       ap (λ (ys : List ℕ). ys ++ drop (i + 1) (set xs k h)) front ∙ ap (λ (ys : List ℕ). (take k xs ++ (h ∷ [])) ++ ys) back ∙ append_assoc (take k xs) (h ∷ []) (drop (i + 1) xs) ∙ ap (λ (ys : List ℕ). take k xs ++ ys) (sym next_one)
 
-  pub next_newest : (now : Cells) → IsIndexOf now (take k xs ++ drop i xs) → IsNewest now h
-  next_newest now index =
-      let whole : IsIndexOf now (insert (take k xs ++ drop (i + 1) xs) k h) = subst (IsIndexOf now) parts_insert index in
-      let room = parts_room in
-      let n = whole.newest k (omega (arith, length-insert (take k xs ++ drop (i + 1) xs) k h room, room)) in
-      subst (IsNewest now) (get_or-insert_at (take k xs ++ drop (i + 1) xs) k h 0 room) n
-
--- Of the places of an index the first i were done, and the heads that are left of them are moved to the first k.
+-- Of the places of some heads the first i were done, and those that are left of them are moved to the first k.
 pub record IsGoing (m now : Cells) (heads xs : List ℕ) (revision k i : ℕ) : Type 0 where
   pub front : k ≤ i
   pub ahead : (j : ℕ) → i ≤ j → get_or xs j 0 ≡ get_or heads j 0
-  pub part : IsIndexOf now (take k xs ++ drop i xs)
-  pub so_far : IsSoFar m now heads revision i
+  pub part : StayParted m heads now (take k xs ++ drop i xs)
+  pub so_far : AreDone m now heads revision i
 
-pub going_start : (m : Cells) (heads : List ℕ) (revision : ℕ) → IsIndexOf m heads → IsGoing m m heads heads revision 0 0
-going_start m heads revision index = record {
+pub going_start : (m : Cells) (heads : List ℕ) (revision : ℕ) → IsGoing m m heads heads revision 0 0
+going_start m heads revision = record {
   front = omega arith;
   ahead = λ j le. refl;
-  part = subst (IsIndexOf m) (sym (take-append-drop 0 heads)) index;
+  part = λ put others parted. subst (λ (ys : List ℕ). AreParted m put ys others) (sym (take-append-drop 0 heads)) parted;
   so_far = so_far_start m heads revision;
 }
 
-module _ (m now : Cells) (heads xs : List ℕ) (revision k i : ℕ) (index : IsIndexOf m heads) (same_length : length xs ≡ length heads) (going : IsGoing m now heads xs revision k i) where
-  pub going_compacted : length heads ≤ i → IsCompacted m now revision
-  going_compacted all = so_far_done m now heads revision index i all going.so_far
+module _ (m now : Cells) (heads xs : List ℕ) (revision k i : ℕ) (heads_are : AreNewest m heads) (same_length : length xs ≡ length heads) (going : IsGoing m now heads xs revision k i) where
+  pub going_done : length heads ≤ i → i ≤ length heads → AreDone m now heads revision (length heads)
+  going_done all most = let same : i ≡ length heads = omega (arith, all, most) in subst (AreDone m now heads revision) same going.so_far
 
   module _ (h : ℕ) (lt : i < length heads) (is : get_or xs i 0 ≡ h) where
     below : i < length xs
@@ -335,48 +355,46 @@ module _ (m now : Cells) (heads xs : List ℕ) (revision k i : ℕ) (index : IsI
     head : get_or heads i 0 ≡ h
     head = sym (going.ahead i (omega arith)) ∙ is
 
+    e : Linked
+    e = (heads_are.newest i lt).0
+
+    head_at : m (get_or heads i 0) ≡ Some (heads_are.newest i lt).0
+    head_at = (heads_are.newest i lt).1
+
     pub going_newest : IsNewest now h
-    going_newest = next_newest xs k i h going.front (omega (arith, lt, same_length)) is now going.part
+    going_newest = subst (IsNewest now) head (still_newest m now heads revision heads_are i lt (heads_are.newest i lt).0 head_at going.so_far)
 
-    head_at : m (get_or heads i 0) ≡ Some (index.newest i lt).0
-    head_at = (index.newest i lt).1
-
-    now_head : now h ≡ Some (index.newest i lt).0
-    now_head = subst (λ (x : ℕ). now x ≡ Some (index.newest i lt).0) head (still_there m now heads revision index i lt (index.newest i lt).0 head_at going.so_far)
+    now_head : now h ≡ Some (heads_are.newest i lt).0
+    now_head = subst (λ (x : ℕ). now x ≡ Some (heads_are.newest i lt).0) head (still_there m now heads revision heads_are i lt (heads_are.newest i lt).0 head_at going.so_far)
 
     ahead_more : (j : ℕ) → i + 1 ≤ j → get_or xs j 0 ≡ get_or heads j 0
     ahead_more j le = going.ahead j (omega (arith, le))
 
-    module _ (new : Cells) (compacted : (e : Linked) → now h ≡ Some e → IsCompactedAt now new revision e.change.key) where
-      step : IsSoFar m new heads revision (i + 1)
-      step = so_far_step m now heads revision index i lt (index.newest i lt).0 head_at going.so_far new (compacted (index.newest i lt).0 now_head)
+    module _ (new : Cells) (compacted : (f : Linked) → now h ≡ Some f → IsCompactedAt now new revision f.change.key) where
+      step : AreDone m new heads revision (i + 1)
+      step = so_far_step m now heads revision heads_are i lt (heads_are.newest i lt).0 head_at going.so_far new (compacted (heads_are.newest i lt).0 now_head)
 
-      parted : IsIndexOf now (insert (take k xs ++ drop (i + 1) xs) k h)
-      parted = subst (IsIndexOf now) (parts_insert xs k i h going.front below is) going.part
+      parted : (put : Bool) (others : List ℕ) → AreParted m put heads others → AreParted now put (insert (take k xs ++ drop (i + 1) xs) k h) others
+      parted put others before = subst (λ (ys : List ℕ). AreParted now put ys others) (parts_insert xs k i h going.front below is) (going.part put others before)
 
       room : k ≤ length (take k xs ++ drop (i + 1) xs)
       room = parts_room xs k i h going.front below is
 
-      pub going_dropped : ((e : Linked) → now h ≡ Some e → Remains new e.change.key h false) → IsGoing m new heads xs revision k (i + 1)
+      pub going_dropped : ((f : Linked) → now h ≡ Some f → Remains new f.change.key h false) → IsGoing m new heads xs revision k (i + 1)
       going_dropped none = record {
         front = omega (arith, going.front);
         ahead = ahead_more;
-        part = index_dropped now new revision (index.newest i lt).0 (compacted (index.newest i lt).0 now_head) (take k xs ++ drop (i + 1) xs) k h room parted now_head (none (index.newest i lt).0 now_head);
+        part = λ put others before.
+            parted_dropped now new revision (heads_are.newest i lt).0 (compacted (heads_are.newest i lt).0 now_head) put (take k xs ++ drop (i + 1) xs) others k h room (parted put others before) now_head (none (heads_are.newest i lt).0 now_head);
         so_far = step;
       }
 
-      pub going_kept : ((e : Linked) → now h ≡ Some e → Remains new e.change.key h true) → IsGoing m new heads (set xs k h) revision (k + 1) (i + 1)
-      going_kept newest =
-          let longer = length-insert (take k xs ++ drop (i + 1) xs) k h room in
-          let space = room in
-          let first : get_or (insert (take k xs ++ drop (i + 1) xs) k h) k 0 ≡ h = get_or-insert_at (take k xs ++ drop (i + 1) xs) k h 0 room in
-          let kept : IsIndexOf new (insert (take k xs ++ drop (i + 1) xs) k h) = index_kept now new revision (index.newest i lt).0 (compacted (index.newest i lt).0 now_head) (insert (take k xs ++ drop (i + 1) xs) k h) k parted
-          (omega (arith, longer, space))
-          (subst (λ (x : ℕ). now x ≡ Some (index.newest i lt).0) (sym first) now_head)
-          (subst (IsNewest new) (sym first) (newest (index.newest i lt).0 now_head)) in
-          record {
-            front = omega (arith, going.front);
-            ahead = λ j le. get_or-set_other xs k j h 0 (λ eq. omega (arith, eq, le, going.front)) ∙ ahead_more j le;
-            part = subst (IsIndexOf new) (sym (parts_insert xs k i h going.front below is) ∙ sym (parts_kept xs k i h going.front below is)) kept;
-            so_far = step;
-          }
+      pub going_kept : ((f : Linked) → now h ≡ Some f → Remains new f.change.key h true) → IsGoing m new heads (set xs k h) revision (k + 1) (i + 1)
+      going_kept newest = record {
+        front = omega (arith, going.front);
+        ahead = λ j le. get_or-set_other xs k j h 0 (λ eq. omega (arith, eq, le, going.front)) ∙ ahead_more j le;
+        part = λ put others before.
+            subst (λ (ys : List ℕ). AreParted new put ys others) (sym (parts_insert xs k i h going.front below is) ∙ sym (parts_kept xs k i h going.front below is))
+            (parted_kept now new revision (heads_are.newest i lt).0 (compacted (heads_are.newest i lt).0 now_head) put (take k xs ++ drop (i + 1) xs) others k h room (parted put others before) now_head (newest (heads_are.newest i lt).0 now_head));
+        so_far = step;
+      }

@@ -1,5 +1,5 @@
 -- What a compaction keeps of records, and what it gives back.
-use Rattle.std.specs.Prelude.{◌≡◌, ◌≢◌, ℕ, ◌+◌, ◌<◌, ◌≤◌, List, Bool, true, false, sum_by}
+use Rattle.std.specs.Prelude.{◌≡◌, ◌≢◌, ℕ, ◌+◌, ◌<◌, ◌≤◌, List, Bool, true, false, sum_by, slice_index}
 use Rattle.std.specs.Prelude.{Option, Some, None, ◌⊎◌, ◌↔◌, MatchOption, is_some, if◌then◌else◌, ◌==◌}
 use Rattle.std.specs.List.{AllByRecursion, Contains}
 use Rattle.etcd_model.specs.Changes.{Recorded, keeps}
@@ -39,6 +39,30 @@ pub record IsCompactedAt (old new : Cells) (revision : ℕ) (key : List ℕ) : T
       → (change_at old c ≡ Some e.change) × IsKept old revision e.change
   pub others : (c : ℕ) (e : Linked) → e.change.key ≢ key → old c ≡ Some e → new c ≡ Some e
   pub no_others : (c : ℕ) (e : Linked) → e.change.key ≢ key → new c ≡ Some e → old c ≡ Some e
+
+-- records of a key are untouched
+pub record IsUntouched (old new : Cells) (key : List ℕ) : Type 0 where
+  pub there : (c : ℕ) (e : Linked) → old c ≡ Some e → e.change.key ≡ key → new c ≡ Some e
+  pub back : (c : ℕ) (e : Linked) → new c ≡ Some e → e.change.key ≡ key → old c ≡ Some e
+
+-- records of a key are what is kept
+pub record IsDone (old new : Cells) (revision : ℕ) (key : List ℕ) : Type 0 where
+  pub stays : (c : ℕ) (e : Linked) → old c ≡ Some e → e.change.key ≡ key → IsKept old revision e.change
+      → change_at new c ≡ Some e.change
+  pub only : (c : ℕ) (e : Linked) → new c ≡ Some e → e.change.key ≡ key
+      → (change_at old c ≡ Some e.change) × IsKept old revision e.change
+
+-- the key is of none of the first heads
+abbrev pub IsBehindNone : Cells → List ℕ → ℕ → List ℕ → Type 0
+IsBehindNone cells heads i key =
+    (j : ℕ) (e : Linked) → j < i → cells (slice_index heads j) ≡ Some e → e.change.key ≢ key
+
+-- the keys of the first of some heads are done, and all others untouched
+pub record AreDone (old new : Cells) (heads : List ℕ) (revision i : ℕ) : Type 0 where
+  pub done : (j : ℕ) (e : Linked) → j < i → old (slice_index heads j) ≡ Some e
+      → IsDone old new revision e.change.key
+  pub others : (key : List ℕ) → IsBehindNone old heads i key → IsUntouched old new key
+  pub back : (c : ℕ) (e : Linked) → new c ≡ Some e → (f : Linked) × (old c ≡ Some f) × (f.change ≡ e.change)
 
 -- where the chain of a key ended up: its head is still the newest, or none of the key is left
 abbrev pub Remains : Cells → List ℕ → ℕ → Bool → Type 0

@@ -1,6 +1,6 @@
 -- The newest record of each key, by ascending key.
-use Rattle.std.specs.Prelude.{◌≡◌, ℕ, ◌+◌, ◌-◌, ◌<◌, ◌≤◌, List, length, slice_index, take, drop, [], ◌∷◌, Some}
-use Rattle.std.specs.Prelude.{true, false, ◌||◌, ◌↔◌}
+use Rattle.std.specs.Prelude.{◌≡◌, ℕ, ◌+◌, ◌-◌, ◌<◌, ◌≤◌, List, length, slice_index, take, drop, [], ◌∷◌}
+use Rattle.std.specs.Prelude.{Option, Some, None, is_some, Bool, true, false, not, ◌||◌, ◌↔◌, filter, if◌then◌else◌}
 use Rattle.std.specs.declared.cmp.Ordering.TheVariants.{Less, Greater}
 use Rattle.std.specs.Str.{bytes_eq}
 use Rattle.chunk_list.specs.declared.place.Place.{Place}
@@ -9,9 +9,11 @@ use Rattle.etcd_model.specs.Order.{key_cmp, key_lt}
 use Rattle.etcd_model.specs.Interval.{is_in}
 use Rattle.key_index.specs.Links.{Cells, Linked, IsOfKey, IsNewest}
 
--- the index's cells, and how many it can have
+-- the index's cells: those of keys that are live, and those of keys that are deleted; and how many of either
+-- it can have
 pub record Heads : Type 0 where
-  pub cells : List ℕ
+  pub live : List ℕ
+  pub dead : List ℕ
   pub capacity : ℕ
 
 -- each place has a record, and their keys rise
@@ -20,13 +22,57 @@ pub record IsSpread (cells : Cells) (heads : List ℕ) : Type 0 where
   pub sorted : (i j : ℕ) (e f : Linked) → i < j → j < length heads → cells (slice_index heads i) ≡ Some e
       → cells (slice_index heads j) ≡ Some f → key_cmp e.change.key f.change.key ≡ Less
 
+-- each place has the newest record of its key, and the keys rise
+pub record AreNewest (cells : Cells) (heads : List ℕ) : Type 0 where
+  pub newest : (i : ℕ) → i < length heads → IsNewest cells (slice_index heads i)
+  pub sorted : (i j : ℕ) (e f : Linked) → i < j → j < length heads → cells (slice_index heads i) ≡ Some e
+      → cells (slice_index heads j) ≡ Some f → key_cmp e.change.key f.change.key ≡ Less
+
 -- each place has the newest record of its key, the keys rise, and each key of a record has a place
-pub record IsIndexOf (cells : Cells) (heads : List ℕ) : Type 0 where
+pub record AreHeads (cells : Cells) (heads : List ℕ) : Type 0 where
   pub newest : (i : ℕ) → i < length heads → IsNewest cells (slice_index heads i)
   pub sorted : (i j : ℕ) (e f : Linked) → i < j → j < length heads → cells (slice_index heads i) ≡ Some e
       → cells (slice_index heads j) ≡ Some f → key_cmp e.change.key f.change.key ≡ Less
   pub whole : (c : ℕ) (e : Linked) → cells c ≡ Some e
       → (i : ℕ) × (i < length heads) × IsOfKey cells e.change.key (slice_index heads i)
+
+-- a record is a put
+abbrev pub is_put_of : Option Linked → Bool
+is_put_of None = false
+is_put_of (Some e) = is_some e.change.row
+
+-- the record under a cell is of a kind: a put, or none
+abbrev pub is_kind : Cells → Bool → ℕ → Bool
+is_kind cells put c = if put then is_put_of (cells c) else not (is_put_of (cells c))
+
+-- the newest record of each key, by ascending key, in two lists: those of a kind, and the others
+pub record AreParted (cells : Cells) (put : Bool) (these others : List ℕ) : Type 0 where
+  pub heads : List ℕ
+  pub are : AreHeads cells heads
+  pub these_are : these ≡ filter (is_kind cells put) heads
+  pub others_are : others ≡ filter (is_kind cells (not put)) heads
+
+-- the newest records of the keys that are live, and those of the keys that are deleted
+abbrev pub IsIndexOf : Cells → List ℕ → List ℕ → Type 0
+IsIndexOf cells live dead = AreParted cells true live dead
+
+-- whichever heads of all keys some were parted from, those that are left of them are parted from
+abbrev pub StayParted : Cells → List ℕ → Cells → List ℕ → Type 0
+StayParted old these new left =
+    (put : Bool) (others : List ℕ) → AreParted old put these others → AreParted new put left others
+
+-- no record has the key
+abbrev pub NoneOfKey : Cells → List ℕ → Type 0
+NoneOfKey cells key = (c : ℕ) (e : Linked) → cells c ≡ Some e → e.change.key ≡ key → ⊥
+
+-- the cell has the newest record of the key
+pub record IsHeadOf (cells : Cells) (key : List ℕ) (c : ℕ) : Type 0 where
+  pub newest : IsNewest cells c
+  pub of_key : IsOfKey cells key c
+
+-- how many keys the index has
+abbrev pub key_count : Heads → ℕ
+key_count index = length index.live + length index.dead
 
 -- the record at a place has the key
 pub record IsAt (cells : Cells) (heads : List ℕ) (key : List ℕ) (i : ℕ) : Type 0 where

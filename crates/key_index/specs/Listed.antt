@@ -23,7 +23,7 @@ empty_places items = sum_by empty_cell items
 
 -- A list with its index, of which no record has a later revision than its places allow: they begin with
 -- revision 2.
-pub record IsIndexedList (items : List (Option Record)) (heads : List ℕ) : Type 0 where
-  pub index : IsIndexOf (listed_cells items) heads
+pub record IsIndexedList (items : List (Option Record)) (live dead : List ℕ) : Type 0 where
+  pub index : IsIndexOf (listed_cells items) live dead
   pub chained : IsChained (listed_cells items)
   pub numbered : (c : ℕ) (e : Linked) → listed_cells items c ≡ Some e → e.change.revision < length items + 2

@@ -3,8 +3,8 @@ ghost use Rattle.std.specs.Prelude.{◌≡◌, ℕ, ◌+◌, ◌-◌, ◌<◌, �
 ghost use Rattle.std.specs.Prelude.{Option, Some, None, IsSome, is_some, true, false, ◌⊎◌};
 ghost use Rattle.chunk_list.specs.Chunked.{IsPlace, position_of};
 ghost use Rattle.key_index.specs.Links.{Linked, IsChained, IsNewest, with_link, without};
-ghost use Rattle.key_index.specs.Index.{IsIndexOf};
-ghost use Rattle.key_index.specs.Compaction.{CutsAt, DropsUpTo, GivesBack, IsCompacted, IsCompactedAt};
+ghost use Rattle.key_index.specs.Index.{AreNewest, StayParted};
+ghost use Rattle.key_index.specs.Compaction.{AreDone, CutsAt, DropsUpTo, GivesBack, IsCompactedAt};
 ghost use Rattle.key_index.specs.Compaction.{KeptAsDefined, Remains};
 
 use crate::records::{Records, RecordsMut};
@@ -23,22 +23,41 @@ struct CutPlace {
     first: Option<CellNo>,
 }
 
-/// Compacts the chain of each head at a revision, and moves those of which any is left to the front, up to a
-/// place.
-pub(crate) fn cut_chains<R: RecordsMut>(
+/// Compacts the chains of the heads of a list at a revision, and takes away the places of those of which none
+/// is left.
+pub(crate) fn cut_heads<R: RecordsMut>(
     heads: &mut ChunkList<CellNo>,
     records: &mut R,
     revision: u64,
-) -> Place
+)
     requires chained { IsChained (R.cells records.old) }
-    requires index { IsIndexOf (R.cells records.old) heads.old.items }
+    requires newest { AreNewest (R.cells records.old) heads.old.items }
+
+    ensures room { heads.new.room ≡ heads.old.room }
+    ensures parted { StayParted (R.cells records.old) heads.old.items (R.cells records.new) heads.new.items }
+    ensures chained { IsChained (R.cells records.new) }
+    ensures done { AreDone (R.cells records.old) (R.cells records.new)
+        heads.old.items revision (length heads.old.items) }
+    ensures free { GivesBack R.cost (R.cells records.old) (R.cells records.new)
+        (R.free records.old) (R.free records.new) }
+    ensures rest { R.same_rest records.old records.new }
+{
+    let left = cut_chains(heads, records, revision);
+    heads.truncate(left);
+}
+
+/// The same, but that the heads of which any is left are moved to the front, up to a place.
+fn cut_chains<R: RecordsMut>(heads: &mut ChunkList<CellNo>, records: &mut R, revision: u64) -> Place
+    requires chained { IsChained (R.cells records.old) }
+    requires newest { AreNewest (R.cells records.old) heads.old.items }
 
     ensures place { IsPlace heads.new.sizes result }
-    ensures within { position_of heads.new.sizes result ≤ length heads.old.items }
     ensures room { heads.new.room ≡ heads.old.room }
-    ensures index { IsIndexOf (R.cells records.new) (take (position_of heads.new.sizes result) heads.new.items) }
+    ensures parted { StayParted (R.cells records.old) heads.old.items (R.cells records.new)
+        (take (position_of heads.new.sizes result) heads.new.items) }
     ensures chained { IsChained (R.cells records.new) }
-    ensures compacted { IsCompacted (R.cells records.old) (R.cells records.new) revision }
+    ensures done { AreDone (R.cells records.old) (R.cells records.new)
+        heads.old.items revision (length heads.old.items) }
     ensures free { GivesBack R.cost (R.cells records.old) (R.cells records.new)
         (R.free records.old) (R.free records.new) }
     ensures rest { R.same_rest records.old records.new }

@@ -3,9 +3,11 @@ ghost use Rattle.std.specs.Prelude.{◌≡◌, ◌+◌, ◌<◌, ◌≤◌, leng
 ghost use Rattle.std.specs.Prelude.{MatchOption, IfOk, IsOk, OnOk, OnErr};
 ghost use Rattle.key_index.specs.Links.{IsChained, IsLast, IsPlaced, NoneUpTo, SameChanges, without};
 ghost use Rattle.key_index.specs.Compaction.{GivesBack, IsCompacted};
-ghost use Rattle.key_index.specs.Index.{AreHeadsIn, IsIndexOf, IsSpread};
+ghost use Rattle.key_index.specs.Index.{AreHeadsIn, AreParted, IsHeadOf, IsIndexOf, IsSpread};
+ghost use Rattle.key_index.specs.Index.{NoneOfKey, is_put_of, key_count};
+ghost use Rattle.key_index.specs.Moving.{IsMoved};
 
-use crate::compaction::cut_chains;
+use crate::compaction::cut_heads;
 use crate::records::{Records, RecordsMut};
 use crate::search::{Sought, last_up_to, search};
 use crate::span::span;
@@ -14,27 +16,34 @@ use etcd_types::{CellNo, Mem};
 use std::alloc::{AllocError, Global};
 use std::marker::Model;
 
-/// The newest record of each key, by ascending key.
+/// The newest record of each key, by ascending key: those of keys that are live apart from those of keys that
+/// are deleted, so that the live ones of an interval are counted and given without a look at the others.
 #[derive(Drop)]
 pub struct KeyIndex {
-    heads: ChunkList<CellNo>,
+    live: ChunkList<CellNo>,
+    /// Its room is what the index has: `grow_rooms` makes room among the live ones first.
+    dead: ChunkList<CellNo>,
 }
 
 impl Model for KeyIndex {
+    ghost use Rattle.std.specs.Prelude.{◌≤◌};
     ghost use Rattle.key_index.specs.Index.{Heads};
 
     ghost Value = { Heads };
 
-    ghost view = { λ a. record { cells = a.heads.items; capacity = a.heads.room } };
+    ghost view = { λ a. record { live = a.live.items; dead = a.dead.items; capacity = a.dead.room } };
+
+    ghost invariant = { λ a. a.dead.room ≤ a.live.room };
 }
 
 impl KeyIndex {
     /// For this many keys at most. Only `grow_rooms` takes memory later.
     pub fn new(alloc: Global, capacity: usize) -> Result<KeyIndex, AllocError>
-        ensures { IfOk result (λ index. index ≡ record { cells = []; capacity = capacity }) }
+        ensures { IfOk result (λ index. index ≡ record { live = []; dead = []; capacity = capacity }) }
     {
         Ok(KeyIndex {
-            heads: ChunkList::new(alloc, capacity)?,
+            live: ChunkList::new(alloc, capacity)?,
+            dead: ChunkList::new(alloc, capacity)?,
         })
     }
 
@@ -45,80 +54,143 @@ impl KeyIndex {
         ensures err { OnErr result (self.new ≡ self.old) }
         ensures sure { cells ≤ self.old.capacity → IsOk result }
     {
-        self.heads.grow_room(cells as usize)
+        self.live.grow_room(cells as usize)?;
+        self.dead.grow_room(cells as usize)
     }
 
-    /// The newest records of the keys of the interval that begins at `key` and ends before `range_end`, by
-    /// ascending key. With an empty end it is the one key, and with the single byte 0 it has no end.
-    pub fn heads_in<R: Records>(
-        &self,
-        records: &R,
-        key: &[u8],
-        range_end: &[u8],
-    ) -> Walk<'_, CellNo>
-        requires { IsSpread (R.cells records.now) self.now.cells }
-        ensures { AreHeadsIn (R.cells records.now) self.now.cells key.now range_end.now result }
+    /// The newest records of the keys of an interval that are live, by ascending key. The interval begins at
+    /// `key` and ends before `range_end`. With an empty end it is the one key, and with the single byte 0 it
+    /// has no end.
+    pub fn live_in<R: Records>(&self, records: &R, key: &[u8], range_end: &[u8]) -> Walk<'_, CellNo>
+        requires { IsIndexOf (R.cells records.now) self.now.live self.now.dead }
+        ensures { AreHeadsIn (R.cells records.now) self.now.live key.now range_end.now result }
     {
-        let (from, count) = span(&self.heads, records, key, range_end);
-        self.heads.walk(from, count)
+        heads_in(&self.live, records, key, range_end)
+    }
+
+    /// The same of the keys that are deleted.
+    pub fn dead_in<R: Records>(&self, records: &R, key: &[u8], range_end: &[u8]) -> Walk<'_, CellNo>
+        requires { IsIndexOf (R.cells records.now) self.now.live self.now.dead }
+        ensures { AreHeadsIn (R.cells records.now) self.now.dead key.now range_end.now result }
+    {
+        heads_in(&self.dead, records, key, range_end)
     }
 
     /// The last change of the key at a revision at most this one.
     pub fn at<R: Records>(&self, records: &R, key: &[u8], revision: u64) -> Option<CellNo>
-        requires index { IsIndexOf (R.cells records.now) self.now.cells }
+        requires index { IsIndexOf (R.cells records.now) self.now.live self.now.dead }
         requires chained { IsChained (R.cells records.now) }
         ensures { MatchOption result (NoneUpTo (R.cells records.now) key.now revision)
             (IsLast (R.cells records.now) key.now revision) }
     {
-        match search(&self.heads, records, &Sought::Key(key)) {
-            Ok(place) => last_up_to(self.heads.get(place), records, revision),
-            Err(_) => None,
+        match self.head_of(records, key) {
+            Some(head) => last_up_to(head, records, revision),
+            None => None,
+        }
+    }
+
+    /// The newest record of a key.
+    fn head_of<R: Records>(&self, records: &R, key: &[u8]) -> Option<CellNo>
+        requires { IsIndexOf (R.cells records.now) self.now.live self.now.dead }
+        ensures { MatchOption result (NoneOfKey (R.cells records.now) key.now)
+            (IsHeadOf (R.cells records.now) key.now) }
+    {
+        match search(&self.live, records, &Sought::Key(key)) {
+            Ok(place) => Some(self.live.get(place)),
+            Err(_) => match search(&self.dead, records, &Sought::Key(key)) {
+                Ok(place) => Some(self.dead.get(place)),
+                Err(_) => None,
+            },
         }
     }
 
     /// Takes up a new record, which is newer than the others of its key.
     pub fn add<R: RecordsMut>(&mut self, records: &mut R, cell: CellNo)
-        requires capacity { length self.old.cells < self.old.capacity }
+        requires capacity { key_count self.old < self.old.capacity }
         requires placed { IsPlaced (R.cells records.old) cell }
-        requires index { IsIndexOf (without (R.cells records.old) cell) self.old.cells }
+        requires index { IsIndexOf (without (R.cells records.old) cell) self.old.live self.old.dead }
         requires chained { IsChained (without (R.cells records.old) cell) }
 
-        ensures index { IsIndexOf (R.cells records.new) self.new.cells }
+        ensures index { IsIndexOf (R.cells records.new) self.new.live self.new.dead }
         ensures chained { IsChained (R.cells records.new) }
         ensures same { SameChanges (R.cells records.old) (R.cells records.new) }
         ensures capacity { self.new.capacity ≡ self.old.capacity }
-        ensures length { length self.new.cells ≤ length self.old.cells + 1 }
+        ensures count { key_count self.new ≤ key_count self.old + 1 }
         ensures free { R.free records.new ≡ R.free records.old }
         ensures rest { R.same_rest records.old records.new }
     {
-        match search(&self.heads, records, &Sought::KeyOf(cell)) {
-            Ok(place) => {
-                let head = self.heads.get(place);
-                records.set_older(cell, Some(head));
-                self.heads.set(place, cell);
-            }
-            Err(place) => {
-                records.set_older(cell, None);
-                self.heads.insert(place, cell);
-            }
-        }
+        let older = if records.is_put(cell) {
+            move_head(&mut self.live, &mut self.dead, records, cell)
+        } else {
+            move_head(&mut self.dead, &mut self.live, records, cell)
+        };
+        records.set_older(cell, older);
     }
 
     /// Drops what a compaction at this revision doesn't keep, and the places of keys of which none is left.
     pub fn cut<R: RecordsMut>(&mut self, records: &mut R, revision: u64)
-        requires index { IsIndexOf (R.cells records.old) self.old.cells }
+        requires index { IsIndexOf (R.cells records.old) self.old.live self.old.dead }
         requires chained { IsChained (R.cells records.old) }
 
-        ensures index { IsIndexOf (R.cells records.new) self.new.cells }
+        ensures index { IsIndexOf (R.cells records.new) self.new.live self.new.dead }
         ensures chained { IsChained (R.cells records.new) }
         ensures compacted { IsCompacted (R.cells records.old) (R.cells records.new) revision }
         ensures capacity { self.new.capacity ≡ self.old.capacity }
-        ensures length { length self.new.cells ≤ length self.old.cells }
         ensures free { GivesBack R.cost (R.cells records.old) (R.cells records.new)
             (R.free records.old) (R.free records.new) }
         ensures rest { R.same_rest records.old records.new }
     {
-        let left = cut_chains(&mut self.heads, records, revision);
-        self.heads.truncate(left);
+        cut_heads(&mut self.live, records, revision);
+        cut_heads(&mut self.dead, records, revision);
+    }
+}
+
+/// The newest records of the keys of an interval among those of a list.
+fn heads_in<'a, R: Records>(
+    heads: &'a ChunkList<CellNo>,
+    records: &R,
+    key: &[u8],
+    range_end: &[u8],
+) -> Walk<'a, CellNo>
+    requires { IsSpread (R.cells records.now) heads.now.items }
+    ensures { AreHeadsIn (R.cells records.now) heads.now.items key.now range_end.now result }
+{
+    let (from, count) = span(heads, records, key, range_end);
+    heads.walk(from, count)
+}
+
+/// Makes a record the newest of its key, in the list of those that are of its kind: the one before leaves its
+/// place there, or the list of the others. Answers that one.
+fn move_head<R: Records>(
+    these: &mut ChunkList<CellNo>,
+    others: &mut ChunkList<CellNo>,
+    records: &R,
+    cell: CellNo,
+) -> Option<CellNo>
+    requires room { length these.old.items < these.old.room }
+    requires placed { IsPlaced (R.cells records.now) cell }
+    requires parted { AreParted (without (R.cells records.now) cell)
+        (is_put_of (R.cells records.now cell)) these.old.items others.old.items }
+    requires chained { IsChained (without (R.cells records.now) cell) }
+    ensures moved { IsMoved (R.cells records.now) cell result these.new.items others.new.items }
+    ensures count { length these.new.items + length others.new.items
+        ≤ length these.old.items + length others.old.items + 1 }
+    ensures these_room { these.new.room ≡ these.old.room }
+    ensures others_room { others.new.room ≡ others.old.room }
+{
+    let sought = Sought::KeyOf(cell);
+    match search(these, records, &sought) {
+        Ok(place) => {
+            let head = these.get(place);
+            these.set(place, cell);
+            Some(head)
+        }
+        Err(place) => {
+            these.insert(place, cell);
+            match search(others, records, &sought) {
+                Ok(place) => Some(others.remove(place)),
+                Err(_) => None,
+            }
+        }
     }
 }

@@ -9,6 +9,8 @@ pub mod Counted
 pub mod Logged
 pub mod ReadingCells
 pub mod ReadingRows
+pub mod NewestRows
+pub mod Merged
 pub mod ComparingReads
 pub mod Costs
 pub mod Walked

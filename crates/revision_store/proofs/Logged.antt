@@ -1,5 +1,5 @@
 -- A log with nothing, with one change more, and with one lease more or fewer.
-use Rattle.std.proofs.Common.{◌≡◌, ℕ, ◌+◌, ◌%◌, ◌^◌, ◌<◌, ◌≤◌, List, [], ◌∷◌, ◌++◌, length, Option, Some, None, IsSome, sym, ap, ◌∙◌, refl, subst, arith, inl, inr}
+use Rattle.std.proofs.Common.{◌≡◌, ℕ, ◌+◌, ◌%◌, ◌^◌, ◌<◌, ◌≤◌, List, [], ◌∷◌, ◌++◌, length, Option, Some, None, IsSome, true, sym, ap, ◌∙◌, refl, subst, arith, inl, inr}
 use Rattle.std.proofs.Math.Nat.{le_refl}
 use Rattle.std.specs.Prelude.{option_and_then, option_map}
 use Rattle.std.specs.Ordering.{nat_cmp}
@@ -16,10 +16,10 @@ use Rattle.etcd_model.specs.Changes.{Recorded, Rises, change_by, change_of}
 use Rattle.etcd_model.specs.Kept.{cost}
 use Rattle.etcd_model.specs.Store.{record_cells}
 use Rattle.key_index.specs.Links.{Cells, Linked, IsChained, IsPlaced, SameChanges, change_at, without}
-use Rattle.key_index.specs.Index.{Heads, IsIndexOf}
+use Rattle.key_index.specs.Index.{Heads, IsIndexOf, key_count}
 use Rattle.key_index.specs.Order.{AreAll, changes_in, with_record}
 use Rattle.key_index.proofs.Links.{if_other}
-use Rattle.key_index.proofs.Order.{changes_some, heads_few, which}
+use Rattle.key_index.proofs.Order.{changes_some, parted_few, which}
 use Rattle.key_index.proofs.OrderAdded.{changes_added, all_added, in_order_added, each_record, without_record, placed_record}
 use Rattle.revision_store.specs.Recorded.{LeaseRecord, cells_of, linked_of, lease_by, leases_of, with_lease_cell, without_lease_cell, AreCounted, ArePlain}
 use Rattle.revision_store.specs.Logged.{IsLog, AllStay}
@@ -43,12 +43,17 @@ no_lease : (c : ℕ) → leases_of map.empty c ≡ None
 no_lease c = ap (option_and_then (λ (r : Record). lease_by r.kind r)) (get-empty nat_cmp c)
 
 pub empty_is_log : (cells room places : ℕ) → cells % 64 ≡ 0 → cells ≤ 2 ^ 20 → cells ≤ room → cells ≤ places
-    → IsLog (no_records cells) (record { cells = []; capacity = room }) [] places 0
+    → IsLog (no_records cells) (record { live = []; dead = []; capacity = room }) [] places 0
 empty_is_log cells room places whole few has_room has_places = record {
   index = record {
-    newest = λ i lt. absurd (omega (arith, lt));
-    sorted = λ i j e f below lt. absurd (omega (arith, lt));
-    whole = λ c e at. absurd (no_linked c e at);
+    heads = [];
+    are = record {
+      newest = λ i lt. absurd (omega (arith, lt));
+      sorted = λ i j e f below lt. absurd (omega (arith, lt));
+      whole = λ c e at. absurd (no_linked c e at);
+    };
+    these_are = refl;
+    others_are = refl;
   };
   chained = record {
     linked = λ c d e at. absurd (no_linked c e at);
@@ -118,14 +123,14 @@ module _ {r0 : RegionState} (r1 : RegionState) {heads0 : Heads} {order : List �
   pub order_fits : length order < places
   order_fits = omega (arith, order_few (cells_of r0.records) order log.all.some, some_cells new_change, free1, log.space, log.reserved, log.order_capacity)
 
-  pub heads_fit : length heads0.cells < heads0.capacity
-  heads_fit = omega (arith, heads_few (cells_of r0.records) heads0.cells order log.index log.all, order_few (cells_of r0.records) order log.all.some, some_cells new_change, free1, log.space, log.reserved, log.index_capacity)
+  pub heads_fit : key_count heads0 < heads0.capacity
+  heads_fit = omega (arith, parted_few (cells_of r0.records) true heads0.live heads0.dead order log.index log.all, order_few (cells_of r0.records) order log.all.some, some_cells new_change, free1, log.space, log.reserved, log.index_capacity)
 
   was_there : without (cells_of r1.records) c ≡ cells_of r0.records
   was_there = ap (λ (m : Cells). without m c) placed ∙ without_record (cells_of r0.records) c new_linked fresh_cell
 
-  pub index_before : IsIndexOf (without (cells_of r1.records) c) heads0.cells
-  index_before = subst (λ (m : Cells). IsIndexOf m heads0.cells) (sym was_there) log.index
+  pub index_before : IsIndexOf (without (cells_of r1.records) c) heads0.live heads0.dead
+  index_before = subst (λ (m : Cells). IsIndexOf m heads0.live heads0.dead) (sym was_there) log.index
 
   pub chained_before : IsChained (without (cells_of r1.records) c)
   chained_before = subst IsChained (sym was_there) log.chained
@@ -153,7 +158,7 @@ module _ {r0 : RegionState} (r1 : RegionState) {heads0 : Heads} {order : List �
     ]
 
     pub log_more : (heads2 : Heads) → AllByRecursion (λ x. x.revision ≤ revision) (changes_in (cells_of r0.records) order)
-        → IsIndexOf (cells_of r2.records) heads2.cells → IsChained (cells_of r2.records) → heads2.capacity ≡ heads0.capacity
+        → IsIndexOf (cells_of r2.records) heads2.live heads2.dead → IsChained (cells_of r2.records) → heads2.capacity ≡ heads0.capacity
         → leases_of r2.records ≡ leases_of r0.records → ArePlain r2.records → r2.free ≡ r1.free → r2.share.reserved ≡ r0.share.reserved → r2.share.rooms ≡ r0.share.rooms
         → IsLog r2 heads2 (order ++ c ∷ []) places leases
     log_more heads2 up index chained room same_leases plain same_free reserved rooms =
@@ -182,7 +187,7 @@ module _ {r0 : RegionState} (r1 : RegionState) {heads : Heads} {order : List ℕ
   with_counted now counted space =
       let same : record_cells (changes_in (cells_of r1.records) order) ≡ record_cells (changes_in (cells_of r0.records) order) = ap (λ (m : Cells). record_cells (changes_in m order)) cells in
       record {
-        index = subst (λ (m : Cells). IsIndexOf m heads.cells) (sym cells) log.index;
+        index = subst (λ (m : Cells). IsIndexOf m heads.live heads.dead) (sym cells) log.index;
         chained = subst IsChained (sym cells) log.chained;
         all = subst (λ (m : Cells). AreAll m order) (sym cells) log.all;
         rises = subst (λ (m : Cells). Rises (changes_in m order)) (sym cells) log.rises;

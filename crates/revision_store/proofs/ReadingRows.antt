@@ -1,8 +1,6 @@
 -- The rows of an interval, of the heads of its span.
 use Rattle.std.proofs.Common.{◌≡◌, ℕ, zero, suc, ◌+◌, ◌-◌, ◌<◌, ◌≤◌, List, [], ◌∷◌, ◌++◌, length, get_or, take, drop, map, Option, Some, None, IsSome, IfSome, Bool, true, false, refl, sym, ap, ◌∙◌, subst, append_assoc, arith}
 use Rattle.std.specs.Prelude.{◌↔◌, cond, filter, filter_map, option_map, option_and_then, unwrap_or}
-use Rattle.std.specs.Ordering.{nat_cmp}
-use Rattle.std.specs.FinMap.{FinMap}
 use Rattle.std.specs.List.{AllByRecursion, cons_option, list_any}
 use Rattle.std.specs.List.Sorted.{IsStrictlySortedBy}
 use Rattle.std.specs.Option.{option_to_list}
@@ -10,9 +8,7 @@ use Rattle.std.specs.Str.{bytes_eq}
 use Rattle.std.specs.Cmp.Lexicographic.{bytes_decides}
 use Rattle.std.specs.declared.cmp.Ordering.TheVariants.{Less}
 use Rattle.std.proofs.lemmas.Bool.{false_from_ne_true, or_parts}
-use Rattle.std.proofs.lemmas.List.{append-nil, get_or-drop, get_or-take, length-drop, length-take, map-append}
-use Rattle.cell_arena.specs.Chain.{Record}
-use Rattle.cell_arena.specs.Region.{RegionState}
+use Rattle.std.proofs.lemmas.List.{append-nil, get_or-drop, get_or-take, length-drop, length-take, map-append, map-id}
 use Rattle.etcd_types.specs.declared.key_value.KeyValue.{KeyValue}
 use Rattle.etcd_model.specs.Order.{key_cmp}
 use Rattle.etcd_model.specs.Interval.{is_in, every_key}
@@ -20,15 +16,13 @@ use Rattle.etcd_model.specs.Changes.{Recorded, OwnRow, live, rows}
 use Rattle.etcd_model.proofs.RowLaws.{filter-rows, find-rows, sorted-rows}
 use Rattle.model_laws.proofs.RowLaws.{live-key, row_found, rows_by_their_keys, rows_inside, rows_rise}
 use Rattle.key_index.specs.Links.{Cells, Linked, IsNewest, IsOfKey}
-use Rattle.key_index.specs.Index.{AreHeadsIn, Heads, IsIndexOf, IsSpan}
+use Rattle.key_index.specs.Index.{AreHeads, AreHeadsIn, AreNewest}
 use Rattle.key_index.specs.Order.{changes_in}
 use Rattle.key_index.proofs.Order.{none_in_order}
 use Rattle.key_index.proofs.OrderAdded.{each_change}
-use Rattle.revision_store.specs.Recorded.{cells_of}
-use Rattle.revision_store.specs.Logged.{IsLog}
+use Rattle.key_index.proofs.Parted.{all_are_newest}
 use Rattle.revision_store.specs.Plans.{key_at}
 use Rattle.revision_store.specs.Stored.{row_at}
-use Rattle.revision_store.proofs.ReadingCells.{own_rows}
 
 -- ---- the rows that heads show
 
@@ -103,32 +97,64 @@ filter_span p f (h ∷ hs) (suc from) n within exact =
 
 -- ---- the rows of an interval
 
-key_is : (cells : Cells) (c : ℕ) (e : Linked) → cells c ≡ Some e → key_at cells c ≡ e.change.key
+pub key_is : (cells : Cells) (c : ℕ) (e : Linked) → cells c ≡ Some e → key_at cells c ≡ e.change.key
 key_is cells c e at = ap (λ (o : Option Linked). unwrap_or (option_map (λ (x : Recorded). x.key) (option_map (λ (y : Linked). y.change) o)) []) at
 
 -- the newest record of a key has it
 pub head_key : (cells : Cells) (head : ℕ) → IsNewest cells head → IsOfKey cells (key_at cells head) head
 head_key cells head newest = (newest.0, newest.1, sym (key_is cells head newest.0 newest.1))
 
-newest_in : (cells : Cells) (heads : List ℕ) (from n i : ℕ) → IsIndexOf cells heads → i < length (take n (drop from heads)) → IsNewest cells (get_or (take n (drop from heads)) i 0)
-newest_in cells heads from n i index lt =
+newest_in : (cells : Cells) (heads : List ℕ) (from n i : ℕ) → AreNewest cells heads → i < length (take n (drop from heads)) → IsNewest cells (get_or (take n (drop from heads)) i 0)
+newest_in cells heads from n i are lt =
     let long = length-take n (drop from heads) in
     let rest = length-drop from heads in
     let here : i < n = omega (arith, lt, long) in
     let within : from + i < length heads = omega (arith, lt, long, rest) in
-    subst (IsNewest cells) (sym (get_or-take n (drop from heads) i 0 here ∙ get_or-drop from heads i 0)) (index.newest (from + i) within)
+    subst (IsNewest cells) (sym (get_or-take n (drop from heads) i 0 here ∙ get_or-drop from heads i 0)) (are.newest (from + i) within)
 
 -- each head of an interval is the newest record of its key
-pub all_newest : (cells : Cells) (heads key end some : List ℕ) → IsIndexOf cells heads → AreHeadsIn cells heads key end some → AllByRecursion (IsNewest cells) some
-all_newest cells heads key end some index all =
-    subst (AllByRecursion (IsNewest cells)) (sym all.are) (all_from_places (IsNewest cells) (take (all.to - all.from) (drop all.from heads)) (λ i lt. newest_in cells heads all.from (all.to - all.from) i index lt))
+pub all_newest : (cells : Cells) (heads key end some : List ℕ) → AreNewest cells heads → AreHeadsIn cells heads key end some → AllByRecursion (IsNewest cells) some
+all_newest cells heads key end some are all =
+    subst (AllByRecursion (IsNewest cells)) (sym all.are) (all_from_places (IsNewest cells) (take (all.to - all.from) (drop all.from heads)) (λ i lt. newest_in cells heads all.from (all.to - all.from) i are lt))
 
-module _ (cells : Cells) (heads order : List ℕ) (index : IsIndexOf cells heads) (own : (c : ℕ) (e : Linked) → cells c ≡ Some e → OwnRow e.change) (r : ℕ) where
+-- the key of a head lies in the interval
+abbrev pub lies_inside : Cells → List ℕ → List ℕ → ℕ → Bool
+lies_inside cells key end c = is_in key end (key_at cells c)
+
+filter-map : (p : List ℕ → Bool) (f : ℕ → List ℕ) (hs : List ℕ) → filter p (map f hs) ≡ map f (filter (λ c. p (f c)) hs)
+filter-map p f [] = refl
+filter-map p f (h ∷ hs) = by (p (f h)) (filter-map p f hs)
+  where
+    by : (b : Bool) → filter p (map f hs) ≡ map f (filter (λ c. p (f c)) hs) → cond b (f h ∷ filter p (map f hs)) (filter p (map f hs)) ≡ map f (cond b (h ∷ filter (λ c. p (f c)) hs) (filter (λ c. p (f c)) hs))
+    by true rest = ap (λ ks. f h ∷ ks) rest
+    by false rest = rest
+
+-- the heads of an interval are those whose keys lie in it
+pub heads_inside : (cells : Cells) (heads key end some : List ℕ) → AreNewest cells heads → AreHeadsIn cells heads key end some → some ≡ filter (lies_inside cells key end) heads
+heads_inside cells heads key end some are all =
+    all.are
+    ∙ sym (map-id (take (all.to - all.from) (drop all.from heads)))
+    ∙ sym (filter_span (lies_inside cells key end) (λ (c : ℕ). c) heads all.from (all.to - all.from) (omega (arith, all.span.ordered, all.span.in_range)) (λ i lt. (
+    let n = are.newest i lt in
+    let is = key_is cells (get_or heads i 0) n.0 n.1 in
+    let q = all.span.exact i n.0 lt n.1 in (
+      λ inside. ap (is_in key end) is ∙ q.0 (inside.0, omega (arith, inside.1, all.span.ordered)),
+      λ t. (let w = q.1 (sym (ap (is_in key end) is) ∙ t) in (w.0, omega (arith, w.1))),
+    ))))
+    ∙ ap (filter (lies_inside cells key end)) (map-id heads)
+
+-- ---- the rows of an interval, by the heads of the keys that show any
+
+module _ (cells : Cells) (heads order : List ℕ) (are : AreNewest cells heads) (own : (c : ℕ) (e : Linked) → cells c ≡ Some e → OwnRow e.change) (r : ℕ) where
   abbrev look : List ℕ → Option KeyValue
   look key = live key r (changes_in cells order)
 
   abbrev head_keys : List (List ℕ)
   head_keys = map (key_at cells) heads
+
+  -- a key that no head has shows nothing
+  abbrev pub ShowAll : Type 0
+  ShowAll = (key : List ℕ) → list_any (λ (k : List ℕ). bytes_eq k key) head_keys ≡ false → look key ≡ None
 
   owned : AllByRecursion OwnRow (changes_in cells order)
   owned = each_change OwnRow cells order own
@@ -138,45 +164,35 @@ module _ (cells : Cells) (heads order : List ℕ) (index : IsIndexOf cells heads
 
   keys_rise : IsStrictlySortedBy key_cmp head_keys
   keys_rise = sorted_from (key_at cells) heads (λ i j below lt. (
-      let n = index.newest i (omega arith) in
-      let m = index.newest j lt in
+      let n = are.newest i (omega arith) in
+      let m = are.newest j lt in
       ap (λ (k : List ℕ). key_cmp k (key_at cells (get_or heads j 0))) (key_is cells (get_or heads i 0) n.0 n.1)
       ∙ ap (key_cmp n.0.change.key) (key_is cells (get_or heads j 0) m.0 m.1)
-      ∙ index.sorted i j n.0 m.0 below lt n.1 m.1))
+      ∙ are.sorted i j n.0 m.0 below lt n.1 m.1))
 
-  -- a key that no head has shows nothing
-  absent : (key : List ℕ) → list_any (λ (k : List ℕ). bytes_eq k key) head_keys ≡ false → look key ≡ None
-  absent key none = ap (option_and_then (λ (x : Recorded). x.row)) (none_in_order cells order key r (λ c e at is. (
-      let w = index.whole c e at in
-      let of : key_at cells (get_or heads w.0 0) ≡ key = key_is cells (get_or heads w.0 0) w.2.0 w.2.1 ∙ w.2.2 ∙ is in
-      let yes : bytes_eq (key_at cells (get_or heads w.0 0)) key ≡ true = (bytes_decides (key_at cells (get_or heads w.0 0)) key).1 of in
-      let no : bytes_eq (key_at cells (get_or heads w.0 0)) key ≡ false = none_from (λ (k : List ℕ). bytes_eq k key) (key_at cells) heads none w.0 w.1 in
-      let bad : ⊥ = cc in absurd bad)))
+  -- no head has the key that is looked for
+  pub other_head : (key : List ℕ) → list_any (λ (k : List ℕ). bytes_eq k key) head_keys ≡ false → (i : ℕ) (e : Linked) → i < length heads → cells (get_or heads i 0) ≡ Some e → e.change.key ≡ key → ⊥
+  other_head key none i e lt at is =
+      let of : key_at cells (get_or heads i 0) ≡ key = key_is cells (get_or heads i 0) e at ∙ is in
+      let has : bytes_eq (key_at cells (get_or heads i 0)) key ≡ true = (bytes_decides (key_at cells (get_or heads i 0)) key).1 of in
+      let other : bytes_eq (key_at cells (get_or heads i 0)) key ≡ false = none_from (λ (k : List ℕ). bytes_eq k key) (key_at cells) heads none i lt in
+      cc
 
-  all_rows : rows every_key r (changes_in cells order) ≡ shown look cells heads
-  all_rows = rows_by_their_keys (rows every_key r (changes_in cells order)) (shown look cells heads) (rows_rise (changes_in cells order) owned r every_key) (sorted-rows look own_look head_keys keys_rise)
+  all_rows : ShowAll → rows every_key r (changes_in cells order) ≡ shown look cells heads
+  all_rows absent = rows_by_their_keys (rows every_key r (changes_in cells order)) (shown look cells heads) (rows_rise (changes_in cells order) owned r every_key) (sorted-rows look own_look head_keys keys_rise)
       (λ key. row_found (changes_in cells order) owned r key ∙ sym (find-rows look own_look key head_keys keys_rise (absent key)))
 
-  -- what the heads of a span show are the rows of its interval
-  pub rows_of_span : (key end : List ℕ) (from to : ℕ) → IsSpan cells heads key end from to → shown look cells (take (to - from) (drop from heads)) ≡ rows (is_in key end) r (changes_in cells order)
-  rows_of_span key end from to span =
-      ap (filter_map look) (sym (filter_span (is_in key end) (key_at cells) heads from (to - from) (omega (arith, span.ordered, span.in_range)) (λ i lt. (
-      let n = index.newest i lt in
-      let is = key_is cells (get_or heads i 0) n.0 n.1 in
-      let q = span.exact i n.0 lt n.1 in (
-        λ inside. ap (is_in key end) is ∙ q.0 (inside.0, omega (arith, inside.1, span.ordered)),
-        λ t. (let w = q.1 (sym (ap (is_in key end) is) ∙ t) in (w.0, omega (arith, w.1))),
-      )))))
+  -- what the heads inside an interval show are its rows
+  pub rows_inside_heads : ShowAll → (key end : List ℕ) → shown look cells (filter (lies_inside cells key end) heads) ≡ rows (is_in key end) r (changes_in cells order)
+  rows_inside_heads absent key end =
+      ap (filter_map look) (sym (filter-map (is_in key end) (key_at cells) heads))
       ∙ sym (filter-rows look own_look (is_in key end) head_keys)
-      ∙ ap (filter (λ (row : KeyValue). is_in key end row.key)) (sym all_rows)
+      ∙ ap (filter (λ (row : KeyValue). is_in key end row.key)) (sym (all_rows absent))
       ∙ sym (rows_inside (changes_in cells order) owned r (is_in key end))
 
--- what the heads of an interval show are its rows, in a log
-pub log_shown : (region : RegionState) (heads : Heads) (order : List ℕ) (places leases : ℕ) (records : FinMap nat_cmp Record) (changes : List Recorded) (key end : List ℕ) (r : ℕ) (some : List ℕ) → IsLog region heads order places leases → region.records ≡ records → changes_in (cells_of region.records) order ≡ changes
-    → AreHeadsIn (cells_of records) heads.cells key end some → shown (λ k. live k r changes) (cells_of records) some ≡ rows (is_in key end) r changes
-log_shown region heads order places leases records changes key end r some log same is all =
-    ap (shown (λ k. live k r changes) (cells_of records)) all.are
-    ∙ subst (λ (m : FinMap nat_cmp Record). IsSpan (cells_of m) heads.cells key end all.from all.to → shown (λ k. live k r changes) (cells_of m) (take (all.to - all.from) (drop all.from heads.cells)) ≡ rows (is_in key end) r changes) same
-    (subst (λ (xs : List Recorded). IsSpan (cells_of region.records) heads.cells key end all.from all.to → shown (λ k. live k r xs) (cells_of region.records) (take (all.to - all.from) (drop all.from heads.cells)) ≡ rows (is_in key end) r xs) is
-    (λ own. rows_of_span (cells_of region.records) heads.cells order log.index (own_rows region.records) r key end all.from all.to own))
-    all.span
+-- all heads show all rows, at any revision
+pub all_heads_show : (cells : Cells) (heads order : List ℕ) (are : AreHeads cells heads) (own : (c : ℕ) (e : Linked) → cells c ≡ Some e → OwnRow e.change) (r : ℕ) → ShowAll cells heads order (all_are_newest cells heads are) own r
+all_heads_show cells heads order are own r key none =
+    ap (option_and_then (λ (x : Recorded). x.row)) (none_in_order cells order key r (λ c e at is. (
+    let w = are.whole c e at in
+    absurd (other_head cells heads order (all_are_newest cells heads are) own r key none w.0 w.2.0 w.1 w.2.1 (w.2.2 ∙ is)))))

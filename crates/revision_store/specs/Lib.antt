@@ -9,3 +9,4 @@ pub mod Answering
 pub mod Pending
 pub mod Ranging
 pub mod Comparing
+pub mod Merging

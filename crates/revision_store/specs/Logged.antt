@@ -55,7 +55,7 @@ empty_log cells = log_of (no_records cells) [] 0
 -- index, links, order and capacities agree with the records, and each cell in use is of a change or a lease
 pub record IsLog (region : RegionState) (heads : Heads) (order : List ℕ) (places lease_cells : ℕ) :
     Type 0 where
-  pub index : IsIndexOf (cells_of region.records) heads.cells
+  pub index : IsIndexOf (cells_of region.records) heads.live heads.dead
   pub chained : IsChained (cells_of region.records)
   pub all : AreAll (cells_of region.records) order
   pub rises : Rises (changes_in (cells_of region.records) order)

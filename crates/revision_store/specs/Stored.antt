@@ -11,7 +11,8 @@ use Rattle.cell_arena.specs.Loan.{Share, share_code, with_reserved, with_rooms}
 use Rattle.etcd_types.specs.declared.key_value.KeyValue.{KeyValue}
 use Rattle.etcd_model.specs.declared.state.Change.{Change}
 use Rattle.etcd_model.specs.Reads.{Reads}
-use Rattle.etcd_model.specs.Changes.{Recorded, live, next_row}
+use Rattle.etcd_model.specs.Changes.{Recorded, live, next_row, rows}
+use Rattle.etcd_model.specs.Interval.{is_in}
 use Rattle.etcd_model.specs.Store.{Store, after, kept_store, reads_of}
 use Rattle.model_laws.specs.Apart.{AreApart}
 use Rattle.model_laws.specs.Once.{IsOnce}
@@ -85,6 +86,11 @@ look store pending = kept_store.look store.kept pending
 -- the row under a cell, if its change is a put
 abbrev pub row_at : Cells → ℕ → Option KeyValue
 row_at cells c = option_and_then (λ x. x.row) (change_at cells c)
+
+-- some cells are those of the rows of an interval at a revision
+abbrev pub ShowRows : Cells → List Recorded → List ℕ → List ℕ → ℕ → List ℕ → Type 0
+ShowRows cells changes key end revision cs =
+    map (row_at cells) cs ≡ map Some (rows (is_in key end) revision changes)
 
 -- each row that its key shows at a revision stays under its cell
 abbrev pub RowsStay : Cells → Cells → ℕ → List Recorded → Type 0

@@ -1,17 +1,14 @@
 //! Compares of a transaction, over the rows where they lie.
-ghost use Rattle.std.specs.Prelude.{◌≡◌, ℕ, pos, IsSome, IfSome};
-ghost use Rattle.std.specs.List.{AllByRecursion};
+ghost use Rattle.std.specs.Prelude.{◌≡◌, pos, IsSome, IfSome};
 ghost use Rattle.std.specs.Ordering.{int_cmp};
-ghost use Rattle.etcd_model.specs.Changes.{rows};
 ghost use Rattle.etcd_model.specs.Compares.{holds, holds_of, is_met, is_met_by_none, operand_cmp};
-ghost use Rattle.etcd_model.specs.Interval.{is_in};
-ghost use Rattle.key_index.specs.Links.{IsNewest};
-ghost use Rattle.revision_store.specs.Comparing.{meets, rows_shown};
+ghost use Rattle.revision_store.specs.Comparing.{meets};
+ghost use Rattle.revision_store.specs.Pending.{AreRows};
+ghost use Rattle.revision_store.specs.Ranging.{rows_of};
 ghost use Rattle.revision_store.specs.Recorded.{cells_of};
 ghost use Rattle.revision_store.specs.Stored.{reads, row_at};
 
 use crate::log::Log;
-use crate::records::Reader;
 use crate::store::Store;
 use chunk_list::Walk;
 use etcd_types::{CellNo, Compare, CompareResult, Operand};
@@ -22,39 +19,24 @@ use std::cmp::Ordering;
 pub fn holds(store: &Store, compare: &Compare) -> bool
     ensures { result ≡ holds (reads store.now) compare.now }
 {
-    let heads = store
+    let cells = store
         .log
-        .heads_in(compare.key.as_slice(), compare.range_end.as_slice());
-    store.log.holds_of(heads, compare, store.current())
+        .newest_cells(compare.key.as_slice(), compare.range_end.as_slice());
+    store.log.holds_of(cells, compare)
 }
 
 impl Log {
-    /// The newest changes of the keys of an interval.
-    fn heads_in(&self, key: &[u8], range_end: &[u8]) -> Walk<'_, CellNo>
-        ensures newest { AllByRecursion (IsNewest (cells_of self.now.records)) result }
-        ensures rows { (revision : ℕ)
-            → rows_shown (cells_of self.now.records) revision self.now.changes result
-            ≡ rows (is_in key.now range_end.now) revision self.now.changes }
-    {
-        self.index
-            .heads_in(&Reader::new(&self.region), key, range_end)
-    }
-
-    /// Whether a compare holds of the rows that some keys show at a revision, by the newest changes of those.
-    fn holds_of(&self, heads: Walk<'_, CellNo>, compare: &Compare, revision: u64) -> bool
-        requires { AllByRecursion (IsNewest (cells_of self.now.records)) heads }
-        ensures { result
-            ≡ holds_of compare.now
-            (rows_shown (cells_of self.now.records) revision self.now.changes heads.entry) }
+    /// Whether a compare holds of the rows under some cells.
+    fn holds_of(&self, cells: Walk<'_, CellNo>, compare: &Compare) -> bool
+        requires { AreRows (cells_of self.now.records) cells }
+        ensures { result ≡ holds_of compare.now (rows_of (cells_of self.now.records) cells.entry) }
     {
         let mut any = false;
-        for head in heads {
-            if let Some(cell) = self.live_of(head, revision) {
-                if !self.meets(cell, compare) {
-                    return false;
-                }
-                any = true;
+        for cell in cells {
+            if !self.meets(cell, compare) {
+                return false;
             }
+            any = true;
         }
         any || is_met_by_none(compare.wanted, &compare.operand)
     }

@@ -20,12 +20,12 @@ pub(crate) fn cut<S: Segments>(
     index: &mut KeyIndex,
     revision: u64,
 )
-    requires index { IsIndexOf (cells_of region.old.records) index.old.cells }
+    requires index { IsIndexOf (cells_of region.old.records) index.old.live index.old.dead }
     requires chained { IsChained (cells_of region.old.records) }
     requires plain { ArePlain region.old.records }
     requires lent { IsLent region.old.share (S.loan segments.old) }
 
-    ensures index { IsIndexOf (cells_of region.new.records) index.new.cells }
+    ensures index { IsIndexOf (cells_of region.new.records) index.new.live index.new.dead }
     ensures chained { IsChained (cells_of region.new.records) }
     ensures compacted { IsCompacted (cells_of region.old.records) (cells_of region.new.records) revision }
     ensures capacity { index.new.capacity ≡ index.old.capacity }

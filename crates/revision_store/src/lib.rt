@@ -5,6 +5,7 @@ mod answering;
 mod changes;
 mod comparing;
 mod cutting;
+mod heads;
 mod keys;
 mod log;
 mod pending;

@@ -14,7 +14,7 @@ ghost use Rattle.std.specs.Option.{option_copied};
 use crate::pending_deletes::{left_cells, push_deletes};
 use crate::pending_puts::{put_rows, puts_in};
 use crate::plan::{Plan, Write};
-use crate::ranging::{range_reply, rows_reply};
+use crate::ranging::{range_reply, rows_reply, walked_reply};
 use crate::rows::{rows_asked, rows_under};
 use crate::store::Store;
 use etcd_types::{CellNo, CopyOf, DeleteReq, KeyValue, List, Mem, OpReply, PutReq, RangeReq};
@@ -78,9 +78,7 @@ impl<'a> Pending<'a> {
         ensures { IfOk result (λ found. found.items ≡ (pending_reads self.now).rows key.now range_end.now) }
     {
         let store = self.store;
-        let live = store
-            .log
-            .live_cells(alloc, key, range_end, store.current())?;
+        let live = store.log.newest_list(alloc, key, range_end)?;
         let left = left_cells(alloc, &store.log, live, &self.deletes)?;
         let mut rows = rows_under(alloc, &store.log, &left)?;
         put_rows(alloc, &mut rows, &self.writes, &self.puts, key, range_end)?;
@@ -106,6 +104,10 @@ impl<'a> Pending<'a> {
             return rows_reply(alloc, request, rows, self.current());
         }
         let store = self.store;
+        if self.deletes.is_empty() {
+            let cells = store.log.newest_cells(key, range_end);
+            return walked_reply(alloc, &store.log, request, cells, self.current());
+        }
         let cells = self.live_cells(alloc, key, range_end)?;
         range_reply(alloc, &store.log, request, cells, self.current())
     }
@@ -167,9 +169,7 @@ impl<'a> Pending<'a> {
             ≡ map Some ((pending_reads self.now).rows key.now range_end.now)) }
     {
         let store = self.store;
-        let live = store
-            .log
-            .live_cells(alloc, key, range_end, store.current())?;
+        let live = store.log.newest_list(alloc, key, range_end)?;
         left_cells(alloc, &store.log, live, &self.deletes)
     }
 

@@ -1,5 +1,5 @@
 //! The answer of a range.
-ghost use Rattle.std.specs.Prelude.{◌≡◌, ◌<◌, ◌^◌, filter, map, pos, true, None, Some, IsSome, is_some};
+ghost use Rattle.std.specs.Prelude.{◌≡◌, ◌<◌, ◌^◌, filter, map, pos, true, false, None, Some, IsSome, is_some};
 ghost use Rattle.std.specs.Prelude.{IfOk, IsOk, MatchResult};
 ghost use Rattle.std.specs.List.Sorted.{IsStrictlySortedBy};
 ghost use Rattle.etcd_types.specs.declared.reply.OpReply.TheVariants.{Range as RangeReply};
@@ -8,7 +8,7 @@ ghost use Rattle.etcd_model.specs.Operations.{op_reply};
 ghost use Rattle.etcd_model.specs.Ranges.{is_wanted, range_reply};
 ghost use Rattle.etcd_model.specs.Reads.{revision_read, unreadable};
 ghost use Rattle.etcd_model.specs.Order.{by_key};
-ghost use Rattle.revision_store.specs.Answering.{given};
+ghost use Rattle.revision_store.specs.Answering.{given, is_by_key, wants_all};
 ghost use Rattle.revision_store.specs.Pending.{AreRows};
 ghost use Rattle.revision_store.specs.Ranging.{AllAreGiven, needs_values, row_passes, read, rows_of};
 ghost use Rattle.revision_store.specs.Ranging.{wanted_cells};
@@ -17,8 +17,9 @@ ghost use Rattle.revision_store.specs.Stored.{reads, row_at};
 
 use crate::answering::{is_by_key, is_cut, is_wanted, limit_of, ordered, wants_all};
 use crate::log::Log;
-use crate::rows::{keys_under, rows_under};
+use crate::rows::{first_cells, keys_under, rows_under};
 use crate::store::Store;
+use chunk_list::Walk;
 use etcd_types::{CellNo, KeyValue, List, Mem, OpReply, RangeReq, Refusal, SortTarget};
 use std::alloc::Global;
 
@@ -53,12 +54,14 @@ impl Store {
         ensures { IfOk result (λ reply. reply ≡ op_reply (reads self.now) current (RangeOp request.now)) }
     {
         self.keep_sound();
-        let cells = self.log.live_cells(
-            alloc,
-            request.key.as_slice(),
-            request.range_end.as_slice(),
-            self.revision_read(request.revision),
-        )?;
+        let key = request.key.as_slice();
+        let range_end = request.range_end.as_slice();
+        let revision = self.revision_read(request.revision);
+        if revision == self.current() {
+            let cells = self.log.newest_cells(key, range_end);
+            return walked_reply(alloc, &self.log, request, cells, current);
+        }
+        let cells = self.log.live_cells(alloc, key, range_end, revision)?;
         range_reply(alloc, &self.log, request, cells, current)
     }
 
@@ -111,6 +114,58 @@ pub(crate) fn range_reply(
     let more = is_cut(request, wanted.len());
     let kvs = rows_given(alloc, log, request, wanted)?;
     Ok(reply_of(revision, count, kvs, more))
+}
+
+/// The same where the cells are walked. In the order of their keys, and with no filter, the first ones alone are
+/// looked at; the others are counted.
+pub(crate) fn walked_reply(
+    alloc: Global,
+    log: &Log,
+    request: &RangeReq,
+    cells: Walk<'_, CellNo>,
+    revision: u64,
+) -> Mem<OpReply>
+    requires rows { AreRows (cells_of log.now.records) cells }
+    requires ascend { IsStrictlySortedBy by_key (rows_of (cells_of log.now.records) cells) }
+    requires revision { revision < 2 ^ 63 }
+    ensures { IfOk result
+        (λ reply. reply
+        ≡ range_reply revision request.now (rows_of (cells_of log.now.records) cells.entry)) }
+{
+    let count = cells.len();
+    if request.count_only {
+        return Ok(reply_of(revision, count as u64, List::new(alloc), false));
+    }
+    if wants_all(request) && is_by_key(request) {
+        return first_reply(alloc, log, request, cells, revision);
+    }
+    let cells = first_cells(alloc, cells, count)?;
+    range_reply(alloc, log, request, cells, revision)
+}
+
+/// The same in the order of the keys, and with no filter.
+fn first_reply(
+    alloc: Global,
+    log: &Log,
+    request: &RangeReq,
+    cells: Walk<'_, CellNo>,
+    revision: u64,
+) -> Mem<OpReply>
+    requires rows { AreRows (cells_of log.now.records) cells }
+    requires ascend { IsStrictlySortedBy by_key (rows_of (cells_of log.now.records) cells) }
+    requires revision { revision < 2 ^ 63 }
+    requires some { request.now.count_only ≡ false }
+    requires all { wants_all request.now ≡ true }
+    requires by_key { is_by_key request.now ≡ true }
+    ensures { IfOk result
+        (λ reply. reply
+        ≡ range_reply revision request.now (rows_of (cells_of log.now.records) cells.entry)) }
+{
+    let count = cells.len();
+    let more = is_cut(request, count);
+    let first = first_cells(alloc, cells, limit_of(request, count))?;
+    let kvs = rows_given(alloc, log, request, first)?;
+    Ok(reply_of(revision, count as u64, kvs, more))
 }
 
 /// What a range is answered at a revision, where its interval has these rows, which ascend by key.

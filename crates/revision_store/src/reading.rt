@@ -1,15 +1,18 @@
 //! Reading the kept changes at a revision.
-ghost use Rattle.std.specs.Prelude.{◌≡◌, map, Some, IsSome, IfSome, IfOk, option_map, option_and_then};
-ghost use Rattle.etcd_model.specs.Changes.{Recorded, last, live, rows};
-ghost use Rattle.etcd_model.specs.Interval.{is_in};
+ghost use Rattle.std.specs.Prelude.{◌≡◌, ◌≤◌, ℕ, Some, IsSome, IfSome, IfOk, option_map, option_and_then};
+ghost use Rattle.std.specs.List.{AllByRecursion};
+ghost use Rattle.etcd_model.specs.Changes.{Recorded, last, live};
 ghost use Rattle.etcd_model.specs.Ranges.{without_value};
 ghost use Rattle.key_index.specs.Links.{IsNewest, change_at};
 ghost use Rattle.revision_store.specs.Recorded.{cells_of};
 ghost use Rattle.revision_store.specs.Plans.{key_at};
-ghost use Rattle.revision_store.specs.Stored.{row_at};
+ghost use Rattle.revision_store.specs.Stored.{ShowRows, row_at};
 
+use crate::heads::HeadsInOrder;
 use crate::log::Log;
 use crate::records::Reader;
+use crate::rows::first_cells;
+use chunk_list::Walk;
 use etcd_types::{CellNo, KeyValue, List, Mem};
 use key_index::{Records, last_up_to};
 use std::alloc::Global;
@@ -57,7 +60,8 @@ impl Log {
         }
     }
 
-    /// The cells of the rows of an interval that are live at a revision, by ascending key.
+    /// The cells of the rows of an interval that are live at a revision, by ascending key. It looks at each
+    /// key of the interval.
     pub(crate) fn live_cells(
         &self,
         alloc: Global,
@@ -66,19 +70,46 @@ impl Log {
         revision: u64,
     ) -> Mem<Vec<CellNo>>
         ensures { IfOk result
-            (λ found. map (row_at (cells_of self.now.records)) found.items
-            ≡ map Some (rows (is_in key.now range_end.now) revision self.now.changes)) }
+            (λ found. ShowRows (cells_of self.now.records) self.now.changes key.now range_end.now revision
+            found.items) }
     {
-        let heads = self
-            .index
-            .heads_in(&Reader::new(&self.region), key, range_end);
-        let mut found = Vec::with_capacity(alloc, heads.len())?;
-        for head in heads {
+        let reader = Reader::new(&self.region);
+        let live = self.index.live_in(&reader, key, range_end);
+        let dead = self.index.dead_in(&reader, key, range_end);
+        let mut found = Vec::with_capacity(alloc, live.len() + dead.len())?;
+        let mut heads = HeadsInOrder::new(live, dead);
+        while let Some(head) = heads.next(&reader) {
             if let Some(cell) = self.live_of(head, revision) {
                 found.push_reserved(cell);
             }
         }
         Ok(found)
+    }
+
+    /// The cells of the rows of an interval that are live now, by ascending key. It looks at no other key.
+    pub(crate) fn newest_cells(&self, key: &[u8], range_end: &[u8]) -> Walk<'_, CellNo>
+        ensures { (revision : ℕ) → AllByRecursion (λ x. x.revision ≤ revision) self.now.changes
+            → ShowRows (cells_of self.now.records) self.now.changes key.now range_end.now revision result }
+    {
+        self.index
+            .live_in(&Reader::new(&self.region), key, range_end)
+    }
+
+    /// The same in a list.
+    pub(crate) fn newest_list(
+        &self,
+        alloc: Global,
+        key: &[u8],
+        range_end: &[u8],
+    ) -> Mem<Vec<CellNo>>
+        ensures { IfOk result
+            (λ found. (revision : ℕ) → AllByRecursion (λ x. x.revision ≤ revision) self.now.changes
+            → ShowRows (cells_of self.now.records) self.now.changes key.now range_end.now revision
+            found.items) }
+    {
+        let cells = self.newest_cells(key, range_end);
+        let count = cells.len();
+        first_cells(alloc, cells, count)
     }
 
     /// The row under a cell.

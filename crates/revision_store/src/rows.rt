@@ -1,13 +1,32 @@
 //! The rows under some cells.
-ghost use Rattle.std.specs.Prelude.{◌≡◌, [], map, Some, IfOk, option_map, if◌then◌else◌};
+ghost use Rattle.std.specs.Prelude.{◌≡◌, ◌≤◌, [], length, take, map, Some, IfOk, option_map, if◌then◌else◌};
 ghost use Rattle.etcd_model.specs.Ranges.{without_value};
 ghost use Rattle.revision_store.specs.Pending.{AreRows};
 ghost use Rattle.revision_store.specs.Recorded.{cells_of};
 ghost use Rattle.revision_store.specs.Stored.{row_at};
 
 use crate::log::Log;
+use chunk_list::Walk;
 use etcd_types::{CellNo, KeyValue, List, Mem};
 use std::alloc::Global;
+
+/// So many of the first cells of a walk.
+pub(crate) fn first_cells(
+    alloc: Global,
+    mut cells: Walk<'_, CellNo>,
+    count: usize,
+) -> Mem<Vec<CellNo>>
+    requires { count ≤ length cells }
+    ensures { IfOk result (λ found. found.items ≡ take count cells.entry) }
+{
+    let mut found = Vec::with_capacity(alloc, count)?;
+    'taking: for _taken in 0..count {
+        if let Some(cell) = cells.next() {
+            found.push_reserved(cell);
+        }
+    }
+    Ok(found)
+}
 
 /// The rows under some cells.
 pub(crate) fn rows_under(alloc: Global, log: &Log, cells: &[CellNo]) -> Mem<Vec<KeyValue>>

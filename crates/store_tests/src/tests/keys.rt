@@ -1,4 +1,5 @@
-ghost use Rattle.std.specs.Prelude.{◌≡◌, ◌+◌, ◌<◌, ◌≤◌, length, [], max, IfOk, IsSome, OnErr, OnOk};
+ghost use Rattle.std.specs.Prelude.{◌≡◌, ◌+◌, ◌<◌, ◌≤◌, [], max, IfOk, IsSome, OnErr, OnOk};
+ghost use Rattle.key_index.specs.Index.{key_count};
 
 use etcd_types::{CellNo, KeyValue, List, Mem};
 use key_index::record_list::{Record, RecordList};
@@ -44,12 +45,12 @@ impl Model for Changes {
 
     ghost view = { λ s. s.index };
 
-    ghost invariant = { λ s. IsIndexedList s.records.items.items s.index.cells };
+    ghost invariant = { λ s. IsIndexedList s.records.items.items s.index.live s.index.dead };
 }
 
 impl Changes {
     fn new(alloc: Global, keys: usize) -> Mem<Changes>
-        ensures { IfOk result (λ s. s ≡ record { cells = []; capacity = keys }) }
+        ensures { IfOk result (λ s. s ≡ record { live = []; dead = []; capacity = keys }) }
     {
         Ok(Changes {
             records: RecordList {
@@ -66,9 +67,9 @@ impl Changes {
         key: &[u8],
         row: Option<KeyValue>,
     ) -> Mem<()>
-        requires capacity { length self.old.cells < self.old.capacity }
+        requires capacity { key_count self.old < self.old.capacity }
         ensures capacity { self.new.capacity ≡ self.old.capacity }
-        ensures length { length self.new.cells ≤ length self.old.cells + 1 }
+        ensures count { key_count self.new ≤ key_count self.old + 1 }
     {
         let place = self.records.items.len();
         assert!(rt; place < 64);
@@ -104,9 +105,15 @@ impl Changes {
         matches!(self.records.items.get(place), Some(Some(_)))
     }
 
-    /// The newest record of each key, by ascending key.
-    fn heads(&self, alloc: Global) -> Mem<Vec<CellNo>> {
-        let heads = self.index.heads_in(&self.records, &[], &[0]);
+    /// The newest records of the keys that are live, by ascending key.
+    fn live(&self, alloc: Global) -> Mem<Vec<CellNo>> {
+        let heads = self.index.live_in(&self.records, &[], &[0]);
+        heads.collect(alloc)
+    }
+
+    /// The same of the keys that are deleted.
+    fn dead(&self, alloc: Global) -> Mem<Vec<CellNo>> {
+        let heads = self.index.dead_in(&self.records, &[], &[0]);
         heads.collect(alloc)
     }
 }
@@ -165,13 +172,23 @@ fn assert_last(rt: &impl Abort, changes: &Changes, wanted: &Last) {
     assert_eq!(rt; changes.last_place(key, revision), place);
 }
 
-/// The newest records stand at these places, by ascending key.
-fn assert_heads(rt: &impl Abort, alloc: Global, changes: &Changes, wanted: &[u32]) -> Mem<()> {
-    let heads = changes.heads(alloc)?;
+fn assert_places(rt: &impl Abort, heads: &[CellNo], wanted: &[u32]) {
     assert_eq!(rt; heads.len(), wanted.len());
     for (head, wanted) in heads.iter().zip(wanted) {
         assert_eq!(rt; head.number(), *wanted);
     }
+}
+
+/// The newest records stand at these places, by ascending key: those of live keys, and those of deleted ones.
+fn assert_heads(
+    rt: &impl Abort,
+    alloc: Global,
+    changes: &Changes,
+    live: &[u32],
+    dead: &[u32],
+) -> Mem<()> {
+    assert_places(rt, &changes.live(alloc)?, live);
+    assert_places(rt, &changes.dead(alloc)?, dead);
     Ok(())
 }
 
@@ -181,7 +198,7 @@ fn lives_as_told(rt: HostRuntime) -> Mem<()> {
     for wanted in &LASTS {
         assert_last(&rt, &changes, wanted);
     }
-    assert_heads(&rt, rt.alloc(), &changes, &[6, 7])
+    assert_heads(&rt, rt.alloc(), &changes, &[7], &[6])
 }
 
 /// What a compaction at a revision leaves of the key.
@@ -249,7 +266,7 @@ fn is_cut_as_told(rt: HostRuntime) -> Mem<()> {
     for cut in &CUTS {
         assert_cut(&rt, &mut changes, cut);
     }
-    assert_heads(&rt, rt.alloc(), &changes, &[7])
+    assert_heads(&rt, rt.alloc(), &changes, &[7], &[])
 }
 
 /// Room for two keys grows to three, and never shrinks. The keys and their records stay, and the third finds its
@@ -258,11 +275,11 @@ fn is_cut_as_told(rt: HostRuntime) -> Mem<()> {
 fn room_grows_and_the_keys_stay(rt: HostRuntime) -> Mem<()> {
     let mut changes = two_keys(&rt, rt.alloc())?;
     let grown = changes.grow(3);
-    assert_heads(&rt, rt.alloc(), &changes, &[0, 1])?;
+    assert_heads(&rt, rt.alloc(), &changes, &[0, 1], &[])?;
     grown?;
     changes.grow(0)?;
     changes.append(&rt, rt.alloc(), b"b", row_of(rt.alloc(), true))?;
-    assert_heads(&rt, rt.alloc(), &changes, &[0, 2, 1])?;
+    assert_heads(&rt, rt.alloc(), &changes, &[0, 2, 1], &[])?;
     assert_last(&rt, &changes, &(b"c", 9, Some(1)));
     Ok(())
 }
@@ -270,7 +287,7 @@ fn room_grows_and_the_keys_stay(rt: HostRuntime) -> Mem<()> {
 /// Keys `a` and `c`, with room for no more.
 fn two_keys(rt: &impl Abort, alloc: Global) -> Mem<Changes>
     ensures room { IfOk result (λ changes. changes.capacity ≡ 2) }
-    ensures keys { IfOk result (λ changes. length changes.cells ≤ 2) }
+    ensures keys { IfOk result (λ changes. key_count changes ≤ 2) }
 {
     let mut changes = Changes::new(alloc, 2)?;
     changes.append(rt, alloc, b"a", row_of(alloc, true))?;

@@ -3,7 +3,7 @@ use Rattle.std.proofs.lemmas.List.{get_or_default, length-set}
 use Rattle.chunk_list.specs.Chunked.{HasItem, position_of}
 use Rattle.key_index.specs.Compaction.{Remains}
 use Rattle.key_index.proofs.Costs.{gives_then}
-use Rattle.key_index.proofs.Whole.{going_compacted, going_newest, going_dropped, going_kept}
+use Rattle.key_index.proofs.Whole.{going_done, going_newest, going_dropped, going_kept}
 use Rattle.key_index.proofs.compaction.cut_chains.Goals.{then-cut_chain, else-cut_chain}
 use Rattle.key_index.proofs.compaction.cut_chains.Goals as goal
 
@@ -13,7 +13,7 @@ cut_chain-requires-clause-newest g c =
     let within : c.cutting._read < length xs = omega (arith, c.len-read-end.ensures.len, c.cutting.invariant.length_is) in
     let lt : c.cutting._read < length c.args.heads.now.items = omega (arith, c.len-read-end.ensures.len) in
     let is = sym (c.get-head.ensures ∙ ap (λ n. get_or xs n c.get-head.result) c.cutting.invariant.read ∙ get_or_default xs c.cutting._read c.get-head.result 0 within) in
-    going_newest (g.R.Records.cells c.args.records.now) (g.R.Records.cells c.cutting.records) c.args.heads.now.items xs c.args.revision (position_of c.cutting.heads.sizes c.cutting.left) c.cutting._read c.requires.index c.cutting.invariant.length_is c.cutting.invariant.going c.get-head.result lt is
+    going_newest (g.R.Records.cells c.args.records.now) (g.R.Records.cells c.cutting.records) c.args.heads.now.items xs c.args.revision (position_of c.cutting.heads.sizes c.cutting.left) c.cutting._read c.requires.newest c.cutting.invariant.length_is c.cutting.invariant.going c.get-head.result lt is
 
 pub cutting-preserved : goal.cutting-preserved
 cutting-preserved g c =
@@ -36,7 +36,7 @@ cutting-preserved g c =
           let s = ap (λ ys. position_of ys c.next-read.result) w.set.ensures.sizes in
           let t = ap (λ ys. position_of ys c.cutting.left) w.set.ensures.sizes in
           let at : position_of w.set.new.self.sizes w.next-left.result ≡ k + 1 = omega (arith, w.next-left.ensures.position_is, t) in
-          let goes = going_kept m now c.args.heads.now.items xs c.args.revision k c.cutting._read c.requires.index c.cutting.invariant.length_is going h lt is new c.cut_chain.ensures.compacted (λ e there. subst (Remains new e.change.key h) left (c.cut_chain.ensures.remains e there)) in
+          let goes = going_kept m now c.args.heads.now.items xs c.args.revision k c.cutting._read c.requires.newest c.cutting.invariant.length_is going h lt is new c.cut_chain.ensures.compacted (λ e there. subst (Remains new e.change.key h) left (c.cut_chain.ensures.remains e there)) in
           rw (w.heads-is, w.left-is) (record {
             going = rw (w.set.ensures.items, at) goes;
             length_is = n ∙ c.cutting.invariant.length_is;
@@ -51,7 +51,7 @@ cutting-preserved g c =
           })
       | else-cut_chain w ↦
           let none : c.cut_chain.result ≡ false = first_of (cc, search rules) in
-          let goes = going_dropped m now c.args.heads.now.items xs c.args.revision k c.cutting._read c.requires.index c.cutting.invariant.length_is going h lt is new c.cut_chain.ensures.compacted (λ e there. subst (Remains new e.change.key h) none (c.cut_chain.ensures.remains e there)) in
+          let goes = going_dropped m now c.args.heads.now.items xs c.args.revision k c.cutting._read c.requires.newest c.cutting.invariant.length_is going h lt is new c.cut_chain.ensures.compacted (λ e there. subst (Remains new e.change.key h) none (c.cut_chain.ensures.remains e there)) in
           rw (w.heads-is, w.left-is) (record {
             going = goes;
             length_is = c.cutting.invariant.length_is;
@@ -66,6 +66,6 @@ cutting-preserved g c =
           })
     ]
 
-pub returns-clause-compacted : goal.returns-clause-compacted
-returns-clause-compacted g c =
-    going_compacted (g.R.Records.cells c.args.records.now) (g.R.Records.cells c.cutting.records) c.args.heads.now.items c.cutting.heads.items c.args.revision (position_of c.cutting.heads.sizes c.cutting.left) c.cutting._read c.requires.index c.cutting.invariant.length_is c.cutting.invariant.going (omega (arith, c.len-read-end.ensures.len))
+pub returns-clause-done : goal.returns-clause-done
+returns-clause-done g c =
+    going_done (g.R.Records.cells c.args.records.now) (g.R.Records.cells c.cutting.records) c.args.heads.now.items c.cutting.heads.items c.args.revision (position_of c.cutting.heads.sizes c.cutting.left) c.cutting._read c.requires.newest c.cutting.invariant.length_is c.cutting.invariant.going (omega (arith, c.len-read-end.ensures.len)) (omega (arith, c.len-read-end.ensures.len))

@@ -10,7 +10,7 @@ use Rattle.revision_store.proofs.PendingDeletes.{Under, read_under, under_rows}
 use Rattle.revision_store.proofs.pending.Pending.live_cells.Goals as goal
 
 pub left_cells-requires : goal.left_cells-requires
-left_cells-requires c = under_rows (row_at (cells_of c.store.inside.log.records)) c.in_ok-live.live.items _ c.in_ok-live.ensures
+left_cells-requires c = under_rows (row_at (cells_of c.store.inside.log.records)) c.in_ok-live.live.items _ (c.in_ok-live.ensures c.store.inside.current c.store.invariant.up)
 
 pub returns : goal.returns
 returns c =
@@ -19,9 +19,10 @@ returns c =
     let live = c.in_ok-live.live.items in
     let deletes = map (λ d. d.now) c.self.inside.deletes.items in
     let records : c.store.inside.log.records ≡ store.records = ap (λ (s : StoreState). s.records) c.store.view_is in
+    let current : c.store.inside.current ≡ store.kept.current = ap (λ (s : StoreState). s.kept.current) c.store.view_is in
     let changes : c.store.inside.log.changes ≡ store.kept.changes = ap (λ (s : StoreState). s.kept.changes) c.store.view_is in
     let under : Under (row_at (cells store)) live (rows (is_in d.key d.range_end) store.kept.current store.kept.changes)
-    = rw (records, changes, c.current.ensures.current) at c.in_ok-live.ensures in
+    = rw (records, changes, current) at (c.in_ok-live.ensures c.store.inside.current c.store.invariant.up) in
     let free : puts_inside d (changes_of store c.self.inside.writes.items) ≡ false = rw (← c.self.view_is) at c.requires in
     rw (← c.self.view_is)
     (if_ok _ _ c.left_cells.result (λ found e.

@@ -11,7 +11,7 @@ use Rattle.revision_store.proofs.PendingRows.{left_rises, rows_made}
 use Rattle.revision_store.proofs.pending.Pending.rows.Goals as goal
 
 pub left_cells-requires : goal.left_cells-requires
-left_cells-requires c = under_rows (row_at (cells_of c.store.inside.log.records)) c.in_ok-live.live.items _ c.in_ok-live.ensures
+left_cells-requires c = under_rows (row_at (cells_of c.store.inside.log.records)) c.in_ok-live.live.items _ (c.in_ok-live.ensures c.store.inside.current c.store.invariant.up)
 
 pub rows_under-requires : goal.rows_under-requires
 rows_under-requires c =
@@ -19,8 +19,9 @@ rows_under-requires c =
     let live = c.in_ok-live.live.items in
     let deletes = map (λ d. d.now) c.self.inside.deletes.items in
     let records : c.store.inside.log.records ≡ store.records = ap (λ (s : StoreState). s.records) c.store.view_is in
+    let current : c.store.inside.current ≡ store.kept.current = ap (λ (s : StoreState). s.kept.current) c.store.view_is in
     let changes : c.store.inside.log.changes ≡ store.kept.changes = ap (λ (s : StoreState). s.kept.changes) c.store.view_is in
-    let under : Under (row_at (cells store)) live (rows (is_in c.args.key.now c.args.range_end.now) store.kept.current store.kept.changes) = rw (records, changes, c.current.ensures.current) at c.in_ok-live.ensures in
+    let under : Under (row_at (cells store)) live (rows (is_in c.args.key.now c.args.range_end.now) store.kept.current store.kept.changes) = rw (records, changes, current) at (c.in_ok-live.ensures c.store.inside.current c.store.invariant.up) in
     let is_left : c.in_ok-left.left.items ≡ left_cells (cells store) deletes live = rw (records, c.deref.ensures.value) at c.in_ok-left.ensures in
     rw (c.deref-2.ensures.value, records)
     (under_rows (row_at (cells store)) c.in_ok-left.left.items _ (ap (map (row_at (cells store))) is_left ∙ under_left store deletes live _ under))
@@ -35,8 +36,9 @@ put_rows-requires c =
     let rs = c.in_ok-rows.rows.items in
     let deletes = map (λ d. d.now) c.self.inside.deletes.items in
     let records : c.store.inside.log.records ≡ store.records = ap (λ (s : StoreState). s.records) c.store.view_is in
+    let current : c.store.inside.current ≡ store.kept.current = ap (λ (s : StoreState). s.kept.current) c.store.view_is in
     let changes : c.store.inside.log.changes ≡ store.kept.changes = ap (λ (s : StoreState). s.kept.changes) c.store.view_is in
-    let under : Under (row_at (cells store)) live (rows (is_in key end) store.kept.current store.kept.changes) = rw (records, changes, c.current.ensures.current) at c.in_ok-live.ensures in
+    let under : Under (row_at (cells store)) live (rows (is_in key end) store.kept.current store.kept.changes) = rw (records, changes, current) at (c.in_ok-live.ensures c.store.inside.current c.store.invariant.up) in
     let is_left : left ≡ left_cells (cells store) deletes live = rw (records, c.deref.ensures.value) at c.in_ok-left.ensures in
     let is_rows : map Some rs ≡ map (row_at (cells store)) left = rw (records, c.deref-2.ensures.value) at c.in_ok-rows.ensures in
     left_rises store c.self.inside.writes.items c.self.inside.puts.items deletes c.self.invariant key end live left rs under is_left is_rows
@@ -53,8 +55,9 @@ returns c =
     let places = c.self.inside.puts.items in
     let deletes = map (λ d. d.now) c.self.inside.deletes.items in
     let records : c.store.inside.log.records ≡ store.records = ap (λ (s : StoreState). s.records) c.store.view_is in
+    let current : c.store.inside.current ≡ store.kept.current = ap (λ (s : StoreState). s.kept.current) c.store.view_is in
     let changes : c.store.inside.log.changes ≡ store.kept.changes = ap (λ (s : StoreState). s.kept.changes) c.store.view_is in
-    let under : Under (row_at (cells store)) live (rows (is_in key end) store.kept.current store.kept.changes) = rw (records, changes, c.current.ensures.current) at c.in_ok-live.ensures in
+    let under : Under (row_at (cells store)) live (rows (is_in key end) store.kept.current store.kept.changes) = rw (records, changes, current) at (c.in_ok-live.ensures c.store.inside.current c.store.invariant.up) in
     let is_left : left ≡ left_cells (cells store) deletes live = rw (records, c.deref.ensures.value) at c.in_ok-left.ensures in
     let is_rows : map Some rs ≡ map (row_at (cells store)) left = rw (records, c.deref-2.ensures.value) at c.in_ok-rows.ensures in
     let made : c.put_rows.new.rows.items ≡ fold (put_in by_key) rs (filter (λ row. is_in key end row.key) (rows_at ws places)) = rw (c.deref-3.ensures.value, c.deref-4.ensures.value) at c.in_ok-put_rows.ensures in

@@ -26,8 +26,8 @@ range_reply-requires-clause-ascend c =
     let cells = cells_of c.self.inside.log.records in
     let changes = ap (λ (s : StoreState). s.kept.changes) c.self.view_is in
     let found = filter_map-is (row_at cells) c.in_ok-cells.cells.items _ (sym c.in_ok-cells.ensures) in
-    subst (IsStrictlySortedBy by_key) (ap (rows (is_in c.as_slice.result.now c.as_slice-2.result.now) c.revision_read.result) (sym changes) ∙ found)
-    (rows_rise c.args.self.now.kept.changes c.keep_sound.ensures.kept.own c.revision_read.result (is_in c.as_slice.result.now c.as_slice-2.result.now))
+    subst (IsStrictlySortedBy by_key) (ap (rows (is_in c.as_slice-key.result.now c.as_slice-range_end.result.now) c.revision_read-revision.result) (sym changes) ∙ found)
+    (rows_rise c.args.self.now.kept.changes c.keep_sound.ensures.kept.own c.revision_read-revision.result (is_in c.as_slice-key.result.now c.as_slice-range_end.result.now))
 
 pub returns : goal.returns
 returns c =
@@ -39,8 +39,41 @@ returns c =
     let changes = ap (λ (s : StoreState). s.kept.changes) c.self.view_is in
     let found = filter_map-is (row_at cells) cs _ (sym c.in_ok-cells.ensures) in
     let read : rows_of cells cs ≡ rows_read (reads store) q.key q.range_end q.revision =
-    sym found ∙ ap (rows (is_in c.as_slice.result.now c.as_slice-2.result.now) c.revision_read.result) changes
-    ∙ rows_live store.kept q.key q.range_end c.as_slice.result.now c.as_slice-2.result.now q.revision c.revision_read.result c.as_slice.ensures c.as_slice-2.ensures (c.revision_read.ensures ∙ ap (revision_read (reads store)) bits) c.requires.readable in
+    sym found ∙ ap (rows (is_in c.as_slice-key.result.now c.as_slice-range_end.result.now) c.revision_read-revision.result) changes
+    ∙ rows_live store.kept q.key q.range_end c.as_slice-key.result.now c.as_slice-range_end.result.now q.revision c.revision_read-revision.result c.as_slice-key.ensures c.as_slice-range_end.ensures (c.revision_read-revision.ensures ∙ ap (revision_read (reads store)) bits) c.requires.readable in
     IfOk-weaker c.range_reply.result (λ reply. reply ≡ range_reply c.args.current q (rows_of cells cs)) (λ reply. reply ≡ op_reply (reads store) c.args.current (RangeOp q))
     (λ reply h. h ∙ ap (range_reply c.args.current q) read)
     c.range_reply.ensures
+
+-- ---- the newest revision is read
+
+pub walked_reply-requires-clause-rows : goal.walked_reply-requires-clause-rows
+walked_reply-requires-clause-rows c =
+    let cells = cells_of c.self.inside.log.records in
+    all_show (row_at cells) c.newest_cells-cells.result _ (sym (c.newest_cells-cells.ensures c.self.inside.current c.self.invariant.up))
+
+pub walked_reply-requires-clause-ascend : goal.walked_reply-requires-clause-ascend
+walked_reply-requires-clause-ascend c =
+    let cells = cells_of c.self.inside.log.records in
+    let changes = ap (λ (s : StoreState). s.kept.changes) c.self.view_is in
+    let found = filter_map-is (row_at cells) c.newest_cells-cells.result _ (sym (c.newest_cells-cells.ensures c.self.inside.current c.self.invariant.up)) in
+    subst (IsStrictlySortedBy by_key) (ap (rows (is_in c.as_slice-key.result.now c.as_slice-range_end.result.now) c.self.inside.current) (sym changes) ∙ found)
+    (rows_rise c.args.self.now.kept.changes c.keep_sound.ensures.kept.own c.self.inside.current (is_in c.as_slice-key.result.now c.as_slice-range_end.result.now))
+
+pub returns-then-revision-current : goal.returns-then-revision-current
+returns-then-revision-current c =
+    let q = c.args.request.now in
+    let store = c.args.self.now in
+    let bits : to_z w64 (of_z w64 q.revision) ≡ q.revision = search rules in
+    let cells = cells_of c.self.inside.log.records in
+    let cs = c.newest_cells-cells.result in
+    let changes = ap (λ (s : StoreState). s.kept.changes) c.self.view_is in
+    let now : c.revision_read-revision.result ≡ c.self.inside.current = c.if-revision-current.true ∙ c.current.ensures.current ∙ sym (ap (λ (s : StoreState). s.kept.current) c.self.view_is) in
+    let found = filter_map-is (row_at cells) cs _ (sym (c.newest_cells-cells.ensures c.self.inside.current c.self.invariant.up)) in
+    let read : rows_of cells cs ≡ rows_read (reads store) q.key q.range_end q.revision =
+    sym found ∙ ap (rows (is_in c.as_slice-key.result.now c.as_slice-range_end.result.now) c.self.inside.current) changes
+    ∙ ap (λ n. rows (is_in c.as_slice-key.result.now c.as_slice-range_end.result.now) n store.kept.changes) (sym now)
+    ∙ rows_live store.kept q.key q.range_end c.as_slice-key.result.now c.as_slice-range_end.result.now q.revision c.revision_read-revision.result c.as_slice-key.ensures c.as_slice-range_end.ensures (c.revision_read-revision.ensures ∙ ap (revision_read (reads store)) bits) c.requires.readable in
+    IfOk-weaker c.walked_reply.result (λ reply. reply ≡ range_reply c.args.current q (rows_of cells cs)) (λ reply. reply ≡ op_reply (reads store) c.args.current (RangeOp q))
+    (λ reply h. h ∙ ap (range_reply c.args.current q) read)
+    c.walked_reply.ensures

@@ -7,16 +7,16 @@ pub add-requires-clause-placed : goal.add-requires-clause-placed
 add-requires-clause-placed g c =
     let r : Record = record { key = c.in_ok-to_vec.field-0; revision = c.len-place.result + 2; row = c.args.row; older = None } in
     let long : c.len-place.result ≡ length c.self.inside.records.items.items = c.len-place.ensures ∙ c.self.inside.records.items.ok.0 in
-    placed_next c.self.inside.records.items.items c.self.inside.index.cells c.self.invariant r (omega (arith, long)) c.push.new.self.items c.in_ok-push.ensures.items c.at.result (omega (arith, long, c.at.ensures))
+    placed_next c.self.inside.records.items.items c.self.inside.index.live c.self.inside.index.dead c.self.invariant r (omega (arith, long)) c.push.new.self.items c.in_ok-push.ensures.items c.at.result (omega (arith, long, c.at.ensures))
 
 pub add-requires-clause-index : goal.add-requires-clause-index
 add-requires-clause-index g c =
     let r : Record = record { key = c.in_ok-to_vec.field-0; revision = c.len-place.result + 2; row = c.args.row; older = None } in
     let long : c.len-place.result ≡ length c.self.inside.records.items.items = c.len-place.ensures ∙ c.self.inside.records.items.ok.0 in
-    index_next c.self.inside.records.items.items c.self.inside.index.cells c.self.invariant r (omega (arith, long)) c.push.new.self.items c.in_ok-push.ensures.items c.at.result (omega (arith, long, c.at.ensures))
+    index_next c.self.inside.records.items.items c.self.inside.index.live c.self.inside.index.dead c.self.invariant r (omega (arith, long)) c.push.new.self.items c.in_ok-push.ensures.items c.at.result (omega (arith, long, c.at.ensures))
 
 pub add-requires-clause-chained : goal.add-requires-clause-chained
 add-requires-clause-chained g c =
     let r : Record = record { key = c.in_ok-to_vec.field-0; revision = c.len-place.result + 2; row = c.args.row; older = None } in
     let long : c.len-place.result ≡ length c.self.inside.records.items.items = c.len-place.ensures ∙ c.self.inside.records.items.ok.0 in
-    chained_next c.self.inside.records.items.items c.self.inside.index.cells c.self.invariant r (omega (arith, long)) c.push.new.self.items c.in_ok-push.ensures.items c.at.result (omega (arith, long, c.at.ensures))
+    chained_next c.self.inside.records.items.items c.self.inside.index.live c.self.inside.index.dead c.self.invariant r (omega (arith, long)) c.push.new.self.items c.in_ok-push.ensures.items c.at.result (omega (arith, long, c.at.ensures))
