@@ -54,7 +54,8 @@ impl<T: Copy> ChunkList<T> {
         })
     }
 
-    /// Makes room for so many items in all. Where it finds no memory, nothing changes. The room is never less than before, and all places stay.
+    /// Makes room for so many items in all: the room is never less than before, and all places stay. Where it finds no
+    /// memory, nothing changes.
     pub fn grow_room(&mut self, room: usize) -> Result<(), AllocError>
         ensures ok { OnOk result (self.new ≡ record self.old { room = max self.old.room room }) }
         ensures err { OnErr result (self.new ≡ self.old) }
