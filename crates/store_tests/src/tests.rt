@@ -38,11 +38,21 @@ fn told_by<S: Answers>(alloc: Global, store: &mut S, step: &Step) -> Mem<String>
     text_of(alloc, &store.answer(alloc, step)?)
 }
 
+/// What a store answers to a line of a script.
+fn told_line<S: Answers>(alloc: Global, store: &mut S, line: &Line) -> Mem<String> {
+    let step = line.0.step(alloc)?;
+    told_by(alloc, store, &step)
+}
+
 /// A store answers a line of a script as it says.
 fn assert_line<S: Answers>(rt: &impl Abort, alloc: Global, store: &mut S, line: &Line) -> Mem<()> {
-    let step = line.0.step(alloc)?;
-    assert_eq!(rt; told_by(alloc, store, &step)?.as_str(), line.1);
+    let told = told_line(alloc, store, line)?;
+    assert_told(rt, told.as_str(), line.1);
     Ok(())
+}
+
+fn assert_told(rt: &impl Abort, told: &str, wanted: &str) {
+    assert_eq!(rt; told, wanted);
 }
 
 /// A store answers each line of a script as it says.
@@ -102,47 +112,60 @@ fn assert_same_kept(
     store: &CellStore,
     revision: u64,
 ) -> Mem<()> {
-    assert_eq!(rt;
-        store.kept_since(alloc, revision)?.as_str(),
-        plain.kept_since(alloc, revision)?.as_str(),
-        "{revision}"
-    );
+    let wanted = plain.kept_since(alloc, revision)?;
+    let kept = store.kept_since(alloc, revision)?;
+    assert_told(rt, kept.as_str(), wanted.as_str());
     Ok(())
 }
 
-/// The next step by chance is answered alike, and now and then what is kept is the same.
+/// The next step by chance, of stores at a revision that is not the last.
+fn next_step(rt: &impl Abort, alloc: Global, random: &mut Random, current: u64) -> Mem<Step> {
+    assert!(rt; current < LAST_REVISION);
+    random.step(alloc, current)
+}
+
+/// The next step by chance is answered alike.
 fn assert_next(
     rt: &impl Abort,
     alloc: Global,
     plain: &mut PlainStore,
     store: &mut CellStore,
     random: &mut Random,
-    taken: u64,
 ) -> Mem<()> {
-    let current = plain.current();
-    assert!(rt; current < LAST_REVISION);
-    let step = random.step(alloc, current)?;
-    assert_same(rt, alloc, plain, store, &step)?;
-    if taken % LOOKED_AT == 0 {
-        assert_same_kept(rt, alloc, plain, store, current.saturating_sub(LOOKED_AT))?;
+    let step = next_step(rt, alloc, random, plain.current())?;
+    assert_same(rt, alloc, plain, store, &step)
+}
+
+/// Steps by chance are answered alike, and now and then what is kept is the same.
+fn assert_agree(
+    rt: &impl Abort,
+    alloc: Global,
+    plain: &mut PlainStore,
+    store: &mut CellStore,
+) -> Mem<()> {
+    let mut random = Random::new();
+    for taken in 0..STEPS {
+        assert_next(rt, alloc, plain, store, &mut random)?;
+        if taken % LOOKED_AT == 0 {
+            let since = plain.current().saturating_sub(LOOKED_AT);
+            assert_same_kept(rt, alloc, plain, store, since)?;
+        }
     }
     Ok(())
 }
 
-/// A new store answers steps by chance as the plain one does.
-fn assert_agrees(rt: &impl Abort, alloc: Global, mut store: CellStore) -> Mem<()> {
+/// A new store over this source answers steps by chance as the plain one does.
+fn assert_agrees_over(rt: &impl Abort, alloc: Global, source: Source) -> Mem<()> {
     let mut plain = PlainStore::new(alloc, 1);
-    let mut random = Random::new();
-    for taken in 0..STEPS {
-        assert_next(rt, alloc, &mut plain, &mut store, &mut random, taken)?;
-    }
-    Ok(())
+    let mut store = store_over(alloc, source)?;
+    assert_agree(rt, alloc, &mut plain, &mut store)
 }
 
 /// A store that takes a script keeps its changes as they are told.
 fn assert_keeps<S: Answers>(rt: &impl Abort, alloc: Global, store: &mut S) -> Mem<()> {
     assert_lines(rt, alloc, store, &CHANGES_OF_A_KEY)?;
-    assert_eq!(rt; store.kept_since(alloc, 0)?.as_str(), KEPT_CHANGES);
+    let kept = store.kept_since(alloc, 0)?;
+    assert_told(rt, kept.as_str(), KEPT_CHANGES);
     Ok(())
 }
 
@@ -203,7 +226,7 @@ fn intervals(rt: HostRuntime) -> Mem<()> {
 #[test]
 fn steps_by_chance_are_answered_alike(rt: HostRuntime) -> Mem<()> {
     for source in SOURCES {
-        assert_agrees(&rt, rt.alloc(), store_over(rt.alloc(), source)?)?;
+        assert_agrees_over(&rt, rt.alloc(), source)?;
     }
     Ok(())
 }

@@ -36,16 +36,38 @@ impl Answers for PlainStore {
 
     fn kept_since(&self, alloc: Global, revision: u64) -> Mem<String> {
         let changes = self.since(alloc, revision)?;
-        let mut text = String::new(alloc);
-        for change in changes.as_slice() {
-            let key = change.key.as_slice();
-            let lease = change.row.as_ref().map_or(0, |row| row.lease);
-            let before = row_before(alloc, self, change)?;
-            write_at(&mut text, change.revision, lease, key)?;
-            write_rows_of(&mut text, change.row.as_ref(), before.as_ref())?;
-        }
-        Ok(text)
+        text_of_changes(alloc, self, changes.as_slice())
     }
+}
+
+fn text_of_changes(alloc: Global, store: &PlainStore, changes: &[Recorded]) -> Mem<String> {
+    let mut text = String::new(alloc);
+    write_changes(&mut text, alloc, store, changes)?;
+    Ok(text)
+}
+
+fn write_changes(
+    text: &mut String,
+    alloc: Global,
+    store: &PlainStore,
+    changes: &[Recorded],
+) -> Mem<()> {
+    for change in changes {
+        let lease = change.row.as_ref().map_or(0, |row| row.lease);
+        write_at(text, change.revision, lease, change.key.as_slice())?;
+        write_rows_around(text, alloc, store, change)?;
+    }
+    Ok(())
+}
+
+fn write_rows_around(
+    text: &mut String,
+    alloc: Global,
+    store: &PlainStore,
+    change: &Recorded,
+) -> Mem<()> {
+    let before = row_before(alloc, store, change)?;
+    write_rows_of(text, change.row.as_ref(), before.as_ref())
 }
 
 /// The row that the key of a change showed before it: none where a range there is refused.

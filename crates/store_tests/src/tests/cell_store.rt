@@ -103,17 +103,37 @@ fn write_changes(text: &mut String, alloc: Global, store: &Store, changes: &[Cel
 fn write_change(text: &mut String, alloc: Global, store: &Store, cell: CellNo) -> Mem<()>
     requires { IsSome (cells store.now cell) }
 {
+    write_place(text, alloc, store, cell)?;
+    let row = row_left(alloc, store, cell)?;
+    write_after(text, alloc, store, cell, row.as_ref())
+}
+
+/// The change's key, with its revision and its lease.
+fn write_place(text: &mut String, alloc: Global, store: &Store, cell: CellNo) -> Mem<()>
+    requires { IsSome (cells store.now cell) }
+{
     let records = store.records();
     let key = store.key(alloc, cell)?;
-    let row = row_left(alloc, store, cell)?;
-    let before = store.row_before(alloc, cell)?;
     write_at(
         text,
         records.revision(cell),
         records.lease(cell),
         key.as_slice(),
-    )?;
-    write_rows_of(text, row.as_ref(), before.as_ref())
+    )
+}
+
+/// The row that a change left, and the one before it.
+fn write_after(
+    text: &mut String,
+    alloc: Global,
+    store: &Store,
+    cell: CellNo,
+    row: Option<&KeyValue>,
+) -> Mem<()>
+    requires { IsSome (cells store.now cell) }
+{
+    let before = store.row_before(alloc, cell)?;
+    write_rows_of(text, row, before.as_ref())
 }
 
 /// The row that a change left, if it is a put.
