@@ -25,12 +25,22 @@ const TURNS: u32 = 3_000;
 pub(crate) fn measure_all(rt: &(impl Print + CpuClock + Alloc<A = Global>)) -> Result<()> {
     print_heading(rt, "chunks", "vector")?;
     for count in COUNTS {
-        let name = format!(in rt.alloc(); "{SEARCHING} {count}")?;
-        print_times(rt, &name, &mut Searching::new(rt.alloc(), count)?, TURNS)?;
+        measure_searching(rt, count)?;
     }
     for count in COUNTS {
-        let name = format!(in rt.alloc(); "{INSERTING} {count}")?;
-        print_times(rt, &name, &mut Inserting::new(rt.alloc(), count)?, TURNS)?;
+        measure_inserting(rt, count)?;
     }
     Ok(())
+}
+
+fn measure_searching(rt: &(impl Print + CpuClock + Alloc<A = Global>), count: u32) -> Result<()> {
+    let name = format!(in rt.alloc(); "{SEARCHING} {count}")?;
+    let mut searching = Searching::new(rt.alloc(), count)?;
+    print_times(rt, &name, &mut searching, TURNS)
+}
+
+fn measure_inserting(rt: &(impl Print + CpuClock + Alloc<A = Global>), count: u32) -> Result<()> {
+    let name = format!(in rt.alloc(); "{INSERTING} {count}")?;
+    let mut inserting = Inserting::new(rt.alloc(), count)?;
+    print_times(rt, &name, &mut inserting, TURNS)
 }

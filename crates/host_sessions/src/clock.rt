@@ -1,5 +1,6 @@
 //! The clock: a tick a second to each tenant.
-use crate::crew::Station;
+use crate::caller::Caller;
+use crate::crew::{Floor, Station};
 use crate::rota::{Duty, Turn};
 use crossbeam_channel::RecvTimeoutError;
 use etcd_types::Step;
@@ -32,13 +33,7 @@ pub(crate) fn keep_time<R: Wait + Clock + Copy + Drop, G: Gate>(
             .recv_timeout(&rt, next.saturating_sub(passed))
         {
             Ok(Turn::On(place)) => {
-                if let Some(desk) = floor.desks.get(place) {
-                    let desk = desk.lock(&rt);
-                    let _ = caller.call(desk.name.as_slice(), Step::Tick(passed.as_secs()));
-                    if !desk.watches.is_empty() {
-                        floor.rota.call_for(&rt, place, Duty::Takes);
-                    }
-                }
+                tick(&rt, &mut caller, &floor, place, passed.as_secs());
                 floor.rota.pass_on(&rt, place, Duty::Tick);
             }
             Ok(Turn::Over) | Err(RecvTimeoutError::Disconnected) => break,
@@ -51,4 +46,21 @@ pub(crate) fn keep_time<R: Wait + Clock + Copy + Drop, G: Gate>(
         }
     }
     caller.into_seat()
+}
+
+/// Steps a tenant's tick at a moment, and calls for the takes of its watches.
+fn tick<R: Wait + Clock + Drop, G: Gate>(
+    rt: &R,
+    caller: &mut Caller<'_, R, G>,
+    floor: &Floor<R>,
+    place: usize,
+    moment: u64,
+) {
+    if let Some(desk) = floor.desks.get(place) {
+        let desk = desk.lock(rt);
+        let _ = caller.call(desk.name.as_slice(), Step::Tick(moment));
+        if !desk.watches.is_empty() {
+            floor.rota.call_for(rt, place, Duty::Takes);
+        }
+    }
 }

@@ -36,6 +36,19 @@ pub(crate) enum Offered<R: Wait + Drop> {
     Refused,
 }
 
+impl<R: Wait + Drop> Offered<R> {
+    /// A job whose queue is full, or its refusal for want of memory.
+    fn held_back(queue: &mpsc::Sender<Job<R>>, job: Job<R>) -> Offered<R> {
+        match queue.clone() {
+            Ok(queue) => Offered::Full(HeldBack {
+                room: queue.reserve_owned(),
+                job,
+            }),
+            Err(_) => Offered::Refused,
+        }
+    }
+}
+
 /// A job that waits for room in its tenant's queue.
 #[derive(Drop)]
 pub(crate) struct HeldBack<R: Wait + Drop> {
@@ -88,13 +101,7 @@ impl<R: Wait + Drop> Jobs<R> {
                 self.call_for(rt, place);
                 Offered::Left
             }
-            Err(TrySendError::Full(job)) => match queue.clone() {
-                Ok(queue) => Offered::Full(HeldBack {
-                    room: queue.reserve_owned(),
-                    job,
-                }),
-                Err(_) => Offered::Refused,
-            },
+            Err(TrySendError::Full(job)) => Offered::held_back(queue, job),
             Err(_) => Offered::Refused,
         }
     }

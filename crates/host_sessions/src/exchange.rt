@@ -81,6 +81,38 @@ struct Queueing<R: Wait + Drop> {
     answer: oneshot::Receiver<Answer<R>>,
 }
 
+impl<R: Wait + Drop> Queueing<R> {
+    /// Leaves the job in the queue once there is room: the stage that follows, and `false` where there is no memory
+    /// for it.
+    fn poll_left<I>(self, cx: &mut Context<'_>) -> (Stage<I, R>, Poll<bool>)
+        ensures registered { OnPending result.1 (IsArmed cx.new) }
+        ensures kept { Keeps cx.old cx.new }
+    {
+        let Queueing {
+            held,
+            place,
+            answer,
+        } = self;
+        let HeldBack { mut room, job } = held;
+        match room.poll(cx) {
+            Poll::Pending => {
+                let held = HeldBack { room, job };
+                let queueing = Queueing {
+                    held,
+                    place,
+                    answer,
+                };
+                (Stage::Queueing(queueing), Poll::Pending)
+            }
+            Poll::Ready(Ok(permit)) => {
+                drop(permit.send(job));
+                (Stage::Waiting(answer), Poll::Ready(true))
+            }
+            Poll::Ready(Err(_)) => (Stage::Failed, Poll::Ready(false)),
+        }
+    }
+}
+
 impl<I: Drop, R: Wait + Copy + Drop> Service<Request<Incoming<I>>> for Gateway<R> {
     type Response = Response<AnswerBody<R>>;
 
@@ -213,13 +245,16 @@ impl<I: Drop, R: Wait + Copy + Drop> Exchange<I, R> {
             lost,
             passed: _,
         } = reading;
-        let route = match route {
-            Ok(route) => route,
-            Err(refusal) => return Some(Answer::refused(self.alloc, refusal)),
-        };
-        if let Some(refusal) = lost {
-            return Some(Answer::refused(self.alloc, refusal));
+        match (route, lost) {
+            (Ok(route), None) => self.ask(route, read),
+            (Ok(_), Some(refusal)) | (Err(refusal), _) => {
+                Some(Answer::refused(self.alloc, refusal))
+            }
         }
+    }
+
+    /// Hands a call to the loop, or leaves it in its tenant's queue, by the body that was read.
+    fn ask(&mut self, route: Route, read: Vec<u8>) -> Option<Answer<R>> {
         if read.len() > SHORT_BODY {
             return self.queue(route, Ask::Body(read));
         }
@@ -233,13 +268,16 @@ impl<I: Drop, R: Wait + Copy + Drop> Exchange<I, R> {
     /// Hands a brief call to the loop, or leaves it in its tenant's queue where there is no loop.
     fn hand(&mut self, route: Route, step: Step) -> Option<Answer<R>> {
         match self.handed(route, step) {
-            Some(Ok(handed)) => {
-                self.stage = Stage::Handed(handed);
-                None
-            }
+            Some(Ok(handed)) => self.go_on(Stage::Handed(handed)),
             Some(Err(step)) => self.queue(route, Ask::Step(step)),
             None => Some(Answer::no_memory()),
         }
+    }
+
+    /// There is no answer yet.
+    fn go_on(&mut self, stage: Stage<I, R>) -> Option<Answer<R>> {
+        self.stage = stage;
+        None
     }
 
     /// What waits for the loop, or the call given back where there is no loop; none for want of memory.
@@ -262,10 +300,7 @@ impl<I: Drop, R: Wait + Copy + Drop> Exchange<I, R> {
     /// Leaves a job in a tenant's queue, or waits for room there.
     fn queue(&mut self, route: Route, ask: Ask) -> Option<Answer<R>> {
         match self.queued(route, ask) {
-            Some(stage) => {
-                self.stage = stage;
-                None
-            }
+            Some(stage) => self.go_on(stage),
             None => Some(Answer::no_memory()),
         }
     }
@@ -319,31 +354,12 @@ impl<I: Drop, R: Wait + Copy + Drop> Exchange<I, R> {
         let Stage::Queueing(queueing) = mem::replace(&mut self.stage, Stage::Failed) else {
             return Poll::Ready(false);
         };
-        let Queueing {
-            held,
-            place,
-            answer,
-        } = queueing;
-        let HeldBack { mut room, job } = held;
-        match room.poll(cx) {
-            Poll::Pending => {
-                let held = HeldBack { room, job };
-                self.stage = Stage::Queueing(Queueing {
-                    held,
-                    place,
-                    answer,
-                });
-                Poll::Pending
-            }
-            Poll::Ready(Ok(permit)) => {
-                drop(permit.send(job));
-                if let Some(jobs) = &self.jobs {
-                    jobs.call_for(&self.rt, place);
-                }
-                self.stage = Stage::Waiting(answer);
-                Poll::Ready(true)
-            }
-            Poll::Ready(Err(_)) => Poll::Ready(false),
+        let place = queueing.place;
+        let (stage, is_left) = queueing.poll_left(cx);
+        self.stage = stage;
+        if let (Poll::Ready(true), Some(jobs)) = (&is_left, &self.jobs) {
+            jobs.call_for(&self.rt, place);
         }
+        is_left
     }
 }

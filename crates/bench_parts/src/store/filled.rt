@@ -19,11 +19,12 @@ pub(crate) struct Filled {
 impl Filled {
     /// With these keys, which came scattered.
     pub(crate) fn new(alloc: Global, keys: Keys) -> Result<Filled> {
+        let puts = keys.puts(alloc, keys.count)?;
         let mut filled = Filled {
-            tenant: Tenant::new(alloc)?,
             map: BTreeMap::new(alloc),
+            tenant: Tenant::new(alloc)?,
         };
-        filled.put_all(alloc, &keys.puts(alloc, keys.count)?)?;
+        filled.put_all(alloc, &puts)?;
         Ok(filled)
     }
 

@@ -56,14 +56,18 @@ impl Timed {
     /// Nanoseconds of processor time, on a tenant of its own.
     fn time(self, rt: &impl CpuClock, alloc: Global) -> Result<u64> {
         let mut tenant = Tenant::new(alloc)?;
+        self.time_on(rt, alloc, &mut tenant)
+    }
+
+    fn time_on(self, rt: &impl CpuClock, alloc: Global, tenant: &mut Tenant) -> Result<u64> {
         match self {
             Timed::Put {
                 watches,
                 is_watched,
-            } => time_of_put(rt, alloc, &mut tenant, watches, is_watched),
-            Timed::Quiet { keys } => time_of_quiet(rt, alloc, &mut tenant, keys),
-            Timed::Events { is_in_ring } => time_of_events(rt, alloc, &mut tenant, is_in_ring),
-            Timed::Change { budget } => time_of_change(rt, alloc, &mut tenant, budget),
+            } => time_of_put(rt, alloc, tenant, watches, is_watched),
+            Timed::Quiet { keys } => time_of_quiet(rt, alloc, tenant, keys),
+            Timed::Events { is_in_ring } => time_of_events(rt, alloc, tenant, is_in_ring),
+            Timed::Change { budget } => time_of_change(rt, alloc, tenant, budget),
         }
     }
 }

@@ -1,7 +1,7 @@
 //! The rows as lists: all lines of a script asked at once, and each run of its events.
 use etcd_types::Mem;
 use etcd_types::limits::{DEFAULT_SEGMENTS, MAX_SEGMENTS};
-use host_front::{Front, HostEvent, HostLine, LentEvent, LentLine, LineAnswer};
+use host_front::{Answer, Front, HostEvent, HostLine, LentEvent, LentLine, LineAnswer};
 use script_replay::{Asked, read_line, write_answer};
 use std::alloc::Global;
 use std::mem;
@@ -122,7 +122,12 @@ fn tell(rt: &impl Abort, told: &mut Vec<u8>, answer: &LineAnswer) {
 /// What all lines are told, asked at once.
 fn live_all(rt: &impl Abort, alloc: Global, script: &mut Script) -> Mem<()> {
     let mut front = script.front(alloc)?;
-    for answer in &front.live_all(alloc, &script.lines)? {
+    live_lines(rt, alloc, &mut front, script)
+}
+
+fn live_lines(rt: &impl Abort, alloc: Global, front: &mut Front, script: &mut Script) -> Mem<()> {
+    let answers = front.live_all(alloc, &script.lines)?;
+    for answer in answers.as_slice() {
         tell(rt, &mut script.told, answer);
     }
     Ok(())
@@ -130,11 +135,16 @@ fn live_all(rt: &impl Abort, alloc: Global, script: &mut Script) -> Mem<()> {
 
 /// What the run of events is told, asked at once. Then there is none.
 fn answer_run(rt: &impl Abort, alloc: Global, front: &mut Front, script: &mut Script) -> Mem<()> {
-    for answer in front.answer_all(alloc, &script.run)? {
-        tell(rt, &mut script.told, &LineAnswer::Event(answer));
-    }
+    let answers = front.answer_all(alloc, &script.run)?;
+    tell_events(rt, &mut script.told, answers);
     script.run.clear();
     Ok(())
+}
+
+fn tell_events(rt: &impl Abort, told: &mut Vec<u8>, answers: Vec<Answer>) {
+    for answer in answers {
+        tell(rt, told, &LineAnswer::Event(answer));
+    }
 }
 
 fn live_line(
@@ -146,35 +156,60 @@ fn live_line(
 ) -> Mem<()> {
     match line {
         HostLine::Event(event) => Ok(script.run.push(event)?),
-        line => {
-            answer_run(rt, alloc, front, script)?;
-            tell(rt, &mut script.told, &front.live(alloc, &line));
-            Ok(())
-        }
+        line => live_operator(rt, alloc, front, script, &line),
     }
+}
+
+/// What the run of events is told, and then a line of the operator's.
+fn live_operator(
+    rt: &impl Abort,
+    alloc: Global,
+    front: &mut Front,
+    script: &mut Script,
+    line: &HostLine,
+) -> Mem<()> {
+    answer_run(rt, alloc, front, script)?;
+    tell(rt, &mut script.told, &front.live(alloc, line));
+    Ok(())
 }
 
 /// What the lines are told, of which each run of events is asked at once.
 fn live_in_runs(rt: &impl Abort, alloc: Global, script: &mut Script) -> Mem<()> {
     let mut front = script.front(alloc)?;
+    live_runs(rt, alloc, &mut front, script)
+}
+
+fn live_runs(rt: &impl Abort, alloc: Global, front: &mut Front, script: &mut Script) -> Mem<()> {
     for line in mem::replace(&mut script.lines, Vec::new(alloc)) {
-        live_line(rt, alloc, &mut front, script, line)?;
+        live_line(rt, alloc, front, script, line)?;
     }
-    answer_run(rt, alloc, &mut front, script)
+    answer_run(rt, alloc, front, script)
+}
+
+fn assert_told(rt: &impl Abort, script: &Script, row: &Row) {
+    assert!(rt; script.told.as_slice() == row.answers.as_bytes());
+}
+
+fn assert_all_told(rt: &impl Abort, alloc: Global, script: &mut Script, row: &Row) -> Mem<()> {
+    live_all(rt, alloc, script)?;
+    assert_told(rt, script, row);
+    Ok(())
+}
+
+fn assert_runs_told(rt: &impl Abort, alloc: Global, script: &mut Script, row: &Row) -> Mem<()> {
+    live_in_runs(rt, alloc, script)?;
+    assert_told(rt, script, row);
+    Ok(())
 }
 
 fn assert_lived(rt: &impl Abort, alloc: Global, row: &Row) -> Mem<()> {
     let mut script = script_of(alloc, row)?;
-    live_all(rt, alloc, &mut script)?;
-    assert!(rt; script.told.as_slice() == row.answers.as_bytes());
-    Ok(())
+    assert_all_told(rt, alloc, &mut script, row)
 }
 
 fn assert_lived_in_runs(rt: &impl Abort, alloc: Global, row: &Row) -> Mem<()> {
     let mut script = script_of(alloc, row)?;
-    live_in_runs(rt, alloc, &mut script)?;
-    assert!(rt; script.told.as_slice() == row.answers.as_bytes());
-    Ok(())
+    assert_runs_told(rt, alloc, &mut script, row)
 }
 
 #[test]

@@ -1,32 +1,15 @@
-//! The rows, over the host's pool and over each source of segments. Scripts by chance are asked of the program, by
-//! `scripts/check-catch-ups` and `scripts/check-tenants`.
+//! The rows, over each source of segments. Over the host's pool they are asked of the program, by `scripts/check-rows`,
+//! and so are scripts by chance.
 mod single;
 
 use etcd_types::Mem;
 use host_front::LentLine;
-use script_replay::{Asked, ReplayFault, read_line, run};
+use script_replay::{Asked, read_line};
 use single::Singles;
 use std::alloc::Global;
 use std::process::Abort;
 use test_rows::{Row, live_rows, rows};
 use test_segments::{SOURCES, Source};
-
-/// What a script is answered.
-fn answers_to(rt: &impl Abort, alloc: Global, script: &[u8]) -> Vec<u8> {
-    let mut reader = script;
-    let mut answers = Vec::new(alloc);
-    let end: Result<(), ReplayFault> = run(alloc, &mut reader, &mut answers);
-    assert!(rt; end.is_ok());
-    answers
-}
-
-fn assert_answers(rt: &impl Abort, alloc: Global, script: &[u8], wanted: &[u8]) {
-    assert!(rt; answers_to(rt, alloc, script).as_slice() == wanted);
-}
-
-fn assert_row(rt: &impl Abort, alloc: Global, row: &Row) {
-    assert_answers(rt, alloc, row.script.as_bytes(), row.answers.as_bytes());
-}
 
 /// What a script is answered by tenants that each have segments of their own from a source.
 fn answers_over(alloc: Global, source: Source, script: &[u8]) -> Mem<Vec<u8>> {
@@ -74,16 +57,6 @@ fn write_body(answers: &mut Vec<u8>, body: &[u8]) -> Mem<()> {
         answers.push(b'\n')?;
     }
     Ok(())
-}
-
-#[test]
-fn rows_are_answered(rt: HostRuntime) {
-    for row in rows() {
-        assert_row(&rt, rt.alloc(), row);
-    }
-    for row in live_rows() {
-        assert_row(&rt, rt.alloc(), row);
-    }
 }
 
 /// A row is answered so over this source of segments.

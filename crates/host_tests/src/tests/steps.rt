@@ -1,16 +1,9 @@
-//! What a host answers its tenants and its operator, by worked examples.
+//! What a host's tenants are answered, by a list of steps. What its operator is told is asked by the rows.
 //!
-//! A test is a table of turns. One small function owns the host: each way out of it is long to prove.
-ghost use Rattle.std.specs.Prelude.{◌≤◌};
-
-mod turns;
-
-use etcd_types::limits::MAX_SEGMENTS;
+//! One small function owns the host: each way out of it is long to prove.
 use etcd_types::{List, Mem, PutReq, Reply, Step};
 use std::alloc::Global;
-use std::process::Abort;
 use steps_core::Host;
-use turns::{ALONE, FIRST_FAULTS, FULL_TENANT, OTHER_QUOTAS, REMOVED, Turn};
 
 fn put(alloc: Global) -> Mem<Step> {
     Ok(Step::Put(PutReq {
@@ -32,96 +25,53 @@ fn told(reply: &Reply) -> i64 {
     }
 }
 
+fn call_of(alloc: Global, name: &str) -> Mem<(Vec<u8>, Step)> {
+    let step = put(alloc)?;
+    Ok((Vec::from_slice(alloc, name.as_bytes())?, step))
+}
+
 fn calls_of(alloc: Global, names: &[&str]) -> Mem<Vec<(Vec<u8>, Step)>> {
     let mut calls = Vec::new(alloc);
     for name in names {
-        let name = Vec::from_slice(alloc, name.as_bytes())?;
-        calls.push((name, put(alloc)?))?;
+        calls.push(call_of(alloc, name)?)?;
     }
     Ok(calls)
 }
 
-/// What puts of these tenants in turn are told.
-fn told_of(host: &mut Host, alloc: Global, names: &[&str]) -> Mem<Vec<i64>> {
-    let calls = calls_of(alloc, names)?;
-    let replies = host.run(alloc, calls.as_slice())?;
+fn all_told(alloc: Global, replies: &[Reply]) -> Mem<Vec<i64>> {
     let mut all = Vec::new(alloc);
-    for reply in replies.as_slice() {
+    for reply in replies {
         all.push(told(reply))?;
     }
     Ok(all)
 }
 
-/// Puts of these tenants in turn are told so.
-fn assert_puts(
-    rt: &impl Abort,
-    alloc: Global,
-    host: &mut Host,
-    names: &[&str],
-    wanted: &[i64],
-) -> Mem<()> {
-    let told = told_of(host, alloc, names)?;
-    assert_eq!(rt; told.as_slice(), wanted);
-    Ok(())
+fn told_of_calls(host: &mut Host, alloc: Global, calls: &[(Vec<u8>, Step)]) -> Mem<Vec<i64>> {
+    let replies = host.run(alloc, calls)?;
+    all_told(alloc, replies.as_slice())
 }
 
-/// A turn is told what it says.
-fn assert_turn(rt: &impl Abort, alloc: Global, host: &mut Host, turn: &Turn) -> Mem<()> {
-    match *turn {
-        Turn::Add(name, cluster, quota, told) => {
-            assert!(rt;
-                host.add(alloc, name.as_bytes(), cluster, quota, 1) == told,
-                "add {name}"
-            );
-        }
-        Turn::Resize(name, quota, told) => {
-            assert!(rt;
-                host.resize(name.as_bytes(), quota) == told,
-                "resize {name}"
-            );
-        }
-        Turn::Remove(name, told) => {
-            assert!(rt; host.remove(name.as_bytes()) == told, "remove {name}");
-        }
-        Turn::Has(name, told) => assert!(rt; host.has(name.as_bytes()) == told, "has {name}"),
-        Turn::Puts(names, told) => return assert_puts(rt, alloc, host, names, told),
-    }
-    Ok(())
+/// What puts of these tenants in turn are told.
+fn told_of(host: &mut Host, alloc: Global, names: &[&str]) -> Mem<Vec<i64>> {
+    let calls = calls_of(alloc, names)?;
+    told_of_calls(host, alloc, calls.as_slice())
 }
 
-/// A new host tells each turn what it says.
-fn assert_turns(rt: &impl Abort, alloc: Global, segments: u32, turns: &[Turn]) -> Mem<()>
-    requires some { 1 ≤ segments }
-    requires most { segments ≤ MAX_SEGMENTS }
-{
-    let mut host = Host::new(alloc, segments)?;
-    for turn in turns {
-        assert_turn(rt, alloc, &mut host, turn)?;
-    }
-    Ok(())
+/// The same, of a new host with a tenant of eight cells, `one`, and a tenant of 1,024, `two`.
+fn told_of_two(alloc: Global, names: &[&str]) -> Mem<Vec<i64>> {
+    let mut host = Host::new(alloc, 17)?;
+    let _one = host.add(alloc, b"one", 7, 8, 1);
+    let _two = host.add(alloc, b"two", 8, 1024, 1);
+    told_of(&mut host, alloc, names)
 }
 
+/// The first tenant's fourth put finds no space, and a name that nobody has no tenant.
 #[test]
 fn a_full_tenant_is_its_own_matter(rt: HostRuntime) -> Mem<()> {
-    assert_turns(&rt, rt.alloc(), 17, &FULL_TENANT)
-}
-
-#[test]
-fn a_tenant_alone_is_told_the_same(rt: HostRuntime) -> Mem<()> {
-    assert_turns(&rt, rt.alloc(), 16, &ALONE)
-}
-
-#[test]
-fn tells_the_first_fault(rt: HostRuntime) -> Mem<()> {
-    assert_turns(&rt, rt.alloc(), 2, &FIRST_FAULTS)
-}
-
-#[test]
-fn a_quota_is_changed_and_the_alarm_stays(rt: HostRuntime) -> Mem<()> {
-    assert_turns(&rt, rt.alloc(), 4, &OTHER_QUOTAS)
-}
-
-#[test]
-fn a_removed_tenant_leaves_its_segments(rt: HostRuntime) -> Mem<()> {
-    assert_turns(&rt, rt.alloc(), 2, &REMOVED)
+    let names = [
+        "one", "two", "one", "two", "one", "two", "one", "two", "nobody",
+    ];
+    let told = told_of_two(rt.alloc(), &names)?;
+    assert!(rt; told.as_slice() == [2, 2, 3, 3, 4, 4, -9, 5, -16].as_slice());
+    Ok(())
 }

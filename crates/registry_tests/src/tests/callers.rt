@@ -79,10 +79,7 @@ impl Callers {
         match word {
             b"" => Ok(()),
             b"pool" => self.tell(Ok(())),
-            b"add" => {
-                let told = self.registry.add(&config_in(alloc, rest, self.audit)?);
-                self.tell(told)
-            }
+            b"add" => self.add(alloc, rest),
             b"resize" => {
                 let (name, quota) = parted(rest);
                 let told = self.registry.resize(rt, name, number_in(Some(quota)));
@@ -95,6 +92,12 @@ impl Callers {
             b"call" => self.ask_call(rt, alloc, rest),
             _ => self.ask_step(rt, alloc, word, rest),
         }
+    }
+
+    fn add(&mut self, alloc: Global, rest: &[u8]) -> Mem<()> {
+        let config = config_in(alloc, rest, self.audit)?;
+        let told = self.registry.add(&config);
+        self.tell(told)
     }
 
     /// What the operator is told.

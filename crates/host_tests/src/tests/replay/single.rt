@@ -1,6 +1,6 @@
 //! Tenants with segments of their own, each from any source, which are answered as a host answers them.
 ghost use Rattle.std.specs.Prelude.{◌≡◌, ◌+◌, ◌≤◌, IfOk, IfSome, true};
-ghost use Rattle.etcd_types.specs.Limits.{max_quota, min_quota};
+ghost use Rattle.etcd_types.specs.Limits.{last_revision, max_quota, min_quota};
 
 use cell_arena::Segments;
 use etcd_types::limits::{DEFAULT_SEGMENTS, LAST_REVISION, MAX_QUOTA, MIN_QUOTA};
@@ -41,27 +41,28 @@ impl Model for Single {
 }
 
 impl Single {
-    /// A new tenant, or none if its numbers are not within the limits.
     fn new(
         alloc: Global,
         source: Source,
         name: &[u8],
         cluster: u64,
-        quota: u64,
+        quota: u32,
         first: u64,
-    ) -> Mem<Option<Single>> {
-        if cluster == 0 || !is_quota(quota) || first == 0 || first > LAST_REVISION {
-            return Ok(None);
-        }
-        let quota = quota as u32;
+    ) -> Mem<Single>
+        requires cluster { 1 ≤ cluster }
+        requires least { min_quota ≤ quota }
+        requires greatest { quota ≤ max_quota }
+        requires first { 1 ≤ first }
+        requires last { first ≤ last_revision }
+    {
         let reserved = segments_for(quota);
-        Ok(Some(Single {
+        Ok(Single {
             name: Vec::from_slice(alloc, name)?,
-            machine: Machine::new(alloc, cluster, quota, first as i64)?,
             source,
             segments: Shelf::new(alloc, source, reserved)?,
             reserved,
-        }))
+            machine: Machine::new(alloc, cluster, quota, first as i64)?,
+        })
     }
 
     /// Takes another quota, over a new source from which as many segments are drawn as were of the old one.
@@ -86,30 +87,7 @@ impl Single {
 
     /// The status and the body that an event is answered.
     fn answer(&mut self, alloc: Global, event: LentEvent<'_>) -> Mem<(u16, Vec<u8>)> {
-        match event {
-            LentEvent::Call {
-                method,
-                target,
-                body,
-            } => self.call(alloc, method, target, body),
-            LentEvent::Take { slot, .. } => self.step(alloc, &Step::Take(slot)),
-            LentEvent::DropWatch { slot, .. } => self.step(alloc, &Step::DropWatch(slot)),
-            LentEvent::Tick { moment, .. } => self.step(alloc, &Step::Tick(moment)),
-            LentEvent::CatchUp { budget, .. } => self.step(alloc, &Step::CatchUp(budget)),
-        }
-    }
-
-    fn call(
-        &mut self,
-        alloc: Global,
-        method: &[u8],
-        target: &[u8],
-        body: &[u8],
-    ) -> Mem<(u16, Vec<u8>)> {
-        let Some(target) = target_of(target) else {
-            return refuse(alloc, Refusal::NoPath);
-        };
-        match read_posted(alloc, method, target.path, body) {
+        match step_of(alloc, event) {
             Ok(step) => self.step(alloc, &step),
             Err(refusal) => refuse(alloc, refusal),
         }
@@ -117,9 +95,27 @@ impl Single {
 
     fn step(&mut self, alloc: Global, step: &Step) -> Mem<(u16, Vec<u8>)> {
         let planned = self.machine.plan(alloc, step)?;
-        let answer = write_reply(alloc, planned.reply())?;
+        let answer = write_reply(alloc, planned.reply());
         let _ = self.machine.commit(&mut self.segments, planned);
-        Ok(answer)
+        answer
+    }
+}
+
+/// The step of an event, or the refusal of a call that is none.
+fn step_of(alloc: Global, event: LentEvent<'_>) -> Result<Step, Refusal> {
+    match event {
+        LentEvent::Call {
+            method,
+            target,
+            body,
+        } => match target_of(target) {
+            Some(target) => read_posted(alloc, method, target.path, body),
+            None => Err(Refusal::NoPath),
+        },
+        LentEvent::Take { slot, .. } => Ok(Step::Take(slot)),
+        LentEvent::DropWatch { slot, .. } => Ok(Step::DropWatch(slot)),
+        LentEvent::Tick { moment, .. } => Ok(Step::Tick(moment)),
+        LentEvent::CatchUp { budget, .. } => Ok(Step::CatchUp(budget)),
     }
 }
 
@@ -188,15 +184,17 @@ impl Singles {
         quota: u64,
         first: u64,
     ) -> Mem<&'static str> {
-        let Some(single) = Single::new(alloc, self.source, name, cluster, quota, first)? else {
+        if cluster == 0 || !is_quota(quota) || first == 0 || first > LAST_REVISION {
             return Ok("no limits");
-        };
+        }
+        let quota = quota as u32;
         if self.place_of(name).is_some() {
             return Ok("no taken");
         }
-        if single.reserved > self.unreserved() {
+        if segments_for(quota) > self.unreserved() {
             return Ok("no short");
         }
+        let single = Single::new(alloc, self.source, name, cluster, quota, first)?;
         self.tenants.push(single)?;
         Ok("ok")
     }
