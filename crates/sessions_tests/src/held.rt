@@ -81,16 +81,24 @@ where
     Ok(told.load(Ordering::SeqCst))
 }
 
-#[test]
-fn a_call_on_another_tenant_does_not_wait(rt: HostRuntime) -> Result<(), Fail> {
+/// The same, in a new registry.
+fn are_finished_in_new<R>(rt: R, gate: &Until) -> Result<bool, Fail>
+where
+    R: Wait + Threads + Clock + RandomSource + AllocGlobal + Copy + Drop + Send + Sync + 'static,
+{
     let mut registry = two_tenants(rt.alloc())?;
     let seats = seats(rt.alloc(), &mut registry, SEATS)?;
+    are_finished(rt, &registry, seats, gate)
+}
+
+#[test]
+fn a_call_on_another_tenant_does_not_wait(rt: HostRuntime) -> Result<(), Fail> {
     let gate = Until {
         held: AtomicBool::new(false),
         answered: AtomicBool::new(false),
         last: AtomicBool::new(false),
     };
-    let are_finished = are_finished(rt, &registry, seats, &gate)?;
+    let are_finished = are_finished_in_new(rt, &gate)?;
     assert!(rt; are_finished);
     assert!(rt; gate.held.load(Ordering::SeqCst) && !gate.last.load(Ordering::SeqCst));
     Ok(())

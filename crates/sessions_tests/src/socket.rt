@@ -9,7 +9,7 @@ use std::sync::Wait;
 use std::test::Fail;
 use std::thread::{self, Threads};
 use std::time::Clock;
-use tenant_registry::OpenGate;
+use tenant_registry::{OpenGate, Registry};
 
 const CONFIG: &'static [u8] =
     b"{\"listen\":\"127.0.0.1:0\",\"connections\":\"1\",\"workers\":2,\"tenants\":[{\"name\":\"one\",\"cluster_id\":\"7\",\"quota\":1024}]}";
@@ -43,13 +43,37 @@ where
         + Sync
         + 'static,
 {
+    let mut registry = two_tenants(alloc)?;
+    served_in(rt, alloc, config, &mut registry)
+}
+
+/// The same, of a server of this registry.
+fn served_in<R>(
+    rt: R,
+    alloc: Global,
+    config: &Config,
+    registry: &mut Registry,
+) -> Result<(Ended, Vec<u8>), Fail>
+where
+    R: Wait
+        + Threads
+        + Clock
+        + Net
+        + RandomSource
+        + AllocGlobal
+        + Copy
+        + Drop
+        + Send
+        + Sync
+        + 'static,
+{
     let listening = Sessions::listen(&rt, config)?;
     let address = listening.address()?;
-    let mut registry = two_tenants(alloc)?;
-    let seats = seats(alloc, &mut registry, config.seats())?;
+    let seats = seats(alloc, registry, config.seats())?;
+    let registry: &Registry = registry;
     let (ended, answer) = thread::join(
         &rt,
-        || Sessions::serve(rt, listening, &registry, seats, &OpenGate),
+        || Sessions::serve(rt, listening, registry, seats, &OpenGate),
         || exchange(&rt, alloc, address, PUT_REQUEST),
     );
     let answer = answer?;

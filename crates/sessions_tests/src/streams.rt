@@ -54,12 +54,20 @@ fn left_by<R>(rt: R, peer: Peer) -> Result<Left, Fail>
 where
     R: Wait + Threads + Clock + RandomSource + AllocGlobal + Copy + Drop + Send + Sync + 'static,
 {
+    let mut registry = two_tenants(rt.alloc())?;
+    left_in(rt, &mut registry, peer)
+}
+
+/// The same, in this registry.
+fn left_in<R>(rt: R, registry: &mut Registry, peer: Peer) -> Result<Left, Fail>
+where
+    R: Wait + Threads + Clock + RandomSource + AllocGlobal + Copy + Drop + Send + Sync + 'static,
+{
     let alloc = rt.alloc();
-    let mut registry = two_tenants(alloc)?;
-    let seats = seats(alloc, &mut registry, SEATS)?;
+    let seats = seats(alloc, registry, SEATS)?;
+    let is_finished = is_finished_by(rt, registry, seats, peer)?;
     let mut seat = registry.seat()?;
-    let is_finished = is_finished_by(rt, &registry, seats, peer)?;
-    left_on(&rt, alloc, &registry, &mut seat, is_finished)
+    left_on(&rt, alloc, registry, &mut seat, is_finished)
 }
 
 /// Serves a peer, and says whether its connection is finished.

@@ -80,8 +80,8 @@ impl Host {
     {
         let quota = quota as u32;
         let key = Vec::from_slice(alloc, name)?;
-        let machine = Machine::new(alloc, cluster, quota, first as i64)?;
         self.tenants.reserve(1)?;
+        let machine = Machine::new(alloc, cluster, quota, first as i64)?;
         // From here on no memory is taken, so nothing has to be undone.
         let Ok(ticket) = self.desk.pool.reserve(segments_for(quota)) else {
             unreachable!()

@@ -5,7 +5,7 @@ ghost use Rattle.etcd_model.specs.Held.{Holds};
 ghost use Rattle.etcd_types.specs.Limits.{max_quota};
 ghost use Rattle.tenant_machine.specs.Reserving.{reservation};
 ghost use Rattle.tenant_machine.specs.Tenants.{tenant};
-ghost use Rattle.tenant_registry.specs.Audits.{IsAllowed, IsLawful, opened_log, opening_of};
+ghost use Rattle.tenant_registry.specs.Audits.{IsAllowed, IsLawful, copy_at, entry, opened_log, opening_of};
 ghost use Rattle.tenant_registry.specs.Receipts.{is_cancel, slip_of, slot_of};
 ghost use Rattle.tenant_registry.specs.Resizing.{Resizes, Stays, lacks_segments, unresized};
 ghost use Rattle.tenant_registry.specs.Serving.{Serves};
@@ -126,6 +126,18 @@ pub struct Served {
     pub mine: Option<Entry>,
 }
 
+impl Served {
+    /// What a call is given of a reply.
+    fn of(alloc: Global, turn: Option<u32>, seat: u8, step: &Step, reply: &Reply) -> Mem<Served>
+        ensures receipt { IfOk result (λ served. served.receipt ≡ slip_of turn reply.now) }
+        ensures mine { IfOk result (λ served. served.mine ≡ copy_at turn (entry seat step.now reply.now)) }
+    {
+        let receipt = Receipt::of(alloc, turn, reply)?;
+        let mine = Entry::copy_at(alloc, turn, seat, step, reply)?;
+        Ok(Served { receipt, mine })
+    }
+}
+
 /// One tenant, as its lock keeps it: its machine, its audit, and the segments that it may draw and has not.
 #[derive(Drop)]
 pub struct Kept {
@@ -188,11 +200,10 @@ impl Kept {
         let turn = self.audit.next_turn();
         let planned = self.machine.plan(self.alloc, &step)?;
         let told = planned.reply();
-        let receipt = Receipt::of(self.alloc, turn, told)?;
-        let mine = Entry::copy_at(self.alloc, turn, seat, &step, told)?;
+        let served = Served::of(self.alloc, turn, seat, &step, told)?;
         let reply = self.machine.commit(&mut self.left, planned);
         self.audit.keep(Entry { seat, step, reply });
-        Ok(Served { receipt, mine })
+        Ok(served)
     }
 
     /// Which takes of its watches may not be quiet.

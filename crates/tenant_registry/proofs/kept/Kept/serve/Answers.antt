@@ -13,4 +13,4 @@ pub returns-clause-ok : goal.returns-clause-ok
 returns-clause-ok c =
     serves c.args.self.now c.self.inside.machine c.commit-reply.new.self c.self.inside.audit c.keep.new.self c.self.inside.left c.commit-reply.new.segments c.args.seat c.args.step c.in_ok-planned.planned
     c.commit-reply.result c.reply-told.result.now c.next_turn-turn.result _ c.self.view_is c.in_ok-planned.ensures.plans c.commit-reply.ensures.after c.commit-reply.ensures.reply c.next_turn-turn.ensures c.reply-told.ensures
-    c.in_ok-receipt.ensures c.in_ok-mine.ensures c.keep.ensures
+    c.in_ok-served.ensures.receipt c.in_ok-served.ensures.mine c.keep.ensures
