@@ -1,5 +1,5 @@
 //! Why the server ends early.
-ghost use Rattle.std.specs.Prelude.{◌≡◌};
+ghost use Rattle.std.specs.Prelude.{◌≡◌, ◌≢◌};
 ghost use Rattle.etcd_host.specs.Faults.{status_of};
 
 use host_sessions::{ConfigFault, ListenFault, ServeFault};
@@ -38,13 +38,18 @@ impl HostFault {
 }
 
 impl From<io::Error> for HostFault {
-    fn from(_: io::Error) -> HostFault {
+    fn from(_: io::Error) -> HostFault
+        ensures { result ≡ HostFault.Io }
+    {
         HostFault::Io
     }
 }
 
 impl From<ConfigFault> for HostFault {
-    fn from(fault: ConfigFault) -> HostFault {
+    fn from(fault: ConfigFault) -> HostFault
+        ensures unreadable { fault ≡ ConfigFault.Unreadable → result ≡ HostFault.Config }
+        ensures memory { fault ≡ ConfigFault.Memory → result ≡ HostFault.Memory }
+    {
         match fault {
             ConfigFault::Unreadable => HostFault::Config,
             ConfigFault::Memory => HostFault::Memory,
@@ -53,7 +58,10 @@ impl From<ConfigFault> for HostFault {
 }
 
 impl From<ListenFault> for HostFault {
-    fn from(fault: ListenFault) -> HostFault {
+    fn from(fault: ListenFault) -> HostFault
+        ensures listen { fault ≢ ListenFault.Memory → result ≡ HostFault.Listen }
+        ensures memory { fault ≡ ListenFault.Memory → result ≡ HostFault.Memory }
+    {
         match fault {
             ListenFault::Address | ListenFault::Socket => HostFault::Listen,
             ListenFault::Memory => HostFault::Memory,
@@ -62,7 +70,10 @@ impl From<ListenFault> for HostFault {
 }
 
 impl From<ServeFault> for HostFault {
-    fn from(fault: ServeFault) -> HostFault {
+    fn from(fault: ServeFault) -> HostFault
+        ensures socket { fault ≡ ServeFault.Socket → result ≡ HostFault.Io }
+        ensures memory { fault ≡ ServeFault.Memory → result ≡ HostFault.Memory }
+    {
         match fault {
             ServeFault::Socket => HostFault::Io,
             ServeFault::Memory => HostFault::Memory,
@@ -71,7 +82,10 @@ impl From<ServeFault> for HostFault {
 }
 
 impl From<CloseFault> for HostFault {
-    fn from(fault: CloseFault) -> HostFault {
+    fn from(fault: CloseFault) -> HostFault
+        ensures memory { fault ≡ CloseFault.Memory → result ≡ HostFault.Memory }
+        ensures mismatch { fault ≢ CloseFault.Memory → result ≡ HostFault.Mismatch }
+    {
         match fault {
             CloseFault::Memory => HostFault::Memory,
             _ => HostFault::Mismatch,
