@@ -1,5 +1,5 @@
 //! Items one after another.
-ghost use Rattle.std.specs.Prelude.{◌≡◌, ◌++◌, length, nat_eq, take};
+ghost use Rattle.std.specs.Prelude.{◌≡◌, ◌++◌, [], length, nat_eq, take};
 ghost use Rattle.chunk_list.specs.Chunks.{chunk_items};
 ghost use Rattle.chunk_list.specs.Shelves.{HasLeft, chunks_in};
 
@@ -39,6 +39,37 @@ impl<'a, T: Copy> Walk<'a, T> {
 }
 
 impl<'a, T> Walk<'a, T> {
+    /// No item.
+    pub fn none() -> Walk<'a, T>
+        ensures { result ≡ [] }
+    {
+        Walk {
+            places: &[],
+            at_hand: &[],
+            spans: &[],
+            left: 0,
+        }
+    }
+
+    /// The first so many of the items that are left, or all of them if there are fewer. This walk stays where it is.
+    pub fn first(&self, count: usize) -> Walk<'a, T>
+        ensures { result ≡ take count self.now }
+    {
+        Walk {
+            places: self.places,
+            at_hand: self.at_hand,
+            spans: self.spans,
+            left: self.left.min(count),
+        }
+    }
+
+    /// All items that are left, to go over while this walk stays where it is.
+    pub fn again(&self) -> Walk<'a, T>
+        ensures { result ≡ self.now }
+    {
+        self.first(self.left)
+    }
+
     /// How many items are left.
     pub fn len(&self) -> usize
         ensures { result ≡ length self.now }
