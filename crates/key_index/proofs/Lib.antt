@@ -14,6 +14,7 @@ pub mod Times
 pub mod Order
 pub mod OrderKept
 pub mod OrderAdded
+pub mod Settled
 pub mod Listing
 pub mod Turned
 pub mod Parted

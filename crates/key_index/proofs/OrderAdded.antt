@@ -58,13 +58,13 @@ has_change cells c x is = let e = linked_some cells c x is in ap is_some e.1
 
 -- Under a fresh cell is one record more, and links may differ.
 module _ (old new : Cells) (c : ℕ) (e : Linked) (fresh : old c ≡ None) (same : SameChanges (with_record old c e) new) where
-  change_here : change_at new c ≡ Some e.change
+  pub change_here : change_at new c ≡ Some e.change
   change_here = same c ∙ change_some (with_record old c e) c e (at_record old c e)
 
-  change_there : (b : ℕ) → b ≢ c → change_at new b ≡ change_at old b
+  pub change_there : (b : ℕ) → b ≢ c → change_at new b ≡ change_at old b
   change_there b differs = same b ∙ ap (option_map (λ (x : Linked). x.change)) (if_other b c (Some e) (old b) differs)
 
-  not_fresh : (b : ℕ) → is_some (old b) ≡ true → b ≢ c
+  pub not_fresh : (b : ℕ) → is_some (old b) ≡ true → b ≢ c
   not_fresh b has eq =
       let none : is_some (old b) ≡ false = ap (λ (x : ℕ). is_some (old x)) eq ∙ ap is_some fresh in
       cc
