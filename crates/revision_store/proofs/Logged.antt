@@ -1,6 +1,7 @@
 -- A log with nothing, with one change more, and with one lease more or fewer.
 use Rattle.std.proofs.Common.{◌≡◌, ℕ, ◌+◌, ◌%◌, ◌^◌, ◌<◌, ◌≤◌, List, [], ◌∷◌, ◌++◌, length, Option, Some, None, IsSome, true, sym, ap, ◌∙◌, refl, subst, arith, inl, inr}
 use Rattle.std.proofs.Math.Nat.{le_refl}
+use Rattle.std.proofs.lemmas.List.{append_assoc, length-append}
 use Rattle.std.specs.Prelude.{option_and_then, option_map}
 use Rattle.std.specs.Ordering.{nat_cmp}
 use Rattle.std.specs.FinMap.{get, get-empty}
@@ -9,6 +10,7 @@ use Rattle.std.specs.List.{All, AllByRecursion}
 use Rattle.std.proofs.lemmas.Bool.{cases_eq}
 use Rattle.std.proofs.lemmas.List.Elements.{All-head, All-tail}
 use Rattle.std.proofs.lemmas.List.Sums.{sum_by-cons, sum_by_push}
+use Rattle.chunk_list.specs.Chunked.{Chunked}
 use Rattle.cell_arena.specs.Chain.{Record}
 use Rattle.cell_arena.specs.Region.{RegionState, no_records}
 use Rattle.etcd_types.specs.declared.key_value.KeyValue.{KeyValue}
@@ -17,9 +19,10 @@ use Rattle.etcd_model.specs.Kept.{cost}
 use Rattle.etcd_model.specs.Store.{record_cells}
 use Rattle.key_index.specs.Links.{Cells, Linked, IsChained, IsPlaced, SameChanges, change_at, without}
 use Rattle.key_index.specs.Index.{Heads, IsIndexOf, key_count}
-use Rattle.key_index.specs.Order.{AreAll, changes_in, with_record}
+use Rattle.key_index.specs.Order.{AreAll, AreSettled, IsInOrder, changes_in, with_record}
 use Rattle.key_index.proofs.Links.{if_other}
 use Rattle.key_index.proofs.Order.{changes_some, parted_few, which}
+use Rattle.key_index.proofs.Settled.{settled_added}
 use Rattle.key_index.proofs.OrderAdded.{changes_added, all_added, in_order_added, each_record, without_record, placed_record}
 use Rattle.revision_store.specs.Recorded.{LeaseRecord, cells_of, linked_of, lease_by, leases_of, with_lease_cell, without_lease_cell, AreCounted, ArePlain}
 use Rattle.revision_store.specs.Logged.{IsLog, AllStay}
@@ -27,6 +30,7 @@ use Rattle.revision_store.specs.Plans.{change_in, cost_in, recorded_in}
 use Rattle.revision_store.specs.declared.plan.Write.{Write}
 use Rattle.revision_store.specs.declared.plan.Write.TheVariants.{Put, Delete}
 use Rattle.revision_store.proofs.Counted.{counted_more, counted_fewer}
+use Rattle.revision_store.proofs.Walked.{all_front}
 
 -- ---- nothing
 
@@ -42,9 +46,9 @@ no_linked c e at = let none = no_change c in cc
 no_lease : (c : ℕ) → leases_of map.empty c ≡ None
 no_lease c = ap (option_and_then (λ (r : Record). lease_by r.kind r)) (get-empty nat_cmp c)
 
-pub empty_is_log : (cells room places : ℕ) → cells % 64 ≡ 0 → cells ≤ 2 ^ 20 → cells ≤ room → cells ≤ places
-    → IsLog (no_records cells) (record { live = []; dead = []; capacity = room }) [] places 0
-empty_is_log cells room places whole few has_room has_places = record {
+pub empty_is_log : (cells room : ℕ) (settled recent : Chunked ℕ) → cells % 64 ≡ 0 → cells ≤ 2 ^ 20 → cells ≤ room → settled.items ≡ [] → recent.items ≡ [] → cells ≤ settled.room → cells ≤ recent.room
+    → IsLog (no_records cells) (record { live = []; dead = []; capacity = room }) settled recent 0
+empty_is_log cells room settled recent whole few has_room no_settled no_recent settled_room recent_room = record {
   index = record {
     heads = [];
     are = record {
@@ -62,9 +66,10 @@ empty_is_log cells room places whole few has_room has_places = record {
   };
   all = record {
     once = λ c e at. absurd (no_linked c e at);
-    some = λ k d lt. absurd (omega (arith, lt));
+    some = λ k d lt. absurd (omega (arith, lt, ap length none));
   };
-  rises = tt;
+  rises = subst (λ (order : List ℕ). Rises (changes_in (cells_of map.empty) order)) (sym none) tt;
+  settled = subst (AreSettled (cells_of map.empty)) (sym no_settled) tt;
   plain = λ c r at. absurd (none_there c r at);
   leases = record {
     list = [];
@@ -72,12 +77,16 @@ empty_is_log cells room places whole few has_room has_places = record {
     once = λ c some. (let none = no_lease c in absurd (cc));
     only = λ c none. refl;
   };
-  space = omega (arith, whole);
+  space = omega (arith, whole, ap (λ (order : List ℕ). record_cells (changes_in (cells_of map.empty) order)) none);
   most = omega (arith, few);
   reserved = le_refl _;
   index_capacity = omega (arith, has_room);
-  order_capacity = omega (arith, has_places);
+  settled_capacity = omega (arith, settled_room);
+  recent_capacity = omega (arith, recent_room);
 }
+  where
+    none : settled.items ++ recent.items ≡ []
+    none = ap (λ (xs : List ℕ). xs ++ recent.items) no_settled ∙ no_recent
 
 -- ---- one change more
 
@@ -106,7 +115,14 @@ order_few cells (c ∷ cs) some =
     let split = sum_by-cons (λ (x : Recorded). cost (change_of x)) at.0.change (changes_in cells cs) in
     omega (arith, all, split, some_cells at.0.change, rest)
 
-module _ {r0 : RegionState} (r1 : RegionState) {heads0 : Heads} {order : List ℕ} {places leases : ℕ} (c revision : ℕ) (write : Write) (log : IsLog r0 heads0 order places leases) (fresh : get r0.records c ≡ None) (placed : cells_of r1.records ≡ with_record (cells_of r0.records) c (record { change = recorded_in (cells_of r0.records) revision write; older = None })) (free : r1.free + cost_in (cells_of r0.records) write ≡ r0.free) where
+-- a cell at the end of the recent ones stands at the end of all
+pub order_more : (settled recent after : List ℕ) (c : ℕ) → after ≡ recent ++ c ∷ [] → settled ++ after ≡ (settled ++ recent) ++ c ∷ []
+order_more settled recent after c is = ap (λ (xs : List ℕ). settled ++ xs) is ∙ sym (append_assoc settled recent (c ∷ []))
+
+module _ {r0 : RegionState} (r1 : RegionState) {heads0 : Heads} {settled recent : Chunked ℕ} {leases : ℕ} (c revision : ℕ) (write : Write) (log : IsLog r0 heads0 settled recent leases) (fresh : get r0.records c ≡ None) (placed : cells_of r1.records ≡ with_record (cells_of r0.records) c (record { change = recorded_in (cells_of r0.records) revision write; older = None })) (free : r1.free + cost_in (cells_of r0.records) write ≡ r0.free) where
+  abbrev order : List ℕ
+  order = settled.items ++ recent.items
+
   abbrev new_change : Recorded
   new_change = recorded_in (cells_of r0.records) revision write
 
@@ -120,8 +136,8 @@ module _ {r0 : RegionState} (r1 : RegionState) {heads0 : Heads} {order : List �
   fresh_cell = ap (option_and_then linked_of) fresh
 
   -- each of the places is of a cell in use
-  pub order_fits : length order < places
-  order_fits = omega (arith, order_few (cells_of r0.records) order log.all.some, some_cells new_change, free1, log.space, log.reserved, log.order_capacity)
+  pub recent_fits : length recent.items < recent.room
+  recent_fits = omega (arith, order_few (cells_of r0.records) order log.all.some, length-append settled.items recent.items, some_cells new_change, free1, log.space, log.reserved, log.recent_capacity)
 
   pub heads_fit : key_count heads0 < heads0.capacity
   heads_fit = omega (arith, parted_few (cells_of r0.records) true heads0.live heads0.dead order log.index log.all, order_few (cells_of r0.records) order log.all.some, some_cells new_change, free1, log.space, log.reserved, log.index_capacity)
@@ -157,11 +173,13 @@ module _ {r0 : RegionState} (r1 : RegionState) {heads0 : Heads} {order : List �
       | inr differs ↦ same_changes b ∙ ap (option_map (λ (g : Linked). g.change)) (if_other b c (Some new_linked) (cells_of r0.records b) differs) ∙ at
     ]
 
-    pub log_more : (heads2 : Heads) → AllByRecursion (λ x. x.revision ≤ revision) (changes_in (cells_of r0.records) order)
+    pub log_more : (heads2 : Heads) (after : Chunked ℕ) → after.items ≡ recent.items ++ c ∷ [] → after.room ≡ recent.room → AllByRecursion (λ x. x.revision ≤ revision) (changes_in (cells_of r0.records) order)
         → IsIndexOf (cells_of r2.records) heads2.live heads2.dead → IsChained (cells_of r2.records) → heads2.capacity ≡ heads0.capacity
         → leases_of r2.records ≡ leases_of r0.records → ArePlain r2.records → r2.free ≡ r1.free → r2.share.reserved ≡ r0.share.reserved → r2.share.rooms ≡ r0.share.rooms
-        → IsLog r2 heads2 (order ++ c ∷ []) places leases
-    log_more heads2 up index chained room same_leases plain same_free reserved rooms =
+        → IsLog r2 heads2 settled after leases
+    log_more heads2 after more places up index chained room same_leases plain same_free reserved rooms =
+        let moved = order_more settled.items recent.items after.items c more in
+        let seen = ap (λ (xs : List ℕ). record_cells (changes_in (cells_of r2.records) xs)) moved in
         let cells : record_cells (changes_in (cells_of r2.records) (order ++ c ∷ [])) ≡ record_cells (changes_in (cells_of r0.records) order ++ new_change ∷ []) = ap record_cells changes_more in
         let split = sum_by_push (λ (x : Recorded). cost (change_of x)) (changes_in (cells_of r0.records) order) new_change in
         let later : AllByRecursion (λ x. x.revision ≤ new_change.revision) (changes_in (cells_of r0.records) order) =
@@ -169,44 +187,50 @@ module _ {r0 : RegionState} (r1 : RegionState) {heads0 : Heads} {order : List �
         record {
           index = index;
           chained = chained;
-          all = all_added (cells_of r0.records) (cells_of r2.records) c new_linked fresh_cell same_changes order log.all;
-          rises = in_order_added (cells_of r0.records) (cells_of r2.records) c new_linked fresh_cell same_changes order log.all log.rises later;
+          all = subst (AreAll (cells_of r2.records)) (sym moved) (all_added (cells_of r0.records) (cells_of r2.records) c new_linked fresh_cell same_changes order log.all);
+          rises = subst (IsInOrder (cells_of r2.records)) (sym moved) (in_order_added (cells_of r0.records) (cells_of r2.records) c new_linked fresh_cell same_changes order log.all log.rises later);
+          settled = settled_added (cells_of r0.records) (cells_of r2.records) c new_linked fresh_cell same_changes
+              (λ b g at key. each_record (λ x. x.revision ≤ new_change.revision) (cells_of r0.records) order log.all later b g at)
+              settled.items (all_front (λ b. IsSome (cells_of r0.records b)) settled.items recent.items log.all.some) log.settled;
           plain = plain;
           leases = subst (λ l. AreCounted l leases) (sym same_leases) log.leases;
-          space = omega (arith, cells, split, free1, same_free, reserved, log.space);
+          space = omega (arith, seen, cells, split, free1, same_free, reserved, log.space);
           most = omega (arith, rooms, log.most);
           reserved = omega (arith, reserved, rooms, log.reserved);
           index_capacity = omega (arith, rooms, room, log.index_capacity);
-          order_capacity = omega (arith, rooms, log.order_capacity);
+          settled_capacity = omega (arith, rooms, log.settled_capacity);
+          recent_capacity = omega (arith, rooms, places, log.recent_capacity);
         }
 
 -- ---- one lease more or fewer
 
-module _ {r0 : RegionState} (r1 : RegionState) {heads : Heads} {order : List ℕ} {places leases : ℕ} (c : ℕ) (log : IsLog r0 heads order places leases) (cells : cells_of r1.records ≡ cells_of r0.records) (plain : ArePlain r1.records) (reserved : r1.share.reserved ≡ r0.share.reserved) (rooms : r1.share.rooms ≡ r0.share.rooms) where
-  with_counted : (now : ℕ) → AreCounted (leases_of r1.records) now → r1.free + now ≡ r0.free + leases → IsLog r1 heads order places now
+module _ {r0 : RegionState} (r1 : RegionState) {heads : Heads} {settled recent : Chunked ℕ} {leases : ℕ} (c : ℕ) (log : IsLog r0 heads settled recent leases) (cells : cells_of r1.records ≡ cells_of r0.records) (plain : ArePlain r1.records) (reserved : r1.share.reserved ≡ r0.share.reserved) (rooms : r1.share.rooms ≡ r0.share.rooms) where
+  with_counted : (now : ℕ) → AreCounted (leases_of r1.records) now → r1.free + now ≡ r0.free + leases → IsLog r1 heads settled recent now
   with_counted now counted space =
-      let same : record_cells (changes_in (cells_of r1.records) order) ≡ record_cells (changes_in (cells_of r0.records) order) = ap (λ (m : Cells). record_cells (changes_in m order)) cells in
+      let same : record_cells (changes_in (cells_of r1.records) (settled.items ++ recent.items)) ≡ record_cells (changes_in (cells_of r0.records) (settled.items ++ recent.items)) = ap (λ (m : Cells). record_cells (changes_in m (settled.items ++ recent.items))) cells in
       record {
         index = subst (λ (m : Cells). IsIndexOf m heads.live heads.dead) (sym cells) log.index;
         chained = subst IsChained (sym cells) log.chained;
-        all = subst (λ (m : Cells). AreAll m order) (sym cells) log.all;
-        rises = subst (λ (m : Cells). Rises (changes_in m order)) (sym cells) log.rises;
+        all = subst (λ (m : Cells). AreAll m (settled.items ++ recent.items)) (sym cells) log.all;
+        rises = subst (λ (m : Cells). Rises (changes_in m (settled.items ++ recent.items))) (sym cells) log.rises;
+        settled = subst (λ (m : Cells). AreSettled m settled.items) (sym cells) log.settled;
         plain = plain;
         leases = counted;
         space = omega (arith, same, space, reserved, log.space);
         most = omega (arith, rooms, log.most);
         reserved = omega (arith, reserved, rooms, log.reserved);
         index_capacity = omega (arith, rooms, log.index_capacity);
-        order_capacity = omega (arith, rooms, log.order_capacity);
+        settled_capacity = omega (arith, rooms, log.settled_capacity);
+        recent_capacity = omega (arith, rooms, log.recent_capacity);
       }
 
-  pub lease_more : (l : LeaseRecord) (now : ℕ) → get r0.records c ≡ None → leases_of r1.records ≡ with_lease_cell (leases_of r0.records) c l → r1.free + 1 ≡ r0.free → now ≡ leases + 1 → IsLog r1 heads order places now
+  pub lease_more : (l : LeaseRecord) (now : ℕ) → get r0.records c ≡ None → leases_of r1.records ≡ with_lease_cell (leases_of r0.records) c l → r1.free + 1 ≡ r0.free → now ≡ leases + 1 → IsLog r1 heads settled recent now
   lease_more l now fresh is free one =
       let none : leases_of r0.records c ≡ None = ap (option_and_then (λ (r : Record). lease_by r.kind r)) fresh in
       let counted = counted_more (leases_of r0.records) c l leases none log.leases in
       with_counted now (subst (λ (n : ℕ). AreCounted (leases_of r1.records) n) (sym one) (subst (λ m. AreCounted m (leases + 1)) (sym is) counted)) (omega (arith, free, one))
 
-  pub lease_fewer : (now : ℕ) → IsSome (leases_of r0.records c) → leases_of r1.records ≡ without_lease_cell (leases_of r0.records) c → r1.free ≡ r0.free + 1 → now + 1 ≡ leases → IsLog r1 heads order places now
+  pub lease_fewer : (now : ℕ) → IsSome (leases_of r0.records c) → leases_of r1.records ≡ without_lease_cell (leases_of r0.records) c → r1.free ≡ r0.free + 1 → now + 1 ≡ leases → IsLog r1 heads settled recent now
   lease_fewer now some is free one =
       let counted = counted_fewer (leases_of r0.records) c leases now some one log.leases in
       with_counted now (subst (λ m. AreCounted m now) (sym is) counted) (omega (arith, free, one))

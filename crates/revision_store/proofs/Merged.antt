@@ -9,6 +9,7 @@ use Rattle.std.specs.declared.cmp.Ordering.TheVariants.{Less}
 use Rattle.std.proofs.lemmas.List.{append-nil, length-drop, length-take}
 use Rattle.std.proofs.lemmas.List.Elements.{All-filter, All-from_recursion, All-head, recursion_from_All, All-append}
 use Rattle.std.proofs.lemmas.List.Filters.{length-filter_both}
+use Rattle.chunk_list.specs.Chunked.{Chunked}
 use Rattle.cell_arena.specs.Chain.{Record}
 use Rattle.cell_arena.specs.Region.{RegionState}
 use Rattle.etcd_types.specs.declared.key_value.KeyValue.{KeyValue}
@@ -248,13 +249,13 @@ module _ (cells : Cells) (live_heads dead_heads order key end : List ℕ) (parte
   }
 
 -- the heads of an interval, at first
-pub reading_first : (region : RegionState) (heads : Heads) (order : List ℕ) (places leases : ℕ) (records : FinMap nat_cmp Record) (changes : List Recorded) (key end : List ℕ) (r : ℕ) (live_some dead_some : List ℕ) → IsLog region heads order places leases → region.records ≡ records → changes_in (cells_of region.records) order ≡ changes
+pub reading_first : (region : RegionState) (heads : Heads) (settled recent : Chunked ℕ) (leases : ℕ) (records : FinMap nat_cmp Record) (changes : List Recorded) (key end : List ℕ) (r : ℕ) (live_some dead_some : List ℕ) → IsLog region heads settled recent leases → region.records ≡ records → changes_in (cells_of region.records) (settled.items ++ recent.items) ≡ changes
     → AreHeadsIn (cells_of region.records) heads.live key end live_some → AreHeadsIn (cells_of region.records) heads.dead key end dead_some
     → IsReading (cells_of records) (λ k. live k r changes) (record { live = live_some; dead = dead_some }) [] (rows (is_in key end) r changes)
-reading_first region heads order places leases records changes key end r live_some dead_some log same is of_live of_dead =
+reading_first region heads settled recent leases records changes key end r live_some dead_some log same is of_live of_dead =
     subst (λ (m : FinMap nat_cmp Record). IsReading (cells_of m) (λ k. live k r changes) (record { live = live_some; dead = dead_some }) [] (rows (is_in key end) r changes)) same
     (subst (λ (xs : List Recorded). IsReading (cells_of region.records) (λ k. live k r xs) (record { live = live_some; dead = dead_some }) [] (rows (is_in key end) r xs)) is
-    (reading_parted (cells_of region.records) heads.live heads.dead order key end log.index (own_rows region.records) r live_some dead_some of_live of_dead))
+    (reading_parted (cells_of region.records) heads.live heads.dead (settled.items ++ recent.items) key end log.index (own_rows region.records) r live_some dead_some of_live of_dead))
 
 -- the same lists, as they are seen
 pub reading_as : (cells : Cells) (look : List ℕ → Option KeyValue) (live_some dead_some found : List ℕ) (all : List KeyValue) (left : HeadsLeft) → left.live ≡ live_some → left.dead ≡ dead_some → IsReading cells look (record { live = live_some; dead = dead_some }) found all → IsReading cells look left found all
@@ -270,15 +271,15 @@ some_few : (cells : Cells) (heads key end some : List ℕ) → AreHeadsIn cells 
 some_few cells heads key end some all = omega (arith, ap length all.are, length-take (all.to - all.from) (drop all.from heads), length-drop all.from heads)
 
 -- there are fewer heads than cells
-pub heads_fit_in : (region : RegionState) (heads : Heads) (order : List ℕ) (places leases : ℕ) (key end live_some dead_some : List ℕ) → IsLog region heads order places leases
+pub heads_fit_in : (region : RegionState) (heads : Heads) (settled recent : Chunked ℕ) (leases : ℕ) (key end live_some dead_some : List ℕ) → IsLog region heads settled recent leases
     → AreHeadsIn (cells_of region.records) heads.live key end live_some → AreHeadsIn (cells_of region.records) heads.dead key end dead_some → length live_some + length dead_some ≤ 2 ^ 20
-heads_fit_in region heads order places leases key end live_some dead_some log of_live of_dead =
+heads_fit_in region heads settled recent leases key end live_some dead_some log of_live of_dead =
     omega (
       arith,
       some_few (cells_of region.records) heads.live key end live_some of_live,
       some_few (cells_of region.records) heads.dead key end dead_some of_dead,
-      parted_few (cells_of region.records) true heads.live heads.dead order log.index log.all,
-      order_few (cells_of region.records) order log.all.some,
+      parted_few (cells_of region.records) true heads.live heads.dead (settled.items ++ recent.items) log.index log.all,
+      order_few (cells_of region.records) (settled.items ++ recent.items) log.all.some,
       log.space,
       log.most,
       log.reserved,

@@ -1,5 +1,5 @@
 -- The rows that are live now, of the heads of the keys that are.
-use Rattle.std.proofs.Common.{◌≡◌, ℕ, suc, ◌<◌, ◌≤◌, List, [], ◌∷◌, length, get_or, map, Option, Some, None, IsSome, Bool, true, false, refl, sym, ap, ◌∙◌, subst, arith}
+use Rattle.std.proofs.Common.{◌≡◌, ℕ, ◌++◌, suc, ◌<◌, ◌≤◌, List, [], ◌∷◌, length, get_or, map, Option, Some, None, IsSome, Bool, true, false, refl, sym, ap, ◌∙◌, subst, arith}
 use Rattle.std.specs.Prelude.{not, ◌||◌, filter, is_some, option_and_then, option_map}
 use Rattle.std.specs.Ordering.{nat_cmp}
 use Rattle.std.specs.FinMap.{FinMap}
@@ -7,6 +7,7 @@ use Rattle.std.specs.List.{AllByRecursion, cons_option, list_any}
 use Rattle.std.specs.Str.{bytes_eq}
 use Rattle.std.specs.Cmp.Lexicographic.{bytes_decides}
 use Rattle.std.proofs.lemmas.List.Elements.{All-filter, All-from_recursion, recursion_from_All, filter_passes}
+use Rattle.chunk_list.specs.Chunked.{Chunked}
 use Rattle.cell_arena.specs.Chain.{Record}
 use Rattle.cell_arena.specs.Region.{RegionState}
 use Rattle.etcd_types.specs.declared.key_value.KeyValue.{KeyValue}
@@ -137,9 +138,9 @@ module _ (cells : Cells) (order : List ℕ) (chained : IsChained cells) (all : A
         ∙ ap (map Some) (rows_inside_heads cells live_heads order live_newest own r live_heads_show key end)
 
 -- the same in a log
-pub log_newest : (region : RegionState) (heads : Heads) (order : List ℕ) (places leases : ℕ) (records : FinMap nat_cmp Record) (changes : List Recorded) (key end : List ℕ) (r : ℕ) (some : List ℕ) → IsLog region heads order places leases → region.records ≡ records → changes_in (cells_of region.records) order ≡ changes
+pub log_newest : (region : RegionState) (heads : Heads) (settled recent : Chunked ℕ) (leases : ℕ) (records : FinMap nat_cmp Record) (changes : List Recorded) (key end : List ℕ) (r : ℕ) (some : List ℕ) → IsLog region heads settled recent leases → region.records ≡ records → changes_in (cells_of region.records) (settled.items ++ recent.items) ≡ changes
     → AllByRecursion (λ x. x.revision ≤ r) changes → AreHeadsIn (cells_of region.records) heads.live key end some → ShowRows (cells_of records) changes key end r some
-log_newest region heads order places leases records changes key end r some log same is up inside =
+log_newest region heads settled recent leases records changes key end r some log same is up inside =
     subst (λ (m : FinMap nat_cmp Record). map (row_at (cells_of m)) some ≡ map Some (rows (is_in key end) r changes)) same
     (subst (λ (xs : List Recorded). map (row_at (cells_of region.records)) some ≡ map Some (rows (is_in key end) r xs)) is
-    (live_are_rows (cells_of region.records) order log.chained log.all log.rises r (subst (AllByRecursion (λ x. x.revision ≤ r)) (sym is) up) heads.live heads.dead log.index (own_rows region.records) key end some inside))
+    (live_are_rows (cells_of region.records) (settled.items ++ recent.items) log.chained log.all log.rises r (subst (AllByRecursion (λ x. x.revision ≤ r)) (sym is) up) heads.live heads.dead log.index (own_rows region.records) key end some inside))

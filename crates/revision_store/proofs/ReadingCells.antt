@@ -1,10 +1,11 @@
 -- What is read of the record under a cell, and of the last change of a key.
-use Rattle.std.proofs.Common.{◌≡◌, ℕ, ◌-◌, ◌<◌, ◌≤◌, Bool, true, false, List, Option, Some, None, IsSome, IfSome, refl, sym, ap, ◌∙◌, subst, arith}
+use Rattle.std.proofs.Common.{◌≡◌, ℕ, ◌++◌, ◌-◌, ◌<◌, ◌≤◌, Bool, true, false, List, Option, Some, None, IsSome, IfSome, refl, sym, ap, ◌∙◌, subst, arith}
 use Rattle.std.specs.Prelude.{MatchOption, option_and_then, option_map, nat_lt, if◌then◌else◌}
 use Rattle.std.specs.List.{AllByRecursion}
 use Rattle.std.specs.Ordering.{nat_cmp}
 use Rattle.std.specs.FinMap.{FinMap, get}
 use Rattle.std.proofs.lemmas.Bool.Decides.{nat_tests}
+use Rattle.chunk_list.specs.Chunked.{Chunked}
 use Rattle.cell_arena.specs.Chain.{Record}
 use Rattle.cell_arena.specs.declared.cell.Kind.{Kind}
 use Rattle.cell_arena.specs.declared.cell.Kind.TheVariants.{Put, Delete, Lease}
@@ -45,11 +46,11 @@ last_told cells order key r (Some c) chained all rises h =
     change_some cells c h.of_key.0 h.of_key.1 ∙ sym (last_in_order cells order key r c h.of_key.0 chained all rises h h.of_key.1)
 
 -- the same of a log, whose records and changes are seen as these
-pub log_last : (region : RegionState) (heads : Heads) (order : List ℕ) (places leases : ℕ) (records : FinMap nat_cmp Record) (changes : List Recorded) (key : List ℕ) (r : ℕ) (found : Option ℕ) → IsLog region heads order places leases → region.records ≡ records → changes_in (cells_of region.records) order ≡ changes
+pub log_last : (region : RegionState) (heads : Heads) (settled recent : Chunked ℕ) (leases : ℕ) (records : FinMap nat_cmp Record) (changes : List Recorded) (key : List ℕ) (r : ℕ) (found : Option ℕ) → IsLog region heads settled recent leases → region.records ≡ records → changes_in (cells_of region.records) (settled.items ++ recent.items) ≡ changes
     → MatchOption found (NoneUpTo (cells_of records) key r) (IsLast (cells_of records) key r) → option_and_then (change_at (cells_of records)) found ≡ last key r changes
-log_last region heads order places leases records changes key r found log same is h =
-    subst (λ (m : FinMap nat_cmp Record). MatchOption found (NoneUpTo (cells_of m) key r) (IsLast (cells_of m) key r) → option_and_then (change_at (cells_of m)) found ≡ last key r (changes_in (cells_of region.records) order)) same
-    (λ told. last_told (cells_of region.records) order key r found log.chained log.all log.rises told) h
+log_last region heads settled recent leases records changes key r found log same is h =
+    subst (λ (m : FinMap nat_cmp Record). MatchOption found (NoneUpTo (cells_of m) key r) (IsLast (cells_of m) key r) → option_and_then (change_at (cells_of m)) found ≡ last key r (changes_in (cells_of region.records) (settled.items ++ recent.items))) same
+    (λ told. last_told (cells_of region.records) (settled.items ++ recent.items) key r found log.chained log.all log.rises told) h
     ∙ ap (last key r) is
 
 pub last_there : (cells : Cells) (key : List ℕ) (r : ℕ) (found : Option ℕ) → MatchOption found (NoneUpTo cells key r) (IsLast cells key r) → IfSome found (λ c. IsSome (cells c))

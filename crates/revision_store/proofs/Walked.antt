@@ -1,20 +1,33 @@
 -- The changes from a revision on, of cells whose revisions don't fall.
-use Rattle.std.proofs.Common.{◌≡◌, ℕ, zero, suc, ◌+◌, ◌<◌, ◌≤◌, List, [], ◌∷◌, length, get_or, drop, map, Option, Some, None, IsSome, IfSome, refl, sym, ap, ◌∙◌, subst, arith}
-use Rattle.std.specs.Prelude.{Bool, true, is_some, option_and_then, option_map}
+use Rattle.std.proofs.Common.{◌≡◌, ℕ, zero, suc, ◌-◌, ◌<◌, ◌≤◌, List, [], ◌∷◌, ◌++◌, length, get_or, take, drop, map, Option, Some, None, IsSome, IfSome, refl, sym, ap, ◌∙◌, subst, arith}
+use Rattle.std.specs.Prelude.{Bool, true, false, is_some, nat_le, nat_lt, option_and_then, option_map}
 use Rattle.std.specs.List.{All, AllByRecursion, cons_option}
+use Rattle.std.specs.Option.{option_map_or}
 use Rattle.std.proofs.lemmas.Bool.Decides.{nat_tests}
-use Rattle.std.proofs.lemmas.List.{get_or_default}
-use Rattle.std.proofs.lemmas.List.Elements.{All-head, All-tail}
+use Rattle.std.proofs.lemmas.List.{map-append}
+use Rattle.std.proofs.lemmas.List.Elements.{All-nil, All-cons, All-head, All-tail, All-from_get_or, recursion_from_All, filter-append, filter_map-append}
+use Rattle.chunk_list.specs.Chunked.{TurnsAt}
+use Rattle.chunk_list.proofs.Turning.{IsFailing}
 use Rattle.etcd_model.specs.Changes.{Recorded, Rises, since}
 use Rattle.key_index.specs.Links.{Cells, Linked, change_at}
 use Rattle.key_index.specs.Order.{IsInOrder, changes_in}
 use Rattle.key_index.proofs.Compacted.{linked_some}
-use Rattle.key_index.proofs.Links.{at_linked, is_some_from, one_linked}
+use Rattle.key_index.proofs.Links.{is_some_from, one_linked}
 use Rattle.key_index.proofs.Order.{which}
 use Rattle.revision_store.specs.Stored.{row_at}
+use Rattle.revision_store.specs.Walking.{is_below}
 
 abbrev change_in : Option Linked → Option Recorded
 change_in o = option_map (λ (e : Linked). e.change) o
+
+below_of : (r n : ℕ) → nat_lt n r ≡ true → n < r
+below_of r n is = grind (arith, nat_tests)
+
+from_of : (r n : ℕ) → nat_lt n r ≡ false → r ≤ n
+from_of r n is = grind (arith, nat_tests)
+
+not_below : (r m n : ℕ) → m ≤ n → nat_lt m r ≡ false → nat_lt n r ≡ false
+not_below r m n le is = grind (arith, nat_tests)
 
 module _ (cells : Cells) where
   -- ---- along the order
@@ -56,22 +69,21 @@ module _ (cells : Cells) where
   abbrev pub AreFrom : List ℕ → ℕ → ℕ → Type 0
   AreFrom order r high = (j : ℕ) (e : Linked) → high ≤ j → j < length order → cells (get_or order j 0) ≡ Some e → r ≤ e.change.revision
 
-  module _ (order : List ℕ) (rises : IsInOrder cells order) (there : All (λ c. IsSome (cells c)) order) (r m b told : ℕ) (within : m < length order) (is : b ≡ get_or order m b) (says : IfSome (cells b) (λ e. told ≡ e.change.revision)) where
-    looked_at : (e : Linked) × (cells (get_or order m 0) ≡ Some e) × (told ≡ e.change.revision)
-    looked_at =
-        let same : get_or order m 0 ≡ b = get_or_default order m 0 b within ∙ sym is in
-        let e = which (cells (get_or order m 0)) (there m 0 within) in
-        (e.0, e.1, at_linked (cells b) (λ x. told ≡ x.change.revision) e.0 (ap cells (sym same) ∙ e.1) says)
+  -- the test of a record is that of its revision
+  below_is : (r c : ℕ) (e : Linked) → cells c ≡ Some e → is_below cells r c ≡ nat_lt e.change.revision r
+  below_is r c e at = ap (λ (o : Option Linked). option_map_or (λ (x : Linked). nat_lt x.change.revision r) o false) at
 
-    pub below_up : told < r → AreBelow order r (m + 1)
-    below_up less j e lt at =
-        let middle = looked_at in
-        omega (arith, less, middle.2, rises_along order j m e middle.0 rises (omega (arith, lt)) within at middle.1)
-
-    pub from_down : r ≤ told → AreFrom order r m
-    from_down least j e le lt at =
-        let middle = looked_at in
-        omega (arith, least, middle.2, rises_along order m j middle.0 e rises le lt middle.1 at)
+  -- where it fails, it fails from there on
+  pub turning : (r : ℕ) (order : List ℕ) → IsInOrder cells order → All (λ c. IsSome (cells c)) order → IsFailing (is_below cells r) order
+  turning r [] rises there = tt
+  turning r (c ∷ cs) rises there = (
+    λ fails. recursion_from_All (λ b. is_below cells r b ≡ false) cs (All-from_get_or (λ b. is_below cells r b ≡ false) cs 0 (λ j lt. (
+        let e = which (cells c) (All-head (λ b. IsSome (cells b)) c cs there) in
+        let f = which (cells (get_or cs j 0)) (All-tail (λ b. IsSome (cells b)) c cs there j 0 lt) in
+        let le = rises_along (c ∷ cs) 0 (suc j) e.0 f.0 rises (omega arith) (omega (arith, lt)) e.1 f.1 in
+        below_is r (get_or cs j 0) f.0 f.1 ∙ not_below r e.0.change.revision f.0.change.revision le (sym (below_is r c e.0 e.1) ∙ fails)))),
+    turning r cs (later_rises (cells c) (changes_in cells cs) rises) (All-tail (λ b. IsSome (cells b)) c cs there),
+  )
 
   -- ---- what is found
 
@@ -93,6 +105,13 @@ module _ (cells : Cells) where
       sym (skips r (cells c) (changes_in cells cs) (changes_in cells (drop n cs)) (λ e at. below 0 e (omega arith) at)
       (sym (since_found r cs n (λ j e lt at. below (suc j) e (omega (arith, lt)) at) (λ j e le lt at. least (suc j) e (omega (arith, le)) (omega (arith, lt)) at))))
 
+  -- from where the test turns
+  pub found_at : (r : ℕ) (order : List ℕ) (n : ℕ) → TurnsAt (is_below cells r) order n → changes_in cells (drop n order) ≡ since r (changes_in cells order)
+  found_at r order n turns =
+      since_found r order n
+      (λ j e lt at. below_of r e.change.revision (sym (below_is r (get_or order j 0) e at) ∙ turns.before j 0 lt))
+      (λ j e le lt at. from_of r e.change.revision (sym (below_is r (get_or order j 0) e at) ∙ turns.after j 0 le lt))
+
   shows : (o : Option Linked) (xs : List (Option Recorded)) (ys : List Recorded) → IsSome o → xs ≡ map Some ys → change_in o ∷ xs ≡ map Some (cons_option (change_in o) ys)
   shows None xs ys some same = absurd (cc)
   shows (Some e) xs ys some same = ap (λ (zs : List (Option Recorded)). Some e.change ∷ zs) same
@@ -103,6 +122,56 @@ module _ (cells : Cells) where
   shown_from [] (suc n) there = refl
   shown_from (c ∷ cs) zero there = shows (cells c) (map (change_at cells) cs) (changes_in cells cs) (All-head (λ b. IsSome (cells b)) c cs there) (shown_from cs zero (All-tail (λ b. IsSome (cells b)) c cs there))
   shown_from (c ∷ cs) (suc n) there = shown_from cs n (All-tail (λ b. IsSome (cells b)) c cs there)
+
+-- ---- two orders, one behind the other
+
+pub first_of_both : {X : Type 0} (n : ℕ) (xs ys : List X) → take n (xs ++ ys) ≡ take n xs ++ take (n - length (take n xs)) ys
+first_of_both zero [] ys = refl
+first_of_both (suc n) [] ys = let all : suc n ≡ suc n - 0 = omega arith in ap (λ (k : ℕ). take k ys) all
+first_of_both zero (x ∷ xs) ys = refl
+first_of_both (suc n) (x ∷ xs) ys =
+    let fewer : n - length (take n xs) ≡ suc n - suc (length (take n xs)) = omega arith in
+    ap (λ zs. x ∷ zs) (first_of_both n xs ys ∙ ap (λ (k : ℕ). take n xs ++ take k ys) fewer)
+
+pub all_front : {X : Type 0} (P : X → Type 0) (xs ys : List X) → All P (xs ++ ys) → All P xs
+all_front P [] ys all = All-nil P
+all_front P (x ∷ xs) ys all = All-cons P x xs (All-head P x (xs ++ ys) all) (all_front P xs ys (All-tail P x (xs ++ ys) all))
+
+pub all_behind : {X : Type 0} (P : X → Type 0) (xs ys : List X) → All P (xs ++ ys) → All P ys
+all_behind P [] ys all = all
+all_behind P (x ∷ xs) ys all = all_behind P xs ys (All-tail P x (xs ++ ys) all)
+
+each_front : (P : Recorded → Type 0) (xs ys : List Recorded) → AllByRecursion P (xs ++ ys) → AllByRecursion P xs
+each_front P [] ys all = tt
+each_front P (x ∷ xs) ys all = (all.0, each_front P xs ys all.1)
+
+rises_front : (xs ys : List Recorded) → Rises (xs ++ ys) → Rises xs
+rises_front [] ys rises = tt
+rises_front (x ∷ xs) ys rises = (each_front (λ y. x.revision ≤ y.revision) xs ys rises.0, rises_front xs ys rises.1)
+
+rises_behind : (xs ys : List Recorded) → Rises (xs ++ ys) → Rises ys
+rises_behind [] ys rises = rises
+rises_behind (x ∷ xs) ys rises = rises_behind xs ys rises.1
+
+module _ (cells : Cells) (settled recent : List ℕ) where
+  pub settled_rises : IsInOrder cells (settled ++ recent) → IsInOrder cells settled
+  settled_rises rises = rises_front (changes_in cells settled) (changes_in cells recent) (subst Rises (filter_map-append (change_at cells) settled recent) rises)
+
+  pub recent_rises : IsInOrder cells (settled ++ recent) → IsInOrder cells recent
+  recent_rises rises = rises_behind (changes_in cells settled) (changes_in cells recent) (subst Rises (filter_map-append (change_at cells) settled recent) rises)
+
+  -- what is found in either is what is found in both
+  pub found_both : (r : ℕ) (before after : List ℕ) → map (change_at cells) before ≡ map Some (since r (changes_in cells settled)) → map (change_at cells) after ≡ map Some (since r (changes_in cells recent))
+      → map (change_at cells) (before ++ after) ≡ map Some (since r (changes_in cells (settled ++ recent)))
+  found_both r before after first rest =
+      let xs = changes_in cells settled in
+      let ys = changes_in cells recent in
+      map-append (change_at cells) before after
+      ∙ ap (λ (zs : List (Option Recorded)). zs ++ map (change_at cells) after) first
+      ∙ ap (λ (zs : List (Option Recorded)). map Some (since r xs) ++ zs) rest
+      ∙ sym (map-append Some (since r xs) (since r ys))
+      ∙ ap (map Some) (sym (filter-append (λ (x : Recorded). nat_le r x.revision) xs ys))
+      ∙ ap (λ (zs : List Recorded). map Some (since r zs)) (sym (filter_map-append (change_at cells) settled recent))
 
 -- cells of which each shows a change have records
 pub all_there : (cells : Cells) (cs : List ℕ) (xs : List Recorded) → map (change_at cells) cs ≡ map Some xs → AllByRecursion (λ c. IsSome (cells c)) cs

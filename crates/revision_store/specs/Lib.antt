@@ -10,3 +10,4 @@ pub mod Pending
 pub mod Ranging
 pub mod Comparing
 pub mod Merging
+pub mod Walking

@@ -1,9 +1,10 @@
 -- The kept changes under cells, and the leases.
-use Rattle.std.specs.Prelude.{◌≡◌, ℕ, ◌+◌, ◌-◌, ◌*◌, ◌/◌, ◌≤◌, ◌^◌, List, [], Some, refl}
+use Rattle.std.specs.Prelude.{◌≡◌, ℕ, ◌+◌, ◌-◌, ◌*◌, ◌/◌, ◌≤◌, ◌^◌, List, [], ◌++◌, Some, refl}
 use Rattle.std.specs.Ordering.{nat_cmp}
 use Rattle.std.specs.FinMap.{FinMap}
 use Rattle.std.specs.FinMap as map
 use Rattle.std.specs.Coded.{Coded, code_by, coded×, coded_ℕ}
+use Rattle.chunk_list.specs.Chunked.{Chunked}
 use Rattle.cell_arena.specs.Chain.{Record}
 use Rattle.cell_arena.specs.Region.{RegionState, no_records, record_code}
 use Rattle.cell_arena.specs.Loan.{Share, share_code, with_reserved, with_rooms}
@@ -11,7 +12,7 @@ use Rattle.etcd_model.specs.Changes.{Recorded, Rises}
 use Rattle.etcd_model.specs.Store.{record_cells}
 use Rattle.key_index.specs.Links.{Cells, IsChained, change_at}
 use Rattle.key_index.specs.Index.{Heads, IsIndexOf}
-use Rattle.key_index.specs.Order.{AreAll, changes_in}
+use Rattle.key_index.specs.Order.{AreAll, AreSettled, changes_in}
 use Rattle.revision_store.specs.Codes.{changes_code}
 use Rattle.revision_store.specs.Recorded.{cells_of, leases_of, AreCounted, ArePlain}
 
@@ -52,21 +53,25 @@ log_of region order lease_cells = record {
 abbrev pub empty_log : ℕ → LogState
 empty_log cells = log_of (no_records cells) [] 0
 
--- index, links, order and capacities agree with the records, and each cell in use is of a change or a lease
-pub record IsLog (region : RegionState) (heads : Heads) (order : List ℕ) (places lease_cells : ℕ) :
-    Type 0 where
+-- Index, links, order and capacities agree with the records, and each cell in use is of a change or a lease.
+-- The order is that of the settled changes and then of the recent ones.
+pub record IsLog (region : RegionState) (heads : Heads) (settled_order recent_order : Chunked ℕ)
+    (lease_cells : ℕ) : Type 0 where
   pub index : IsIndexOf (cells_of region.records) heads.live heads.dead
   pub chained : IsChained (cells_of region.records)
-  pub all : AreAll (cells_of region.records) order
-  pub rises : Rises (changes_in (cells_of region.records) order)
+  pub all : AreAll (cells_of region.records) (settled_order.items ++ recent_order.items)
+  pub rises : Rises (changes_in (cells_of region.records) (settled_order.items ++ recent_order.items))
+  pub settled : AreSettled (cells_of region.records) settled_order.items
   pub plain : ArePlain region.records
   pub leases : AreCounted (leases_of region.records) lease_cells
-  pub space : region.free + record_cells (changes_in (cells_of region.records) order) + lease_cells
+  pub space : region.free
+      + record_cells (changes_in (cells_of region.records) (settled_order.items ++ recent_order.items)) + lease_cells
       ≡ 64 * region.share.reserved
   pub most : 64 * region.share.rooms ≤ 2 ^ 20
   pub reserved : region.share.reserved ≤ region.share.rooms
   pub index_capacity : 64 * region.share.rooms ≤ heads.capacity
-  pub order_capacity : 64 * region.share.rooms ≤ places
+  pub settled_capacity : 64 * region.share.rooms ≤ settled_order.room
+  pub recent_capacity : 64 * region.share.rooms ≤ recent_order.room
 
 -- how many cells are in use
 abbrev pub used_in : LogState → ℕ

@@ -30,3 +30,4 @@ pub use plan::Plan;
 pub use planning::PlannedOp;
 pub use records::Reader;
 pub use store::Store;
+pub use walking::Changes;

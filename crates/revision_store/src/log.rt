@@ -1,4 +1,8 @@
 //! The kept changes under cells: in order, and by their keys. And the records of leases.
+//!
+//! The order is two lists: the settled changes, and after them the recent ones. What is settled is a put that a
+//! compaction left as the first of its key. A later compaction drops it only if its key has changed again since, and
+//! such a change is among the recent ones. So a compaction has to visit the recent changes alone.
 ghost use Rattle.std.specs.Prelude.{◌≡◌, ℕ, ◌+◌, ◌*◌, ◌%◌, ◌<◌, ◌≤◌, ◌^◌, ◌∷◌, [], List, IfOk, IsSome, None};
 ghost use Rattle.std.specs.Iterator.{AlwaysYields, IsFinite};
 ghost use Rattle.std.specs.List.{AllByRecursion};
@@ -18,6 +22,7 @@ use crate::placing::{lease_fields, place};
 use crate::plan::Write;
 use crate::records::Writer;
 use cell_arena::{Kind, Region, Segments};
+use chunk_list::{ChunkList, Test};
 use etcd_types::{CellNo, Mem};
 use key_index::KeyIndex;
 use std::alloc::Global;
@@ -28,23 +33,25 @@ use std::marker::Model;
 pub(crate) struct Log {
     pub(crate) region: Region,
     pub(crate) index: KeyIndex,
-    /// The cells of the changes, in order.
-    pub(crate) order: Vec<CellNo>,
+    /// The cells of the changes that a compaction went over and left, in order: puts, each the first of its key.
+    pub(crate) settled: ChunkList<CellNo>,
+    /// The cells of the changes since, in order.
+    pub(crate) recent: ChunkList<CellNo>,
     /// How many cells have a lease.
     leases: u32,
 }
 
 impl Model for Log {
-    ghost use Rattle.std.specs.Prelude.{vec_capacity};
+    ghost use Rattle.std.specs.Prelude.{◌++◌};
     ghost use Rattle.revision_store.specs.Logged.{LogState, IsLog, log_code, log_of};
 
     ghost Value = { LogState };
 
     ghost coded = { log_code };
 
-    ghost view = { λ l. log_of l.region l.order.items l.leases };
+    ghost view = { λ l. log_of l.region (l.settled.items ++ l.recent.items) l.leases };
 
-    ghost invariant = { λ l. IsLog l.region l.index l.order.items (vec_capacity l.order) l.leases };
+    ghost invariant = { λ l. IsLog l.region l.index l.settled l.recent l.leases };
 }
 
 impl Log {
@@ -57,7 +64,8 @@ impl Log {
         Ok(Log {
             region: Region::new(alloc, cells)?,
             index: KeyIndex::new(alloc, cells as usize)?,
-            order: Vec::with_capacity(alloc, cells as usize)?,
+            settled: ChunkList::new(alloc, cells as usize)?,
+            recent: ChunkList::new(alloc, cells as usize)?,
             leases: 0,
         })
     }
@@ -80,7 +88,7 @@ impl Log {
             region: _,
             segments: _,
         } = writer;
-        self.order.push_reserved(cell);
+        self.recent.append(cell);
     }
 
     /// Records some changes at a revision, one after another.
@@ -136,8 +144,11 @@ impl Log {
         ensures settles { Settles self.old.share (S.loan segments.old) self.new.share (S.loan segments.new) }
     {
         cut(&mut self.region, segments, &mut self.index, revision);
-        let region = &self.region;
-        self.order.retain(|cell| region.has(*cell));
+        let stays = Stays {
+            region: &self.region,
+        };
+        self.settled.retain(&stays);
+        self.recent.retain(&stays);
     }
 
     /// Records a lease, in one cell, whose number is the answer.
@@ -185,6 +196,25 @@ impl Log {
         ensures space { self.now.free + record_cells self.now.changes + self.now.lease_cells
             ≡ 64 * self.now.share.reserved }
     {
-        let _ = &self.order;
+        let _ = &self.recent;
+    }
+}
+
+/// Whether a record begins at a cell.
+#[derive(Drop)]
+struct Stays<'a> {
+    region: &'a Region,
+}
+
+impl<'a> Test<CellNo> for Stays<'a> {
+    ghost use Rattle.std.specs.Prelude.{is_some};
+    ghost use Rattle.std.specs.FinMap as finite;
+
+    ghost can = { λ s c. Unit {0} };
+
+    ghost test = { λ s c. is_some (finite.get s.region.now.records c) };
+
+    fn holds(&self, cell: CellNo) -> bool {
+        self.region.has(cell)
     }
 }

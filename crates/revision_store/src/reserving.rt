@@ -17,8 +17,8 @@ impl Log {
         ensures err { OnErr result (self.new ≡ self.old) }
     {
         self.index.grow_rooms(cells)?;
-        let lacking = (cells as usize).saturating_sub(self.order.len());
-        self.order.reserve_exact(lacking)?;
+        self.settled.grow_room(cells as usize)?;
+        self.recent.grow_room(cells as usize)?;
         self.region.grow_rooms(cells)
     }
 

@@ -1,4 +1,4 @@
-use Rattle.std.proofs.Common.{◌+◌, refl, ap, ◌∙◌, arith, w64, to_z, of_z}
+use Rattle.std.proofs.Common.{◌++◌, ◌+◌, refl, ap, ◌∙◌, arith, w64, to_z, of_z}
 use Rattle.std.proofs.lemmas.Int.{to_z-of_z}
 use Rattle.key_index.specs.Links.{Cells}
 use Rattle.key_index.specs.Order.{changes_in}
@@ -26,7 +26,7 @@ returns-clause-changes g c =
     let n = c.place-cell.new.self.records in
     let id = c.args.id in
     let is = lease_parts m n c.place-cell.result c.lease_fields.result id (to_z w64 (of_z w64 id)) c.args.ttl c.place-cell.ensures.placed c.lease_fields.ensures (to_z-of_z w64 id c.ranges.id) in
-    ap (λ (cells : Cells). changes_in cells c.self.inside.order.items) (lease_cells m n c.place-cell.result id c.args.ttl is c.place-cell.ensures.fresh)
+    ap (λ (cells : Cells). changes_in cells (c.self.inside.settled.items ++ c.self.inside.recent.items)) (lease_cells m n c.place-cell.result id c.args.ttl is c.place-cell.ensures.fresh)
     ∙ ap (λ (l : LogState). l.changes) c.self.view_is
 
 pub returns-clause-cells : goal.returns-clause-cells

@@ -1,4 +1,4 @@
-use Rattle.std.proofs.Common.{◌+◌, ◌-◌, IsSome, sym, ap, subst, ◌∙◌, arith}
+use Rattle.std.proofs.Common.{◌++◌, ◌+◌, ◌-◌, IsSome, sym, ap, subst, ◌∙◌, arith}
 use Rattle.key_index.specs.Links.{Cells}
 use Rattle.key_index.specs.Order.{changes_in}
 use Rattle.revision_store.specs.Recorded.{ArePlain, cells_of, leases_of, without_lease_cell}
@@ -27,7 +27,7 @@ pub returns-clause-changes : goal.returns-clause-changes
 returns-clause-changes g c =
     let r0 = c.self.inside.region in
     let some : IsSome (leases_of r0.records c.args.cell) = subst (λ (l : LogState). IsSome (leases_of l.records c.args.cell)) (sym c.self.view_is) c.requires.lease in
-    ap (λ (m : Cells). changes_in m c.self.inside.order.items) (ap cells_of c.release.ensures.gone ∙ cells_left r0.records c.args.cell some)
+    ap (λ (m : Cells). changes_in m (c.self.inside.settled.items ++ c.self.inside.recent.items)) (ap cells_of c.release.ensures.gone ∙ cells_left r0.records c.args.cell some)
     ∙ ap (λ (l : LogState). l.changes) c.self.view_is
 
 pub returns-clause-cells : goal.returns-clause-cells

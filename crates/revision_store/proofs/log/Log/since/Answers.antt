@@ -1,21 +1,61 @@
-use Rattle.std.proofs.Common.{◌≡◌, ap, ◌∙◌, subst, drop, List, ℕ, map, Some}
-use Rattle.std.proofs.lemmas.List.{take_rest}
+use Rattle.std.proofs.Common.{◌≡◌, ◌++◌, IsSome, ap, ◌∙◌, arith, map, subst, sym, length-append}
+use Rattle.std.specs.Prelude.{Some}
+use Rattle.std.specs.List.{All}
 use Rattle.cell_arena.specs.Region.{RegionState}
 use Rattle.etcd_model.specs.Changes.{since}
 use Rattle.key_index.specs.Links.{change_at}
-use Rattle.key_index.specs.Order.{changes_in}
+use Rattle.key_index.specs.Order.{IsInOrder, changes_in}
 use Rattle.revision_store.specs.Recorded.{cells_of}
 use Rattle.revision_store.specs.Logged.{LogState}
-use Rattle.revision_store.proofs.Walked.{shown_from}
+use Rattle.revision_store.proofs.Logged.{order_few}
+use Rattle.revision_store.proofs.Walked.{all_behind, all_front, found_both, recent_rises, settled_rises}
 use Rattle.revision_store.proofs.log.Log.since.Goals as goal
+
+pub walk_from-requires-clause-there : goal.walk_from-requires-clause-there
+walk_from-requires-clause-there c =
+    let before = c.self.inside.settled.items in
+    subst (λ (h : RegionState). All (λ k. IsSome (cells_of h.records k)) before) (sym c.new-records.ensures)
+    (all_front (λ k. IsSome (cells_of c.self.inside.region.records k)) before c.self.inside.recent.items c.self.invariant.all.some)
+
+pub walk_from-requires-clause-rises : goal.walk_from-requires-clause-rises
+walk_from-requires-clause-rises c =
+    let before = c.self.inside.settled.items in
+    subst (λ (h : RegionState). IsInOrder (cells_of h.records) before) (sym c.new-records.ensures)
+    (settled_rises (cells_of c.self.inside.region.records) before c.self.inside.recent.items c.self.invariant.rises)
+
+pub walk_from-requires-2-clause-there : goal.walk_from-requires-2-clause-there
+walk_from-requires-2-clause-there c =
+    let after = c.self.inside.recent.items in
+    subst (λ (h : RegionState). All (λ k. IsSome (cells_of h.records k)) after) (sym c.new-records.ensures)
+    (all_behind (λ k. IsSome (cells_of c.self.inside.region.records k)) c.self.inside.settled.items after c.self.invariant.all.some)
+
+pub walk_from-requires-2-clause-rises : goal.walk_from-requires-2-clause-rises
+walk_from-requires-2-clause-rises c =
+    let after = c.self.inside.recent.items in
+    subst (λ (h : RegionState). IsInOrder (cells_of h.records) after) (sym c.new-records.ensures)
+    (recent_rises (cells_of c.self.inside.region.records) c.self.inside.settled.items after c.self.invariant.rises)
+
+pub of-requires : goal.of-requires
+of-requires c =
+    let before = c.self.inside.settled.items in
+    let after = c.self.inside.recent.items in
+    omega (
+      arith,
+      c.walk_from.ensures.few,
+      c.walk_from-2.ensures.few,
+      length-append before after,
+      order_few (cells_of c.self.inside.region.records) (before ++ after) c.self.invariant.all.some,
+      c.self.invariant.space,
+      c.self.invariant.reserved,
+      c.self.invariant.most,
+    )
 
 pub returns : goal.returns
 returns c =
-    let first = c.first_from-first.result in
-    let order = c.self.inside.order.items in
-    let read = c.new.result.region.now in
-    let searched = subst (λ (cs : List ℕ). changes_in (cells_of read.records) (drop first cs) ≡ since c.args.revision (changes_in (cells_of read.records) cs)) c.deref.ensures.value c.first_from-first.ensures.from in
-    let found = subst (λ (h : RegionState). changes_in (cells_of h.records) (drop first order) ≡ since c.args.revision (changes_in (cells_of h.records) order)) c.new.ensures searched in
-    let shown = shown_from (cells_of c.self.inside.region.records) order first c.self.invariant.all.some ∙ ap (map Some) found in
-    ap (map (change_at (cells_of c.args.self.now.records))) (take_rest c.deref-2.result.now first ∙ ap (drop first) c.deref-2.ensures.value)
-    ∙ subst (λ (l : LogState). map (change_at (cells_of l.records)) (drop first order) ≡ map Some (since c.args.revision l.changes)) c.self.view_is shown
+    let before = c.self.inside.settled.items in
+    let after = c.self.inside.recent.items in
+    let first = subst (λ (h : RegionState). map (change_at (cells_of h.records)) c.walk_from.result ≡ map Some (since c.args.revision (changes_in (cells_of h.records) before))) c.new-records.ensures c.walk_from.ensures.from in
+    let rest = subst (λ (h : RegionState). map (change_at (cells_of h.records)) c.walk_from-2.result ≡ map Some (since c.args.revision (changes_in (cells_of h.records) after))) c.new-records.ensures c.walk_from-2.ensures.from in
+    let found = found_both (cells_of c.self.inside.region.records) before after c.args.revision c.walk_from.result c.walk_from-2.result first rest in
+    ap (map (change_at (cells_of c.args.self.now.records))) c.of.ensures
+    ∙ subst (λ (l : LogState). map (change_at (cells_of l.records)) (c.walk_from.result ++ c.walk_from-2.result) ≡ map Some (since c.args.revision l.changes)) c.self.view_is found
