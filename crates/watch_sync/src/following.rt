@@ -12,17 +12,17 @@ ghost use Rattle.watch_sync.specs.Agreeing.{Agrees, IsStretch, cut_to, front_of,
 use crate::wanting::{is_ahead, is_other, note_of, revision_at};
 use crate::watch::OpenWatch;
 use etcd_types::CellNo;
-use revision_store::Store;
+use revision_store::{Changes, Store};
 
 /// The first revision after that of the first of some cells, or after the current one.
-fn reached(store: &Store, changes: &[CellNo]) -> u64
+fn reached(store: &Store, changes: &Changes<'_>) -> u64
     requires { AllByRecursion (λ c. IsSome (cells store.now c)) changes.now }
     ensures { result ≡ reached store.now changes.now }
 {
     let current = store.current();
-    match changes {
-        [] => current + 1,
-        [cell, ..] => revision_at(store, *cell).min(current) + 1,
+    match changes.again().next() {
+        None => current + 1,
+        Some(cell) => revision_at(store, cell).min(current) + 1,
     }
 }
 
@@ -62,7 +62,7 @@ impl OpenWatch {
     }
 
     /// Takes up the changes under some cells, those that are ahead, if there is room for all of them.
-    fn take_up(&mut self, store: &Store, changes: &[CellNo]) -> bool
+    fn take_up(&mut self, store: &Store, changes: &Changes<'_>) -> bool
         requires { AllByRecursion (λ c. IsSome (cells store.now c)) changes.now }
         ensures all { IsTrue result
             → self.new ≡ with_ring self.old
@@ -70,9 +70,9 @@ impl OpenWatch {
         ensures none { IsFalse result → self.new ≡ self.old }
     {
         let before = self.ring_len();
-        for cell in changes {
-            if self.is_ahead(store, *cell) {
-                if !self.push(note_of(store, *cell)) {
+        for cell in changes.again() {
+            if self.is_ahead(store, cell) {
+                if !self.push(note_of(store, cell)) {
                     self.shorten(before);
                     return false;
                 }
@@ -82,7 +82,7 @@ impl OpenWatch {
     }
 
     /// Goes on over the changes up to a later revision, if there is room for those that are ahead.
-    fn pass(&mut self, store: &Store, changes: &[CellNo], to: u64) -> bool
+    fn pass(&mut self, store: &Store, changes: &Changes<'_>, to: u64) -> bool
         requires whole { store.now.kept.compacted ≤ self.old.watch.next }
         requires stretch { IsStretch store.now self.old.position to changes.now }
         ensures agrees { Agrees self.old store.now → Agrees self.new store.now }
@@ -99,7 +99,7 @@ impl OpenWatch {
     }
 
     /// Takes up the newest revision, if the ring has all before it and room for it.
-    pub fn note(&mut self, store: &Store, newest: &[CellNo], front: &[u8])
+    pub fn note(&mut self, store: &Store, newest: &Changes<'_>, front: &[u8])
         requires newest { map (change_at (cells store.now)) newest.now
             ≡ map Some (since store.now.kept.current store.now.kept.changes) }
         requires front { front.now ≡ front_of store.now newest.now }
@@ -133,13 +133,13 @@ impl OpenWatch {
         // The store tells with its revision that its revisions don't fall.
         store.current();
         let changes = store.since(self.position());
-        let to = reached(store, changes);
+        let to = reached(store, &changes);
         let later = store.since(to);
         let count = changes.len() - later.len();
         if count > budget {
             return None;
         }
-        if !self.pass(store, &changes[..count], to) {
+        if !self.pass(store, &changes.first(count), to) {
             return None;
         }
         Some(count)

@@ -11,8 +11,8 @@ ghost use Rattle.watch_sync.specs.Gathering.{first_changes, next_after, next_tol
 use crate::gathered::Gathered;
 use crate::wanting::note_of;
 use crate::watch::OpenWatch;
-use etcd_types::{CellNo, Mem};
-use revision_store::Store;
+use etcd_types::Mem;
+use revision_store::{Changes, Store};
 use std::alloc::Global;
 
 impl OpenWatch {
@@ -36,33 +36,33 @@ impl OpenWatch {
             found.offer(self.note_at(place))?;
             place += 1;
         }
-        self.scan(store, self.behind(store), &mut found)?;
+        self.scan(store, &self.behind(store), &mut found)?;
         Ok(found)
     }
 
     /// The changes from the position on, which a watch that is synced has none of.
-    fn behind<'a>(&self, store: &'a Store) -> &'a [CellNo]
-        ensures { map (change_at (cells store.now)) result.now
+    fn behind<'a>(&self, store: &'a Store) -> Changes<'a>
+        ensures { map (change_at (cells store.now)) result
             ≡ map Some (since self.now.position store.now.kept.changes) }
     {
         if self.position() > store.current() {
-            return &[];
+            return Changes::none();
         }
         store.since(self.position())
     }
 
     /// Goes over some cells, until there is one revision more than a response has.
-    fn scan(&self, store: &Store, changes: &[CellNo], found: &mut Gathered) -> Mem<()>
+    fn scan(&self, store: &Store, changes: &Changes<'_>, found: &mut Gathered) -> Mem<()>
         requires { AllByRecursion (λ c. IsSome (cells store.now c)) changes.now }
         ensures { OnOk result
             (found.new ≡ fold offered found.old (notes_at (cells store.now) self.now.watch changes.now)) }
     {
-        for cell in changes {
+        for cell in changes.again() {
             if found.more() {
                 return Ok(());
             }
-            if self.is_ahead(store, *cell) {
-                found.offer(note_of(store, *cell))?;
+            if self.is_ahead(store, cell) {
+                found.offer(note_of(store, cell))?;
             }
         }
         Ok(())

@@ -8,11 +8,10 @@ ghost use Rattle.watch_sync.specs.Slots.{AllAgree, GoesOn, OneAgrees, hinted, wa
 
 use crate::wanting::front_of;
 use crate::watch::OpenWatch;
-use etcd_types::CellNo;
-use revision_store::Store;
+use revision_store::{Changes, Store};
 
 /// Takes up the newest revision.
-fn note(slot: &mut Option<OpenWatch>, store: &Store, newest: &[CellNo], front: &[u8])
+fn note(slot: &mut Option<OpenWatch>, store: &Store, newest: &Changes<'_>, front: &[u8])
     requires newest { map (change_at (cells store.now)) newest.now
         ≡ map Some (since store.now.kept.current store.now.kept.changes) }
     requires front { front.now ≡ front_of store.now newest.now }
@@ -74,9 +73,9 @@ pub(crate) fn note_all(slots: &mut [Option<OpenWatch>], store: &Store)
     ensures watches { watches slots.new ≡ watches slots.old }
 {
     let newest = store.since(store.current());
-    let front = front_of(store, newest);
+    let front = front_of(store, &newest);
     for slot in slots.iter_mut() {
-        note(slot, store, newest, front);
+        note(slot, store, &newest, front);
     }
 }
 

@@ -13,7 +13,7 @@ use crate::noted::Noted;
 use etcd_model::state::Watch;
 use etcd_types::CellNo;
 use key_index::Records;
-use revision_store::Store;
+use revision_store::{Changes, Store};
 use std::cmp::Ordering;
 
 /// The revision of a change.
@@ -41,12 +41,13 @@ fn key_cmp(store: &Store, cell: CellNo, key: &[u8]) -> Ordering
 }
 
 /// Of one change the front of its key, and of more none.
-pub(crate) fn front_of<'a>(store: &'a Store, changes: &[CellNo]) -> &'a [u8]
+pub(crate) fn front_of<'a>(store: &'a Store, changes: &Changes<'_>) -> &'a [u8]
     requires { AllByRecursion (λ c. IsSome (cells store.now c)) changes.now }
     ensures { result.now ≡ front_of store.now changes.now }
 {
-    match changes {
-        [cell] => store.key_front(*cell),
+    let mut left = changes.again();
+    match left.next() {
+        Some(cell) if left.is_empty() => store.key_front(cell),
         _ => b"",
     }
 }

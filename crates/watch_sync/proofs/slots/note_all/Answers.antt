@@ -15,4 +15,4 @@ loop-slot-preserved c =
 pub front_of-front-requires : goal.front_of-front-requires
 front_of-front-requires c =
     let store = c.args.store.now in
-    all_there (cells store) c.since-newest.result.now _ (under (cells store) c.since-newest.result.now _ c.since-newest.ensures)
+    all_there (cells store) c.since-newest.result _ (under (cells store) c.since-newest.result _ c.since-newest.ensures)
