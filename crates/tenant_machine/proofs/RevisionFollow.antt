@@ -260,6 +260,17 @@ change_there cells c x at = by (cells c) at
     by None e = let bad : ⊥ = cc in absurd bad
     by (Some l) e = refl
 
+-- a cell behind some that are done is the one at their number
+pub behind_done : (done left rest : List ℕ) (c : ℕ) → left ≡ c ∷ rest → (length done < length (done ++ left)) × (c ≡ get_or (done ++ left) (length done) c)
+behind_done done left rest c is = (
+  omega (arith, length-append done left, ap length is),
+  subst (λ (cs : List ℕ). c ≡ get_or (done ++ cs) (length done) c) (sym is) (at_end done),
+)
+  where
+    at_end : (ds : List ℕ) → c ≡ get_or (ds ++ c ∷ rest) (length ds) c
+    at_end [] = refl
+    at_end (d ∷ ds) = at_end ds
+
 module _ (store : StoreState) (book : Book) (revision : ℕ) (next : IsNext store book revision) (ns : List ℕ) (lent : map (change_at (cells_in store)) ns ≡ map Some (since revision store.kept.changes)) where
   pub still_next : map (change_at (cells_in store)) ns ≡ map Some (since (next.old.current + 1) (after next.old next.changes).changes)
   still_next = lent ∙ ap (λ r. map Some (since r store.kept.changes)) next.next ∙ ap (λ (s : Store). map Some (since (next.old.current + 1) s.changes)) next.kept

@@ -18,7 +18,7 @@ pub(crate) fn follow(leases: &mut LeaseBook, store: &Store, revision: u64)
     ensures others { leases.new ≡ record leases.old { attachments = leases.new.attachments } }
 {
     for cell in store.since(revision) {
-        follow_change(leases, store, *cell);
+        follow_change(leases, store, cell);
     }
 }
 
