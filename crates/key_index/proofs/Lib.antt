@@ -8,6 +8,11 @@ pub mod Dropped
 pub mod Cut
 pub mod Compacted
 pub mod Whole
+pub mod Visited
+pub mod Leaving
+pub mod Passed
+pub mod Counting
+pub mod Visits
 pub mod Linking
 pub mod Kept
 pub mod Times
@@ -18,4 +23,3 @@ pub mod Settled
 pub mod Listing
 pub mod Turned
 pub mod Parted
-pub mod Both

@@ -6,12 +6,12 @@ use Rattle.std.proofs.lemmas.List.{length_push, get_or_append_left, get_or_past,
 use Rattle.etcd_model.specs.Changes.{Recorded}
 use Rattle.key_index.specs.Links.{Cells, IsChained, IsPlaced, without}
 use Rattle.key_index.specs.Index.{IsIndexOf}
-use Rattle.key_index.specs.Compaction.{IsCompacted}
+use Rattle.key_index.specs.Compaction.{IsCompactedAt}
 use Rattle.key_index.specs.Order.{with_record}
 use Rattle.key_index.specs.Listed.{listed_link, listed_cells, IsIndexedList}
 use Rattle.key_index.specs.declared.record_list.Record.{Record}
 use Rattle.key_index.proofs.Links.{if_other}
-use Rattle.key_index.proofs.Compacted.{linked_some}
+use Rattle.key_index.proofs.Whole.{was_at}
 use Rattle.key_index.proofs.OrderAdded.{at_record, without_record, placed_record}
 
 fresh : (items : List (Option Record)) → listed_cells items (length items) ≡ None
@@ -31,14 +31,14 @@ cells_push items r = fun_ext (λ b. elim (cases_order b (length items)) [
 ])
 
 module _ (items : List (Option Record)) (live dead : List ℕ) (listed : IsIndexedList items live dead) where
-  -- what a compaction leaves is listed
-  pub listed_cut : (next : List (Option Record)) (live_left dead_left : List ℕ) (revision : ℕ) → IsCompacted (listed_cells items) (listed_cells next) revision → length next ≡ length items
+  -- what the compaction of a key leaves is listed
+  pub listed_cut : (next : List (Option Record)) (live_left dead_left : List ℕ) (revision : ℕ) (key : List ℕ) → IsCompactedAt (listed_cells items) (listed_cells next) revision key → length next ≡ length items
       → IsIndexOf (listed_cells next) live_left dead_left → IsChained (listed_cells next) → IsIndexedList next live_left dead_left
-  listed_cut next live_left dead_left revision compacted same index chained = record {
+  listed_cut next live_left dead_left revision key compacted same index chained = record {
     index = index;
     chained = chained;
     numbered = λ c e at.
-        let f = linked_some (listed_cells items) c e.change (compacted.only c e at).0 in
+        let f = was_at (listed_cells items) (listed_cells next) revision key compacted c e at in
         omega (arith, listed.numbered c f.0 f.1, ap (λ (x : Recorded). x.revision) f.2, same);
   }
 

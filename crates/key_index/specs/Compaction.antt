@@ -52,16 +52,16 @@ pub record IsDone (old new : Cells) (revision : ℕ) (key : List ℕ) : Type 0 w
   pub only : (c : ℕ) (e : Linked) → new c ≡ Some e → e.change.key ≡ key
       → (change_at old c ≡ Some e.change) × IsKept old revision e.change
 
--- the key is of none of the first heads
+-- the key is of none of the first of some cells
 abbrev pub IsBehindNone : Cells → List ℕ → ℕ → List ℕ → Type 0
-IsBehindNone cells heads i key =
-    (j : ℕ) (e : Linked) → j < i → cells (slice_index heads j) ≡ Some e → e.change.key ≢ key
+IsBehindNone cells visited i key =
+    (j : ℕ) (e : Linked) → j < i → cells (slice_index visited j) ≡ Some e → e.change.key ≢ key
 
--- the keys of the first of some heads are done, and all others untouched
-pub record AreDone (old new : Cells) (heads : List ℕ) (revision i : ℕ) : Type 0 where
-  pub done : (j : ℕ) (e : Linked) → j < i → old (slice_index heads j) ≡ Some e
+-- the keys of the first of some cells are done, and all others untouched
+pub record AreDone (old new : Cells) (visited : List ℕ) (revision i : ℕ) : Type 0 where
+  pub done : (j : ℕ) (e : Linked) → j < i → old (slice_index visited j) ≡ Some e
       → IsDone old new revision e.change.key
-  pub others : (key : List ℕ) → IsBehindNone old heads i key → IsUntouched old new key
+  pub others : (key : List ℕ) → IsBehindNone old visited i key → IsUntouched old new key
   pub back : (c : ℕ) (e : Linked) → new c ≡ Some e → (f : Linked) × (old c ≡ Some f) × (f.change ≡ e.change)
 
 -- where the chain of a key ended up: its head is still the newest, or none of the key is left

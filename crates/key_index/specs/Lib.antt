@@ -4,4 +4,5 @@ pub mod Moving
 pub mod Sought
 pub mod Compaction
 pub mod Order
+pub mod Visiting
 pub mod Listed

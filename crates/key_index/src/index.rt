@@ -1,13 +1,13 @@
 //! The index.
 ghost use Rattle.std.specs.Prelude.{◌≡◌, ◌+◌, ◌<◌, ◌≤◌, length, [], max};
-ghost use Rattle.std.specs.Prelude.{MatchOption, IfOk, IsOk, OnOk, OnErr};
+ghost use Rattle.std.specs.Prelude.{MatchOption, IfOk, IfSome, IsOk, IsSome, OnOk, OnErr};
 ghost use Rattle.key_index.specs.Links.{IsChained, IsLast, IsPlaced, NoneUpTo, SameChanges, without};
-ghost use Rattle.key_index.specs.Compaction.{GivesBack, IsCompacted};
+ghost use Rattle.key_index.specs.Compaction.{GivesBack, IsCompactedAt};
 ghost use Rattle.key_index.specs.Index.{AreHeadsIn, AreParted, IsHeadOf, IsIndexOf, IsSpread};
 ghost use Rattle.key_index.specs.Index.{NoneOfKey, is_put_of, key_count};
 ghost use Rattle.key_index.specs.Moving.{IsMoved};
 
-use crate::compaction::cut_heads;
+use crate::compaction::cut_head;
 use crate::records::{Records, RecordsMut};
 use crate::search::{Sought, last_up_to, search};
 use crate::span::span;
@@ -127,21 +127,31 @@ impl KeyIndex {
         records.set_older(cell, older);
     }
 
-    /// Drops what a compaction at this revision doesn't keep, and the places of keys of which none is left.
-    pub fn cut<R: RecordsMut>(&mut self, records: &mut R, revision: u64)
+    /// Drops what a compaction at this revision doesn't keep of the key of a record, and the place of the key if none
+    /// of it is left.
+    pub fn cut_key<R: RecordsMut>(&mut self, records: &mut R, cell: CellNo, revision: u64)
         requires index { IsIndexOf (R.cells records.old) self.old.live self.old.dead }
         requires chained { IsChained (R.cells records.old) }
+        requires there { IsSome (R.cells records.old cell) }
 
         ensures index { IsIndexOf (R.cells records.new) self.new.live self.new.dead }
         ensures chained { IsChained (R.cells records.new) }
-        ensures compacted { IsCompacted (R.cells records.old) (R.cells records.new) revision }
+        ensures compacted { IfSome (R.cells records.old cell)
+            (λ e. IsCompactedAt (R.cells records.old) (R.cells records.new) revision e.change.key) }
         ensures capacity { self.new.capacity ≡ self.old.capacity }
         ensures free { GivesBack R.cost (R.cells records.old) (R.cells records.new)
             (R.free records.old) (R.free records.new) }
         ensures rest { R.same_rest records.old records.new }
     {
-        cut_heads(&mut self.live, records, revision);
-        cut_heads(&mut self.dead, records, revision);
+        let sought = Sought::KeyOf(cell);
+        match search(&self.live, records, &sought) {
+            Ok(place) => cut_head(&mut self.live, records, place, revision),
+            Err(_) => match search(&self.dead, records, &sought) {
+                Ok(place) => cut_head(&mut self.dead, records, place, revision),
+                // Each key of a record has a place in one of them.
+                Err(_) => unreachable!(),
+            },
+        }
     }
 }
 

@@ -35,8 +35,10 @@ pub mod record_list;
 mod records;
 mod search;
 mod span;
+mod visiting;
 
 pub use compaction::kept_as_defined;
 pub use index::KeyIndex;
 pub use records::{Records, RecordsMut};
 pub use search::last_up_to;
+pub use visiting::cut_changes;

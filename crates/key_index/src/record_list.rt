@@ -25,6 +25,10 @@ impl Records for RecordList {
 
     ghost cells = { λ s. listed_cells s.items.items };
 
+    fn has(&self, cell: CellNo) -> bool {
+        matches!(self.items.get(cell.number() as usize), Some(Some(_)))
+    }
+
     fn key_cmp(&self, cell: CellNo, key: &[u8]) -> Ordering {
         match self.items.get(cell.number() as usize) {
             Some(Some(record)) => record.key.as_slice().cmp(key),

@@ -9,10 +9,14 @@ ghost use Rattle.key_index.specs.Compaction.{cost_of};
 use etcd_types::CellNo;
 use std::cmp::Ordering;
 
-/// Records under cell numbers. A call that names a cell asks that a record is there.
+/// Records under cell numbers. A call that names a cell asks that a record is there, but for `has`.
 pub trait Records {
     /// The record that a cell has.
     ghost cells: { Self → ℕ → Option Linked };
+
+    /// Whether a cell has a record.
+    fn has(&self, cell: CellNo) -> bool
+        ensures { result ≡ is_some (cells self.now cell) };
 
     /// How the record's key stands to a key, in byte order.
     fn key_cmp(&self, cell: CellNo, key: &[u8]) -> Ordering

@@ -30,7 +30,7 @@ use Rattle.revision_store.specs.Plans.{change_in, cost_in, recorded_in}
 use Rattle.revision_store.specs.declared.plan.Write.{Write}
 use Rattle.revision_store.specs.declared.plan.Write.TheVariants.{Put, Delete}
 use Rattle.revision_store.proofs.Counted.{counted_more, counted_fewer}
-use Rattle.revision_store.proofs.Walked.{all_front}
+use Rattle.key_index.proofs.Visits.{some_front}
 
 -- ---- nothing
 
@@ -191,7 +191,7 @@ module _ {r0 : RegionState} (r1 : RegionState) {heads0 : Heads} {settled recent 
           rises = subst (IsInOrder (cells_of r2.records)) (sym moved) (in_order_added (cells_of r0.records) (cells_of r2.records) c new_linked fresh_cell same_changes order log.all log.rises later);
           settled = settled_added (cells_of r0.records) (cells_of r2.records) c new_linked fresh_cell same_changes
               (λ b g at key. each_record (λ x. x.revision ≤ new_change.revision) (cells_of r0.records) order log.all later b g at)
-              settled.items (all_front (λ b. IsSome (cells_of r0.records b)) settled.items recent.items log.all.some) log.settled;
+              settled.items (some_front (λ b. IsSome (cells_of r0.records b)) settled.items recent.items log.all.some) log.settled;
           plain = plain;
           leases = subst (λ l. AreCounted l leases) (sym same_leases) log.leases;
           space = omega (arith, seen, cells, split, free1, same_free, reserved, log.space);

@@ -1,19 +1,20 @@
 -- The changes from a revision on, of cells whose revisions don't fall.
-use Rattle.std.proofs.Common.{◌≡◌, ℕ, zero, suc, ◌-◌, ◌<◌, ◌≤◌, List, [], ◌∷◌, ◌++◌, length, get_or, take, drop, map, Option, Some, None, IsSome, IfSome, refl, sym, ap, ◌∙◌, subst, arith}
+use Rattle.std.proofs.Common.{◌≡◌, ℕ, zero, suc, ◌-◌, ◌<◌, ◌≤◌, List, [], ◌∷◌, ◌++◌, length, get_or, take, drop, map, Option, Some, None, IsSome, IfSome, refl, sym, ap, ◌∙◌, arith}
 use Rattle.std.specs.Prelude.{Bool, true, false, is_some, nat_le, nat_lt, option_and_then, option_map}
 use Rattle.std.specs.List.{All, AllByRecursion, cons_option}
 use Rattle.std.specs.Option.{option_map_or}
 use Rattle.std.proofs.lemmas.Bool.Decides.{nat_tests}
 use Rattle.std.proofs.lemmas.List.{map-append}
-use Rattle.std.proofs.lemmas.List.Elements.{All-nil, All-cons, All-head, All-tail, All-from_get_or, recursion_from_All, filter-append, filter_map-append}
+use Rattle.std.proofs.lemmas.List.Elements.{All-head, All-tail, All-from_get_or, recursion_from_All, filter-append, filter_map-append}
 use Rattle.chunk_list.specs.Chunked.{TurnsAt}
 use Rattle.chunk_list.proofs.Turning.{IsFailing}
 use Rattle.etcd_model.specs.Changes.{Recorded, Rises, since}
 use Rattle.key_index.specs.Links.{Cells, Linked, change_at}
 use Rattle.key_index.specs.Order.{IsInOrder, changes_in}
 use Rattle.key_index.proofs.Compacted.{linked_some}
-use Rattle.key_index.proofs.Links.{is_some_from, one_linked}
+use Rattle.key_index.proofs.Links.{is_some_from}
 use Rattle.key_index.proofs.Order.{which}
+use Rattle.key_index.proofs.Visited.{rises_along}
 use Rattle.revision_store.specs.Stored.{row_at}
 use Rattle.revision_store.specs.Walking.{is_below}
 
@@ -32,32 +33,9 @@ not_below r m n le is = grind (arith, nat_tests)
 module _ (cells : Cells) where
   -- ---- along the order
 
-  later_all : (P : Recorded → Type 0) (o : Option Linked) (xs : List Recorded) → AllByRecursion P (cons_option (change_in o) xs) → AllByRecursion P xs
-  later_all P None xs all = all
-  later_all P (Some e) xs all = all.1
-
   later_rises : (o : Option Linked) (xs : List Recorded) → Rises (cons_option (change_in o) xs) → Rises xs
   later_rises None xs rises = rises
   later_rises (Some e) xs rises = rises.1
-
-  at_all : (P : Recorded → Type 0) (order : List ℕ) (j : ℕ) (f : Linked) → AllByRecursion P (changes_in cells order) → j < length order → cells (get_or order j 0) ≡ Some f → P f.change
-  at_all P [] j f all lt at = absurd (omega (arith, lt))
-  at_all P (c ∷ cs) zero f all lt at =
-      let here : AllByRecursion P (f.change ∷ changes_in cells cs) = subst (λ (o : Option Linked). AllByRecursion P (cons_option (change_in o) (changes_in cells cs))) at all in
-      here.0
-  at_all P (c ∷ cs) (suc j) f all lt at = at_all P cs j f (later_all P (cells c) (changes_in cells cs) all) (omega (arith, lt)) at
-
-  rises_along : (order : List ℕ) (i j : ℕ) (e f : Linked) → IsInOrder cells order → i ≤ j → j < length order → cells (get_or order i 0) ≡ Some e → cells (get_or order j 0) ≡ Some f → e.change.revision ≤ f.change.revision
-  rises_along [] i j e f rises le lt here there = absurd (omega (arith, lt))
-  rises_along (c ∷ cs) zero zero e f rises le lt here there =
-      let same = ap (λ (x : Linked). x.change.revision) (one_linked (cells c) e f here there) in
-      omega (arith, same)
-  rises_along (c ∷ cs) zero (suc j) e f rises le lt here there =
-      let first : Rises (e.change ∷ changes_in cells cs) = subst (λ (o : Option Linked). Rises (cons_option (change_in o) (changes_in cells cs))) here rises in
-      at_all (λ y. e.change.revision ≤ y.revision) cs j f first.0 (omega (arith, lt)) there
-  rises_along (c ∷ cs) (suc i) zero e f rises le lt here there = absurd (omega (arith, le))
-  rises_along (c ∷ cs) (suc i) (suc j) e f rises le lt here there =
-      rises_along cs i j e f (later_rises (cells c) (changes_in cells cs) rises) (omega (arith, le)) (omega (arith, lt)) here there
 
   -- ---- a place that is looked at
 
@@ -80,7 +58,7 @@ module _ (cells : Cells) where
     λ fails. recursion_from_All (λ b. is_below cells r b ≡ false) cs (All-from_get_or (λ b. is_below cells r b ≡ false) cs 0 (λ j lt. (
         let e = which (cells c) (All-head (λ b. IsSome (cells b)) c cs there) in
         let f = which (cells (get_or cs j 0)) (All-tail (λ b. IsSome (cells b)) c cs there j 0 lt) in
-        let le = rises_along (c ∷ cs) 0 (suc j) e.0 f.0 rises (omega arith) (omega (arith, lt)) e.1 f.1 in
+        let le = rises_along cells (c ∷ cs) there rises 0 (suc j) e.0 f.0 (omega arith) (omega (arith, lt)) e.1 f.1 in
         below_is r (get_or cs j 0) f.0 f.1 ∙ not_below r e.0.change.revision f.0.change.revision le (sym (below_is r c e.0 e.1) ∙ fails)))),
     turning r cs (later_rises (cells c) (changes_in cells cs) rises) (All-tail (λ b. IsSome (cells b)) c cs there),
   )
@@ -133,33 +111,7 @@ first_of_both (suc n) (x ∷ xs) ys =
     let fewer : n - length (take n xs) ≡ suc n - suc (length (take n xs)) = omega arith in
     ap (λ zs. x ∷ zs) (first_of_both n xs ys ∙ ap (λ (k : ℕ). take n xs ++ take k ys) fewer)
 
-pub all_front : {X : Type 0} (P : X → Type 0) (xs ys : List X) → All P (xs ++ ys) → All P xs
-all_front P [] ys all = All-nil P
-all_front P (x ∷ xs) ys all = All-cons P x xs (All-head P x (xs ++ ys) all) (all_front P xs ys (All-tail P x (xs ++ ys) all))
-
-pub all_behind : {X : Type 0} (P : X → Type 0) (xs ys : List X) → All P (xs ++ ys) → All P ys
-all_behind P [] ys all = all
-all_behind P (x ∷ xs) ys all = all_behind P xs ys (All-tail P x (xs ++ ys) all)
-
-each_front : (P : Recorded → Type 0) (xs ys : List Recorded) → AllByRecursion P (xs ++ ys) → AllByRecursion P xs
-each_front P [] ys all = tt
-each_front P (x ∷ xs) ys all = (all.0, each_front P xs ys all.1)
-
-rises_front : (xs ys : List Recorded) → Rises (xs ++ ys) → Rises xs
-rises_front [] ys rises = tt
-rises_front (x ∷ xs) ys rises = (each_front (λ y. x.revision ≤ y.revision) xs ys rises.0, rises_front xs ys rises.1)
-
-rises_behind : (xs ys : List Recorded) → Rises (xs ++ ys) → Rises ys
-rises_behind [] ys rises = rises
-rises_behind (x ∷ xs) ys rises = rises_behind xs ys rises.1
-
 module _ (cells : Cells) (settled recent : List ℕ) where
-  pub settled_rises : IsInOrder cells (settled ++ recent) → IsInOrder cells settled
-  settled_rises rises = rises_front (changes_in cells settled) (changes_in cells recent) (subst Rises (filter_map-append (change_at cells) settled recent) rises)
-
-  pub recent_rises : IsInOrder cells (settled ++ recent) → IsInOrder cells recent
-  recent_rises rises = rises_behind (changes_in cells settled) (changes_in cells recent) (subst Rises (filter_map-append (change_at cells) settled recent) rises)
-
   -- what is found in either is what is found in both
   pub found_both : (r : ℕ) (before after : List ℕ) → map (change_at cells) before ≡ map Some (since r (changes_in cells settled)) → map (change_at cells) after ≡ map Some (since r (changes_in cells recent))
       → map (change_at cells) (before ++ after) ≡ map Some (since r (changes_in cells (settled ++ recent)))

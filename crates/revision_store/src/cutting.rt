@@ -1,34 +1,48 @@
 //! Dropping what a compaction does not keep.
-ghost use Rattle.std.specs.Prelude.{◌≡◌, ◌≤◌, length};
+ghost use Rattle.std.specs.Prelude.{◌≡◌, ◌+◌, ◌≤◌, ◌++◌, length};
 ghost use Rattle.etcd_model.specs.Changes.{change_of};
 ghost use Rattle.etcd_model.specs.Kept.{cost};
 ghost use Rattle.key_index.specs.Compaction.{GivesBack, IsCompacted};
 ghost use Rattle.key_index.specs.Links.{IsChained};
 ghost use Rattle.key_index.specs.Index.{IsIndexOf};
+ghost use Rattle.key_index.specs.Order.{AreAll, AreSettled, IsInOrder, with_records};
 ghost use Rattle.revision_store.specs.Loans.{KeepsRest};
 ghost use Rattle.cell_arena.specs.Loan.{IsLent};
 ghost use Rattle.revision_store.specs.Recorded.{ArePlain, cells_of};
 
 use crate::records::Writer;
 use cell_arena::{Region, Segments};
-use key_index::KeyIndex;
+use chunk_list::ChunkList;
+use etcd_types::CellNo;
+use key_index::{KeyIndex, cut_changes};
 
-/// Drops the records that a compaction at a revision does not keep, and what the index has of them.
+/// Drops the records that a compaction at a revision does not keep, and what the index and the order have of them.
 pub(crate) fn cut<S: Segments>(
     region: &mut Region,
     segments: &mut S,
     index: &mut KeyIndex,
+    settled: &mut ChunkList<CellNo>,
+    recent: &mut ChunkList<CellNo>,
     revision: u64,
 )
     requires index { IsIndexOf (cells_of region.old.records) index.old.live index.old.dead }
     requires chained { IsChained (cells_of region.old.records) }
+    requires all { AreAll (cells_of region.old.records) (settled.old.items ++ recent.old.items) }
+    requires rises { IsInOrder (cells_of region.old.records) (settled.old.items ++ recent.old.items) }
+    requires settled { AreSettled (cells_of region.old.records) settled.old.items }
+    requires room { length settled.old.items + length recent.old.items ≤ settled.old.room }
     requires plain { ArePlain region.old.records }
     requires lent { IsLent region.old.share (S.loan segments.old) }
 
     ensures index { IsIndexOf (cells_of region.new.records) index.new.live index.new.dead }
     ensures chained { IsChained (cells_of region.new.records) }
     ensures compacted { IsCompacted (cells_of region.old.records) (cells_of region.new.records) revision }
+    ensures order { settled.new.items ++ recent.new.items
+        ≡ with_records (cells_of region.new.records) (settled.old.items ++ recent.old.items) }
+    ensures settled { AreSettled (cells_of region.new.records) settled.new.items }
     ensures capacity { index.new.capacity ≡ index.old.capacity }
+    ensures settled_room { settled.new.room ≡ settled.old.room }
+    ensures recent_room { recent.new.room ≡ recent.old.room }
     ensures free { GivesBack
         (λ x. cost (change_of x)) (cells_of region.old.records) (cells_of region.new.records)
         region.old.free region.new.free }
@@ -36,7 +50,7 @@ pub(crate) fn cut<S: Segments>(
     ensures plain { ArePlain region.new.records }
 {
     let mut writer = Writer { region, segments };
-    index.cut(&mut writer, revision);
+    cut_changes(index, settled, recent, &mut writer, revision);
     let Writer {
         region: _,
         segments: _,

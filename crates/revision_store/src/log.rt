@@ -22,7 +22,7 @@ use crate::placing::{lease_fields, place};
 use crate::plan::Write;
 use crate::records::Writer;
 use cell_arena::{Kind, Region, Segments};
-use chunk_list::{ChunkList, Test};
+use chunk_list::ChunkList;
 use etcd_types::{CellNo, Mem};
 use key_index::KeyIndex;
 use std::alloc::Global;
@@ -143,12 +143,14 @@ impl Log {
         ensures none_drawn { DrawsNone self.old.share self.new.share }
         ensures settles { Settles self.old.share (S.loan segments.old) self.new.share (S.loan segments.new) }
     {
-        cut(&mut self.region, segments, &mut self.index, revision);
-        let stays = Stays {
-            region: &self.region,
-        };
-        self.settled.retain(&stays);
-        self.recent.retain(&stays);
+        cut(
+            &mut self.region,
+            segments,
+            &mut self.index,
+            &mut self.settled,
+            &mut self.recent,
+            revision,
+        );
     }
 
     /// Records a lease, in one cell, whose number is the answer.
@@ -197,24 +199,5 @@ impl Log {
             ≡ 64 * self.now.share.reserved }
     {
         let _ = &self.recent;
-    }
-}
-
-/// Whether a record begins at a cell.
-#[derive(Drop)]
-struct Stays<'a> {
-    region: &'a Region,
-}
-
-impl<'a> Test<CellNo> for Stays<'a> {
-    ghost use Rattle.std.specs.Prelude.{is_some};
-    ghost use Rattle.std.specs.FinMap as finite;
-
-    ghost can = { λ s c. Unit {0} };
-
-    ghost test = { λ s c. is_some (finite.get s.region.now.records c) };
-
-    fn holds(&self, cell: CellNo) -> bool {
-        self.region.has(cell)
     }
 }

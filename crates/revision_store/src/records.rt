@@ -1,5 +1,5 @@
 //! The records of a region, as the index reads and writes them.
-ghost use Rattle.std.specs.Prelude.{◌≡◌, ◌≤◌, ℕ, Option, Some, None, IsSome, IfSome};
+ghost use Rattle.std.specs.Prelude.{◌≡◌, ◌≤◌, ℕ, Option, Some, None, IsSome, IfSome, is_some};
 ghost use Rattle.cell_arena.specs.Loan.{IsLent};
 ghost use Rattle.etcd_model.specs.Changes.{change_of};
 ghost use Rattle.etcd_model.specs.History.{lease_of};
@@ -28,6 +28,10 @@ impl Records for Reader<'_> {
     ghost use Rattle.revision_store.specs.Recorded.{cells_of};
 
     ghost cells = { λ s. cells_of s.region.now.records };
+
+    fn has(&self, cell: CellNo) -> bool {
+        has_change(self.region, cell)
+    }
 
     fn key_cmp(&self, cell: CellNo, key: &[u8]) -> Ordering {
         self.region.key_cmp(cell, key)
@@ -66,6 +70,10 @@ impl<S: Segments> Records for Writer<'_, S> {
     ghost use Rattle.revision_store.specs.Recorded.{cells_of};
 
     ghost cells = { λ s. cells_of s.region.now.records };
+
+    fn has(&self, cell: CellNo) -> bool {
+        has_change(self.region, cell)
+    }
 
     fn key_cmp(&self, cell: CellNo, key: &[u8]) -> Ordering {
         self.region.key_cmp(cell, key)
@@ -118,6 +126,13 @@ impl<S: Segments> RecordsMut for Writer<'_, S> {
     fn drop_record(&mut self, cell: CellNo) {
         self.region.release(self.segments, cell);
     }
+}
+
+/// Whether a change is under a cell.
+fn has_change(region: &Region, cell: CellNo) -> bool
+    ensures { result ≡ is_some (cells_of region.now.records cell) }
+{
+    region.has(cell) && !matches!(region.kind(cell), Kind::Lease)
 }
 
 /// The lease that a put attaches its key to, and 0 where there is none.

@@ -8,32 +8,33 @@ use Rattle.key_index.specs.Order.{IsInOrder, changes_in}
 use Rattle.revision_store.specs.Recorded.{cells_of}
 use Rattle.revision_store.specs.Logged.{LogState}
 use Rattle.revision_store.proofs.Logged.{order_few}
-use Rattle.revision_store.proofs.Walked.{all_behind, all_front, found_both, recent_rises, settled_rises}
+use Rattle.key_index.proofs.Visits.{order_behind, order_front, some_behind, some_front}
+use Rattle.revision_store.proofs.Walked.{found_both}
 use Rattle.revision_store.proofs.log.Log.since.Goals as goal
 
 pub walk_from-requires-clause-there : goal.walk_from-requires-clause-there
 walk_from-requires-clause-there c =
     let before = c.self.inside.settled.items in
     subst (λ (h : RegionState). All (λ k. IsSome (cells_of h.records k)) before) (sym c.new-records.ensures)
-    (all_front (λ k. IsSome (cells_of c.self.inside.region.records k)) before c.self.inside.recent.items c.self.invariant.all.some)
+    (some_front (λ k. IsSome (cells_of c.self.inside.region.records k)) before c.self.inside.recent.items c.self.invariant.all.some)
 
 pub walk_from-requires-clause-rises : goal.walk_from-requires-clause-rises
 walk_from-requires-clause-rises c =
     let before = c.self.inside.settled.items in
     subst (λ (h : RegionState). IsInOrder (cells_of h.records) before) (sym c.new-records.ensures)
-    (settled_rises (cells_of c.self.inside.region.records) before c.self.inside.recent.items c.self.invariant.rises)
+    (order_front (cells_of c.self.inside.region.records) before c.self.inside.recent.items c.self.invariant.rises)
 
 pub walk_from-requires-2-clause-there : goal.walk_from-requires-2-clause-there
 walk_from-requires-2-clause-there c =
     let after = c.self.inside.recent.items in
     subst (λ (h : RegionState). All (λ k. IsSome (cells_of h.records k)) after) (sym c.new-records.ensures)
-    (all_behind (λ k. IsSome (cells_of c.self.inside.region.records k)) c.self.inside.settled.items after c.self.invariant.all.some)
+    (some_behind (λ k. IsSome (cells_of c.self.inside.region.records k)) c.self.inside.settled.items after c.self.invariant.all.some)
 
 pub walk_from-requires-2-clause-rises : goal.walk_from-requires-2-clause-rises
 walk_from-requires-2-clause-rises c =
     let after = c.self.inside.recent.items in
     subst (λ (h : RegionState). IsInOrder (cells_of h.records) after) (sym c.new-records.ensures)
-    (recent_rises (cells_of c.self.inside.region.records) c.self.inside.settled.items after c.self.invariant.rises)
+    (order_behind (cells_of c.self.inside.region.records) c.self.inside.settled.items after c.self.invariant.rises)
 
 pub of-requires : goal.of-requires
 of-requires c =

@@ -1,0 +1,64 @@
+use Rattle.std.proofs.Common.{rules, ◌≡◌, ℕ, ◌<◌, length, get_or, refl, sym, ap, subst, ◌∙◌, arith}
+use Rattle.std.proofs.lemmas.List.{get_or_default}
+use Rattle.key_index.specs.Compaction.{AreDone}
+use Rattle.key_index.proofs.Costs.{gives_nothing, gives_then}
+use Rattle.key_index.proofs.Visits.{left_rises, left_some, linked_once, low_through, visited, visiting_none}
+use Rattle.key_index.proofs.visiting.visit_all.Goals as goal
+
+pub visiting-init : goal.visiting-init
+visiting-init g c = record {
+  index = c.requires.index;
+  chained = c.requires.chained;
+  visiting = visiting_none (g.R.Records.cells c.args.records.now) c.args.settled.now.items c.args.recent.now.items c.args.revision c.requires.all;
+  place = c.start-place.ensures.position_is;
+  place_is = c.start-place.ensures.item_is;
+  capacity = refl;
+  room = refl;
+  gives = gives_nothing _ _ _;
+  rest = g.met.R.RecordsMut.stays _;
+}
+
+pub visit-requires-clause-some : goal.visit-requires-clause-some
+visit-requires-clause-some g c =
+    left_some _ _ _ _ _ _ _ c.requires.chained c.visiting.invariant.chained c.requires.all c.requires.rises c.requires.settled c.visiting.invariant.visiting
+
+pub visit-requires-clause-rises : goal.visit-requires-clause-rises
+visit-requires-clause-rises g c =
+    left_rises _ _ _ _ _ _ _ c.requires.chained c.visiting.invariant.chained c.requires.all c.requires.rises c.requires.settled c.visiting.invariant.visiting
+
+pub visit-requires-clause-once : goal.visit-requires-clause-once
+visit-requires-clause-once g c =
+    let xs = c.args.recent.now.items in
+    let i = c.visiting._visited in
+    let lt : i < length xs = omega (arith, c.visiting-test.true, c.requires.turns.in_range) in
+    let is : get_or xs i 0 ≡ c.get-cell.result = sym (c.get-cell.ensures ∙ ap (λ (n : ℕ). get_or xs n c.get-cell.result) c.visiting.invariant.place ∙ get_or_default xs i c.get-cell.result 0 lt) in
+    linked_once _ _ _ _ _ _ _ c.requires.chained c.visiting.invariant.chained c.requires.all c.requires.rises c.requires.settled c.visiting.invariant.visiting lt c.get-cell.result is
+    (λ e at. low_through (g.R.Records.cells c.args.records.now) xs c.args.revision c.args.count c.requires.turns i e c.visiting-test.true at)
+
+pub visiting-preserved : goal.visiting-preserved
+visiting-preserved g c =
+    let m = g.R.Records.cells c.args.records.now in
+    let now = g.R.Records.cells c.visiting.records in
+    let new = g.R.Records.cells c.visit.new.records in
+    let xs = c.args.recent.now.items in
+    let i = c.visiting._visited in
+    let lt : i < length xs = omega (arith, c.visiting-test.true, c.requires.turns.in_range) in
+    let is : get_or xs i 0 ≡ c.get-cell.result = sym (c.get-cell.ensures ∙ ap (λ (n : ℕ). get_or xs n c.get-cell.result) c.visiting.invariant.place ∙ get_or_default xs i c.get-cell.result 0 lt) in
+    record {
+      index = c.visit.ensures.index;
+      chained = c.visit.ensures.chained;
+      visiting = visited m now c.args.settled.now.items xs c.visiting.settled.items c.args.revision i c.requires.chained c.visiting.invariant.chained c.requires.all c.requires.rises c.requires.settled c.visiting.invariant.visiting lt c.get-cell.result is
+          (λ e at. low_through m xs c.args.revision c.args.count c.requires.turns i e c.visiting-test.true at) new c.visit.new.settled.items c.visit.ensures.visits;
+      place = omega (arith, c.next-place.ensures.position_is, c.visiting.invariant.place);
+      place_is = λ more. c.next-place.ensures.item_is (omega (arith, more, c.visiting.invariant.place));
+      capacity = c.visit.ensures.capacity ∙ c.visiting.invariant.capacity;
+      room = c.visit.ensures.room ∙ c.visiting.invariant.room;
+      gives = gives_then g.R.RecordsMut.cost m now (g.R.RecordsMut.free c.args.records.now) (g.R.RecordsMut.free c.visiting.records) c.visiting.invariant.gives new (g.R.RecordsMut.free c.visit.new.records) (λ b e has. let f = c.visiting.invariant.visiting.done.back b e has in (f.0, f.1)) c.visit.ensures.free;
+      rest = g.met.R.RecordsMut.joins _ _ _ c.visiting.invariant.rest c.visit.ensures.rest;
+    }
+
+pub returns-clause-done : goal.returns-clause-done
+returns-clause-done g c =
+    let all : c.visiting._visited ≡ c.args.count = search rules in
+    subst (AreDone (g.R.Records.cells c.args.records.now) (g.R.Records.cells c.visiting.records) c.args.recent.now.items c.args.revision) all c.visiting.invariant.visiting.done
+
