@@ -1,6 +1,6 @@
 //! Changes that are pending.
-ghost use Rattle.std.specs.Prelude.{◌≡◌, ◌+◌, ◌<◌, ◌^◌, [], false, map, pos, Some, None, IfOk, OnOk, OnErr};
-ghost use Rattle.std.specs.Prelude.{if◌then◌else◌};
+ghost use Rattle.std.specs.Prelude.{◌≡◌, ◌+◌, ◌<◌, ◌^◌, [], false, map, pos, Some, None, IfOk, IfSome, OnOk, OnErr};
+ghost use Rattle.std.specs.Prelude.{IsSome, if◌then◌else◌, option_and_then};
 ghost use Rattle.etcd_types.specs.declared.reply.OpReply.TheVariants.{Put as PutReply, Delete as DeleteReply};
 ghost use Rattle.etcd_types.specs.declared.txn.Op.TheVariants.{Range as RangeOp, Put as PutOp};
 ghost use Rattle.etcd_types.specs.declared.txn.Op.TheVariants.{Delete as DeleteOp};
@@ -127,8 +127,34 @@ impl<'a> Pending<'a> {
             ≡ op_reply (pending_reads self.old) (self.old.store.kept.current + 1) (PutOp request.now)) }
         ensures memory { OnErr result (self.new ≡ self.old) }
     {
+        let live = self.store.live(request.key.as_slice());
+        self.add_put_over(alloc, request, live)
+    }
+
+    /// The same where the cell of the store's row of the key, if that is live, is known.
+    pub(crate) fn add_put_over(
+        &mut self,
+        alloc: Global,
+        request: &PutReq,
+        live: Option<CellNo>,
+    ) -> Mem<OpReply>
+        requires row { option_and_then (row_at (cells self.old.store)) live
+            ≡ (reads self.old.store).row request.now.key }
+        requires there { IfSome live (λ c. IsSome (row_at (cells self.old.store) c)) }
+        requires once { changes_key request.now.key self.old.changes ≡ false }
+        requires revisions { self.old.store.kept.current + 1 < 2 ^ 63 }
+        ensures changes { OnOk result (self.new
+            ≡ record {
+              store = self.old.store;
+              changes = and_changes (look self.old.store) self.old.changes (PutOp request.now);
+            }) }
+        ensures reply { IfOk result
+            (λ reply. reply
+            ≡ op_reply (pending_reads self.old) (self.old.store.kept.current + 1) (PutOp request.now)) }
+        ensures memory { OnErr result (self.new ≡ self.old) }
+    {
         self.puts.reserve(1)?;
-        let now = present(alloc, self.store, request)?;
+        let now = present(alloc, self.store, request, live)?;
         let revision = self.store.current() + 1;
         let row = row_put(alloc, revision, request, now.as_ref())?;
         let place = self.writes.len();
@@ -218,14 +244,21 @@ fn row_asked(row: Option<KeyValue>, asked: bool) -> Option<KeyValue>
     if asked { row } else { None }
 }
 
-/// The present row of a put's key, with its value where the put asks for that.
-fn present(alloc: Global, store: &Store, request: &PutReq) -> Mem<Option<KeyValue>>
-    ensures { IfOk result (λ now. now ≡ present request.now ((reads store.now).row request.now.key)) }
+/// The row under the cell of a put's key, if that is live, with its value where the put asks for that.
+fn present(
+    alloc: Global,
+    store: &Store,
+    request: &PutReq,
+    live: Option<CellNo>,
+) -> Mem<Option<KeyValue>>
+    requires { IfSome live (λ c. IsSome (row_at (cells store.now) c)) }
+    ensures { IfOk result
+        (λ now. now ≡ present request.now (option_and_then (row_at (cells store.now)) live)) }
 {
     if request.prev_kv || request.ignore_value {
-        store.newest(alloc, request.key.as_slice())
+        store.row_of(alloc, live)
     } else {
-        store.newest_without_value(alloc, request.key.as_slice())
+        store.row_without_value_of(alloc, live)
     }
 }
 

@@ -1,16 +1,16 @@
 //! Plans of one operation.
-ghost use Rattle.std.specs.Prelude.{◌≡◌, ◌+◌, ◌<◌, ◌^◌, true, None, Some, IfOk, IsOk, MatchResult, is_some};
-ghost use Rattle.std.specs.Prelude.{option_map};
+ghost use Rattle.std.specs.Prelude.{◌≡◌, ◌+◌, ◌<◌, ◌^◌, true, None, Some, IfOk, IfSome, IsOk, IsSome, MatchResult};
+ghost use Rattle.std.specs.Prelude.{is_some, option_and_then, option_map};
 ghost use Rattle.etcd_types.specs.declared.txn.Op.TheVariants.{Put as PutOp, Delete as DeleteOp};
 ghost use Rattle.etcd_model.specs.Operations.{changes, op_reply, put_refusal};
 ghost use Rattle.etcd_model.specs.Ranges.{without_value};
-ghost use Rattle.revision_store.specs.Stored.{look, reads};
+ghost use Rattle.revision_store.specs.Stored.{cells, look, reads, row_at};
 ghost use Rattle.revision_store.specs.Pending.{IsPlanOf, IsSound};
 
 use crate::pending::Pending;
 use crate::plan::Plan;
 use crate::store::Store;
-use etcd_types::{DeleteReq, KeyValue, Mem, OpReply, PutReq, Refusal};
+use etcd_types::{CellNo, DeleteReq, KeyValue, Mem, OpReply, PutReq, Refusal};
 use std::alloc::Global;
 
 /// An operation that is decided, with all memory that its commit needs.
@@ -49,11 +49,12 @@ impl Store {
             (λ planned. planned.reply
             ≡ op_reply (reads self.now) (self.now.kept.current + 1) (PutOp request.now))) }
     {
-        if let Some(refusal) = self.put_refusal(request) {
-            return Ok(Err(refusal));
+        let live = self.live(request.key.as_slice());
+        if (request.ignore_value || request.ignore_lease) && live.is_none() {
+            return Ok(Err(Refusal::KeyNotFound));
         }
         let mut pending = Pending::new(alloc, self);
-        let reply = pending.add_put(alloc, request)?;
+        let reply = pending.add_put_over(alloc, request, live)?;
         Ok(Ok(PlannedOp {
             plan: pending.finish(),
             reply,
@@ -78,28 +79,43 @@ impl Store {
         })
     }
 
-    /// Whether the key is live.
-    pub(crate) fn has_key(&self, key: &[u8]) -> bool
-        ensures { result ≡ is_some ((reads self.now).row key.now) }
+    /// The cell of the row of a key, if it is live.
+    pub(crate) fn live(&self, key: &[u8]) -> Option<CellNo>
+        ensures row { option_and_then (row_at (cells self.now)) result ≡ (reads self.now).row key.now }
+        ensures there { IfSome result (λ c. IsSome (row_at (cells self.now) c)) }
     {
-        self.log.live(key, self.current()).is_some()
+        self.log.live(key, self.current())
     }
 
-    /// The row of a key, if it is live.
-    pub(crate) fn newest(&self, alloc: Global, key: &[u8]) -> Mem<Option<KeyValue>>
-        ensures { IfOk result (λ row. row ≡ (reads self.now).row key.now) }
+    /// Whether the key is live.
+    fn has_key(&self, key: &[u8]) -> bool
+        ensures { result ≡ is_some ((reads self.now).row key.now) }
     {
-        match self.log.live(key, self.current()) {
+        self.live(key).is_some()
+    }
+
+    /// The row under the cell of a key, if that is live.
+    pub(crate) fn row_of(&self, alloc: Global, live: Option<CellNo>) -> Mem<Option<KeyValue>>
+        requires { IfSome live (λ c. IsSome (row_at (cells self.now) c)) }
+        ensures { IfOk result (λ row. row ≡ option_and_then (row_at (cells self.now)) live) }
+    {
+        match live {
             Some(cell) => Ok(Some(self.log.row(alloc, cell)?)),
             None => Ok(None),
         }
     }
 
     /// The same without its value, which is not read.
-    pub(crate) fn newest_without_value(&self, alloc: Global, key: &[u8]) -> Mem<Option<KeyValue>>
-        ensures { IfOk result (λ row. row ≡ option_map without_value ((reads self.now).row key.now)) }
+    pub(crate) fn row_without_value_of(
+        &self,
+        alloc: Global,
+        live: Option<CellNo>,
+    ) -> Mem<Option<KeyValue>>
+        requires { IfSome live (λ c. IsSome (row_at (cells self.now) c)) }
+        ensures { IfOk result
+            (λ row. row ≡ option_map without_value (option_and_then (row_at (cells self.now)) live)) }
     {
-        match self.log.live(key, self.current()) {
+        match live {
             Some(cell) => Ok(Some(self.log.row_without_value(alloc, cell)?)),
             None => Ok(None),
         }
