@@ -15,17 +15,15 @@ use Rattle.etcd_model.specs.Ranges.{is_wanted, row_cmp, limited, without_value, 
 use Rattle.revision_store.specs.Answering.{IsLimit, SaysMore, given, is_by_key, shown}
 use Rattle.revision_store.proofs.SortingRows.{length_rows, rows_in_order}
 
-shown_rows : (b : Bool) (rows : List KeyValue) → (if b then map without_value rows else rows) ≡ map (λ row. if b then without_value row else row) rows
+pub shown_rows : (b : Bool) (rows : List KeyValue) → (if b then map without_value rows else rows) ≡ map (λ row. if b then without_value row else row) rows
 shown_rows true rows = refl
 shown_rows false rows = sym (map-id rows)
 
 -- ---- what is given of the rows that pass the filters
 
--- the rows in order, cut, and without their values where keys alone are asked for
-pub given_is : (q : RangeReq) (rows sorted : List KeyValue) (n : ℕ) → sorted ≡ in_order (row_cmp q.sort_order q.sort_target) rows → IsLimit q (length sorted) n →
-    (if q.keys_only then map without_value (take n sorted) else take n sorted) ≡ given q rows
-given_is q rows sorted n e limit =
-    shown_rows q.keys_only (take n sorted) ∙ ap (map (shown q)) (sym (limit sorted (omega arith)) ∙ ap (limited q.limit) e)
+-- the rows in order, cut, as they are shown
+pub given_is : (q : RangeReq) (rows sorted : List KeyValue) (n : ℕ) → sorted ≡ in_order (row_cmp q.sort_order q.sort_target) rows → IsLimit q (length sorted) n → map (shown q) (take n sorted) ≡ given q rows
+given_is q rows sorted n e limit = ap (map (shown q)) (sym (limit sorted (omega arith)) ∙ ap (limited q.limit) e)
 
 -- in the order of ascending keys they are the first ones
 pub given_by_key : (q : RangeReq) (rows : List KeyValue) (count n : ℕ) → is_by_key q ≡ true → IsStrictlySortedBy by_key rows → IsLimit q count n → length rows ≤ count → given q rows ≡ map (shown q) (take n rows)

@@ -19,6 +19,7 @@ pub mod AnsweringLaws
 pub mod RangingCells
 pub mod RangingAnswers
 pub mod RangingReads
+pub mod TakingRows
 pub mod PendingStores
 pub mod PendingReads
 pub mod PendingPuts

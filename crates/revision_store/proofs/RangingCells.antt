@@ -116,9 +116,6 @@ pub record IsEnough (look : ℕ → Option KeyValue) (q : RangeReq) (cs read : L
   pub given : given q (filter_map look read) ≡ given q (filter_map look cs)
   pub whole : AllAreGiven q (filter_map look read)
 
-pub all_are_enough : (look : ℕ → Option KeyValue) (q : RangeReq) (cs : List ℕ) → IsStrictlySortedBy by_key (filter_map look cs) → is_by_key q ≡ false → IsEnough look q cs cs
-all_are_enough look q cs up other = record { ascend = up; given = refl; whole = λ by. absurd (true≢false (sym by ∙ other)) }
-
 pub first_are_enough : (look : ℕ → Option KeyValue) (q : RangeReq) (cs : List ℕ) (n : ℕ) → AllShow look cs → IsStrictlySortedBy by_key (filter_map look cs) → is_by_key q ≡ true → IsLimit q (length cs) n → IsEnough look q cs (take n cs)
 first_are_enough look q cs n all up by limit = record {
   ascend = subst (IsStrictlySortedBy by_key) (sym (filter_map-take look n cs all)) (sorted-take by_key n (filter_map look cs) up);

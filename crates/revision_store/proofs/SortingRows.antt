@@ -5,7 +5,7 @@ use Rattle.std.specs.declared.cmp.Ordering.TheVariants.{Less, Equal, Greater}
 use Rattle.std.specs.Cmp.{IsTotalOrder}
 use Rattle.std.specs.Ordering.{is_eq, eq_by_cmp, ordering_then, ordering_reverse}
 use Rattle.std.specs.List.{IsDistinct}
-use Rattle.std.specs.List.Sorted.{IsSorted, IsStrictlySortedBy, IsPermutation}
+use Rattle.std.specs.List.Sorted.{IsStrictlySortedBy}
 use Rattle.std.proofs.lemmas.Cmp.{on_total, then_total, nat_cmp_total, nat_list_cmp_total}
 use Rattle.etcd_types.specs.declared.key_value.KeyValue.{KeyValue}
 use Rattle.etcd_types.specs.declared.kv.SortOrder.{SortOrder}
@@ -17,7 +17,7 @@ use Rattle.etcd_model.specs.Ranges.{row_cmp, target_cmp}
 use Rattle.model_laws.proofs.RecordedLaws.{all_weaker}
 use Rattle.model_laws.proofs.RowLaws.{by_key_total}
 use Rattle.revision_store.specs.Answering.{ascends_by_key}
-use Rattle.model_laws.proofs.SortingLaws.{sorted_is, length-in_order, already_in_order}
+use Rattle.model_laws.proofs.SortingLaws.{length-in_order, already_in_order}
 
 -- ---- total orders
 
@@ -73,10 +73,6 @@ rows_distinct order target (row ∷ rows) up = (
 
 pub length_rows : (order : SortOrder) (target : SortTarget) (rows : List KeyValue) → IsStrictlySortedBy by_key rows → length (in_order (row_cmp order target) rows) ≡ length rows
 length_rows order target rows up = length-in_order (row_cmp order target) (row_total order target) rows (rows_distinct order target rows up)
-
--- a sort of rows that ascend by key puts them in the order of a range
-pub sorted_rows : (order : SortOrder) (target : SortTarget) (rows sorted : List KeyValue) → IsStrictlySortedBy by_key rows → IsPermutation rows sorted → IsSorted (row_cmp order target) sorted → sorted ≡ in_order (row_cmp order target) rows
-sorted_rows order target rows sorted up = sorted_is (row_cmp order target) (row_total order target) rows sorted (rows_distinct order target rows up)
 
 -- ---- in the order of ascending keys they stand already
 

@@ -8,6 +8,7 @@ pub mod Appending
 pub mod Answering
 pub mod Pending
 pub mod Ranging
+pub mod Taking
 pub mod Comparing
 pub mod Merging
 pub mod Walking

@@ -3,7 +3,9 @@ ghost use Rattle.std.specs.Prelude.{◌≡◌, ◌≤◌, false, map, pos};
 ghost use Rattle.std.specs.List.Sorted.{IsStrictlySortedBy};
 ghost use Rattle.etcd_model.specs.Ranges.{is_within, without_value};
 ghost use Rattle.etcd_model.specs.Order.{by_key};
-ghost use Rattle.revision_store.specs.Answering.{given, is_by_key, IsLimit, SaysMore, SaysWanted, wants_all};
+ghost use Rattle.revision_store.specs.Answering.{given, is_by_key, IsLimit, SaysMore, SaysWanted};
+ghost use Rattle.revision_store.specs.Answering.{shown, wants_all};
+ghost use Rattle.revision_store.specs.Ranging.{needs_values};
 
 use crate::sorting::sort_rows;
 use etcd_types::{KeyValue, List, RangeReq, SortOrder, SortTarget};
@@ -52,6 +54,13 @@ pub(crate) fn is_by_key(request: &RangeReq) -> bool
     )
 }
 
+/// The range gives values, or sorts by them.
+pub(crate) fn needs_values(request: &RangeReq) -> bool
+    ensures { result ≡ needs_values request.now.keys_only request.now.sort_target }
+{
+    !request.keys_only || matches!(request.sort_target, SortTarget::Value)
+}
+
 /// How many rows are given, where it wants at most `count`.
 pub(crate) fn limit_of(request: &RangeReq, count: usize) -> usize
     ensures limit { IsLimit request.now count result }
@@ -77,9 +86,16 @@ pub(crate) fn ordered(alloc: Global, request: &RangeReq, mut rows: Vec<KeyValue>
     ensures { result ≡ given request.now rows.items }
 {
     if !is_by_key(request) {
-        sort_rows(&mut rows, request.sort_order, request.sort_target);
+        sort_rows(&mut rows, request);
     }
     rows.truncate(limit_of(request, rows.len()));
+    shown(alloc, request, rows)
+}
+
+/// Rows as they are given: with no values where keys alone are asked for. Takes no memory.
+pub(crate) fn shown(alloc: Global, request: &RangeReq, mut rows: Vec<KeyValue>) -> List<KeyValue>
+    ensures { result ≡ map (shown request.now) rows.items }
+{
     if request.keys_only {
         empty_values(alloc, &mut rows);
     }

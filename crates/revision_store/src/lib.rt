@@ -22,6 +22,7 @@ mod rows;
 mod sorting;
 mod space;
 mod store;
+mod taking;
 mod walking;
 
 pub use comparing::holds;

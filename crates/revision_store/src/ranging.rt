@@ -10,17 +10,20 @@ ghost use Rattle.etcd_model.specs.Reads.{revision_read, unreadable};
 ghost use Rattle.etcd_model.specs.Order.{by_key};
 ghost use Rattle.revision_store.specs.Answering.{given, is_by_key, wants_all};
 ghost use Rattle.revision_store.specs.Pending.{AreRows};
-ghost use Rattle.revision_store.specs.Ranging.{AllAreGiven, needs_values, row_passes, read, rows_of};
+ghost use Rattle.revision_store.specs.Ranging.{AllAreGiven, row_passes, read, rows_of};
 ghost use Rattle.revision_store.specs.Ranging.{wanted_cells};
 ghost use Rattle.revision_store.specs.Recorded.{cells_of};
 ghost use Rattle.revision_store.specs.Stored.{reads, row_at};
 
-use crate::answering::{is_by_key, is_cut, is_wanted, limit_of, ordered, wants_all};
+use crate::answering::{
+    is_by_key, is_cut, is_wanted, limit_of, needs_values, ordered, shown, wants_all,
+};
 use crate::log::Log;
 use crate::rows::{first_cells, keys_under, rows_under};
 use crate::store::Store;
+use crate::taking::first_rows;
 use chunk_list::Walk;
-use etcd_types::{CellNo, KeyValue, List, Mem, OpReply, RangeReq, Refusal, SortTarget};
+use etcd_types::{CellNo, KeyValue, List, Mem, OpReply, RangeReq, Refusal};
 use std::alloc::Global;
 
 impl Store {
@@ -255,7 +258,8 @@ fn passes(log: &Log, request: &RangeReq, cell: CellNo) -> bool
 }
 
 /// What is given of the rows under some cells, which ascend by key and pass the filters. In the
-/// order of their keys the first ones alone are read.
+/// order of their keys the first ones alone are read, and in another one no more than about twice as many
+/// rows as are given are held at a time.
 fn rows_given(
     alloc: Global,
     log: &Log,
@@ -266,11 +270,14 @@ fn rows_given(
     requires ascend { IsStrictlySortedBy by_key (rows_of (cells_of log.now.records) wanted.items) }
     ensures { IfOk result (λ kvs. kvs ≡ given request.now (rows_of (cells_of log.now.records) wanted.items)) }
 {
+    let limit = limit_of(request, wanted.len());
     if is_by_key(request) {
-        wanted.truncate(limit_of(request, wanted.len()));
+        wanted.truncate(limit);
+        let rows = rows_read(alloc, log, request, &wanted)?;
+        return Ok(ordered(alloc, request, rows));
     }
-    let rows = rows_read(alloc, log, request, &wanted)?;
-    Ok(ordered(alloc, request, rows))
+    let rows = first_rows(alloc, log, request, &wanted, limit)?;
+    Ok(shown(alloc, request, rows))
 }
 
 /// The rows under some cells, with their values where the range needs those. In the order of their keys
@@ -286,11 +293,4 @@ fn rows_read(alloc: Global, log: &Log, request: &RangeReq, cells: &[CellNo]) -> 
     } else {
         keys_under(alloc, log, cells)
     }
-}
-
-/// The range gives values, or sorts by them.
-fn needs_values(request: &RangeReq) -> bool
-    ensures { result ≡ needs_values request.now.keys_only request.now.sort_target }
-{
-    !request.keys_only || matches!(request.sort_target, SortTarget::Value)
 }

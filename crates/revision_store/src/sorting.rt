@@ -1,17 +1,19 @@
 //! The order that a range is asked in.
 ghost use Rattle.std.specs.Prelude.{◌≡◌};
-ghost use Rattle.std.specs.List.Sorted.{IsStrictlySortedBy};
-ghost use Rattle.etcd_model.specs.Order.{in_order, by_key};
+ghost use Rattle.etcd_model.specs.Order.{in_order};
 ghost use Rattle.etcd_model.specs.Ranges.{row_cmp, target_cmp};
+ghost use Rattle.revision_store.specs.Taking.{NoneTies, row_order};
 
-use etcd_types::{KeyValue, SortOrder, SortTarget};
+use etcd_types::{KeyValue, RangeReq, SortOrder, SortTarget};
 use std::cmp::Ordering;
 
-/// Puts rows that ascend by key in the order of a range. Takes no memory.
-pub(crate) fn sort_rows(rows: &mut [KeyValue], order: SortOrder, target: SortTarget)
-    requires { IsStrictlySortedBy by_key rows.old }
-    ensures { rows.new ≡ in_order (row_cmp order target) rows.old }
+/// Puts rows in the order of a range. Takes no memory.
+pub(crate) fn sort_rows(rows: &mut [KeyValue], request: &RangeReq)
+    requires { NoneTies request.now rows.old }
+    ensures { rows.new ≡ in_order (row_order request.now) rows.old }
 {
+    let order = request.sort_order;
+    let target = request.sort_target;
     rows.sort_unstable_by(|a, b| compare(a, b, order, target));
 }
 
