@@ -30,7 +30,7 @@ pub given_by_key : (q : RangeReq) (rows : List KeyValue) (count n : ℕ) → is_
 given_by_key q rows count n by up limit few =
     ap (λ rs. map (shown q) (limited q.limit rs)) (rows_in_order q.sort_order q.sort_target rows by up) ∙ ap (map (shown q)) (limit rows few)
 
-all-take : {X : Type 0} (P : X → Type 0) (n : ℕ) (xs : List X) → AllByRecursion P xs → AllByRecursion P (take n xs)
+pub all-take : {X : Type 0} (P : X → Type 0) (n : ℕ) (xs : List X) → AllByRecursion P xs → AllByRecursion P (take n xs)
 all-take P zero xs all = tt
 all-take P (suc n) [] all = tt
 all-take P (suc n) (x ∷ xs) all = (all.0, all-take P n xs all.1)

@@ -20,11 +20,13 @@ pub mod RangingCells
 pub mod RangingAnswers
 pub mod RangingReads
 pub mod TakingRows
+pub mod MixingRows
+pub mod MixingCells
 pub mod PendingStores
 pub mod PendingReads
 pub mod PendingPuts
 pub mod PendingDeletes
-pub mod RowPlaces
 pub mod PendingRows
+pub mod MixingPuts
 pub mod PendingRanges
 pub mod Grown

@@ -26,7 +26,7 @@ use Rattle.model_laws.proofs.OnceStoreLaws.{none_found as any_found}
 use Rattle.model_laws.proofs.RecordedLaws.{all_append, all_weaker}
 use Rattle.model_laws.proofs.RowLaws.{has_key, live-key, rows_by_their_keys, rows_rise}
 use Rattle.model_laws.proofs.SpaceLaws.{after_is_store}
-use Rattle.revision_store.specs.Plans.{change_in}
+use Rattle.revision_store.specs.Plans.{change_in, key_at}
 use Rattle.revision_store.specs.Stored.{StoreState, Follows, IsPlanFor, cells, changes_of, look, row_at}
 use Rattle.revision_store.specs.Pending.{IsPending, is_erased, left_by, left_cells, put_at, put_row, puts_inside, row_put_to, rows_at}
 use Rattle.revision_store.specs.declared.plan.Write.{Write}
@@ -42,7 +42,7 @@ use Rattle.revision_store.proofs.RangingCells.{all_kept}
 abbrev pub Under : (ℕ → Option KeyValue) → List ℕ → List KeyValue → Type 0
 Under at cs rs = map at cs ≡ map Some rs
 
-uncons : {X : Type 0} (x y : X) (xs ys : List X) → x ∷ xs ≡ y ∷ ys → (x ≡ y) × (xs ≡ ys)
+pub uncons : {X : Type 0} (x y : X) (xs ys : List X) → x ∷ xs ≡ y ∷ ys → (x ≡ y) × (xs ≡ ys)
 uncons x y xs ys e = (cc, cc)
 
 pub under_rows : (at : ℕ → Option KeyValue) (cs : List ℕ) (rs : List KeyValue) → Under at cs rs → AllByRecursion (λ c. IsSome (at c)) cs
@@ -74,23 +74,28 @@ pub asked_rows : (b : Bool) (at : ℕ → Option KeyValue) (cs : List ℕ) (foun
 asked_rows true at cs found rs under e = same_somes found rs (e ∙ under)
 asked_rows false at cs found rs under e = same_somes found [] e
 
--- those that are left are under the cells that are left
-pub under_left : (store : StoreState) (deletes : List DeleteReq) (cs : List ℕ) (rs : List KeyValue) → Under (row_at (cells store)) cs rs
-    → Under (row_at (cells store)) (left_cells (cells store) deletes cs) (filter (λ row. not (is_erased deletes row.key)) rs)
-under_left store deletes [] [] e = refl
-under_left store deletes [] (r ∷ rs) e = let bad : ⊥ = cc in absurd bad
-under_left store deletes (c ∷ cs) [] e = let bad : ⊥ = cc in absurd bad
-under_left store deletes (c ∷ cs) (r ∷ rs) e =
+-- those whose keys pass a test are under the cells whose keys do
+pub under_kept : (store : StoreState) (p : List ℕ → Bool) (cs : List ℕ) (rs : List KeyValue) → Under (row_at (cells store)) cs rs
+    → Under (row_at (cells store)) (filter (λ c. p (key_at (cells store) c)) cs) (filter (λ row. p row.key) rs)
+under_kept store p [] [] e = refl
+under_kept store p [] (r ∷ rs) e = let bad : ⊥ = cc in absurd bad
+under_kept store p (c ∷ cs) [] e = let bad : ⊥ = cc in absurd bad
+under_kept store p (c ∷ cs) (r ∷ rs) e =
     let at = row_at (cells store) in
     let parts = uncons (at c) (Some r) (map at cs) (map Some rs) e in
-    let rest = under_left store deletes cs rs parts.1 in
-    let more = left_cells (cells store) deletes cs in
-    let left = filter (λ (row : KeyValue). not (is_erased deletes row.key)) rs in
-    ap (λ k. map at (cond (not (is_erased deletes k)) (c ∷ more) more)) (own_cells store c r parts.0)
-    ∙ elim (not (is_erased deletes r.key)) as (λ b. map at (cond b (c ∷ more) more) ≡ map Some (cond b (r ∷ left) left)) [
+    let rest = under_kept store p cs rs parts.1 in
+    let more : List ℕ = filter (λ d. p (key_at (cells store) d)) cs in
+    let left : List KeyValue = filter (λ row. p row.key) rs in
+    ap (λ k. map at (cond (p k) (c ∷ more) more)) (own_cells store c r parts.0)
+    ∙ elim (p r.key) as (λ b. map at (cond b (c ∷ more) more) ≡ map Some (cond b (r ∷ left) left)) [
       | true ↦ ap (λ o. o ∷ map at more) parts.0 ∙ ap (λ os. Some r ∷ os) rest
       | false ↦ rest
     ]
+
+-- and those that are left under the cells that are left
+pub under_left : (store : StoreState) (deletes : List DeleteReq) (cs : List ℕ) (rs : List KeyValue) → Under (row_at (cells store)) cs rs
+    → Under (row_at (cells store)) (left_cells (cells store) deletes cs) (filter (λ row. not (is_erased deletes row.key)) rs)
+under_left store deletes cs rs e = under_kept store (λ key. not (is_erased deletes key)) cs rs e
 
 -- the deletes of the cells are those of the rows
 pub deletes_under : (store : StoreState) (cs : List ℕ) (rs : List KeyValue) → Under (row_at (cells store)) cs rs → changes_of store (map Delete cs) ≡ deletes_of rs

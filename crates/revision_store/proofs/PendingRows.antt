@@ -1,5 +1,5 @@
 -- The rows of an interval with changes pending: what the deletes leave of the store's, with the puts' in their places.
-use Rattle.std.proofs.Common.{◌≡◌, ℕ, List, [], ◌∷◌, refl, ap, ◌∙◌, sym, subst, map}
+use Rattle.std.proofs.Common.{◌≡◌, ℕ, List, [], ◌∷◌, refl, ap, ◌∙◌, sym}
 use Rattle.std.specs.Prelude.{Bool, true, false, cond, not, fold, filter, find, Option, Some, None, if◌then◌else◌}
 use Rattle.std.specs.List.Sorted.{IsStrictlySortedBy}
 use Rattle.std.specs.Option.{option_or}
@@ -19,11 +19,10 @@ use Rattle.etcd_model.proofs.OrderLaws.{sorted-put_in, tied_keys, bytes_eq-key_c
 use Rattle.model_laws.proofs.LastLaws.{or_before-none}
 use Rattle.model_laws.proofs.RowLaws.{by_key_total, has_key, rows_by_their_keys, rows_rise}
 use Rattle.model_laws.proofs.SpaceLaws.{after_is_store}
-use Rattle.revision_store.specs.Stored.{StoreState, cells, changes_of, look, row_at}
-use Rattle.revision_store.specs.Pending.{IsPending, is_erased, left_cells, row_put_to, rows_at}
+use Rattle.revision_store.specs.Stored.{StoreState, changes_of, look}
+use Rattle.revision_store.specs.Pending.{IsPending, is_erased, row_put_to, rows_at}
 use Rattle.revision_store.specs.declared.plan.Write.{Write}
 use Rattle.revision_store.proofs.PendingReads.{find_filtered, found_inside}
-use Rattle.revision_store.proofs.PendingDeletes.{Under, same_somes, under_left}
 
 -- ---- a row in its place
 
@@ -59,14 +58,14 @@ put_over false x (Some y) p = refl
 put_over true x None p = refl
 put_over false x None p = refl
 
-find_put_all : (key : List ℕ) (xs ys : List KeyValue) → find (has_key key) (fold (put_in by_key) ys xs) ≡ option_or (row_put_to key xs) (find (has_key key) ys)
+pub find_put_all : (key : List ℕ) (xs ys : List KeyValue) → find (has_key key) (fold (put_in by_key) ys xs) ≡ option_or (row_put_to key xs) (find (has_key key) ys)
 find_put_all key [] ys = refl
 find_put_all key (x ∷ xs) ys =
     find_put_all key xs (put_in by_key ys x)
     ∙ ap (option_or (row_put_to key xs)) (find_put_in key x ys)
     ∙ put_over (bytes_eq x.key key) x (row_put_to key xs) (find (has_key key) ys)
 
-sorted_all : (xs ys : List KeyValue) → IsStrictlySortedBy by_key ys → IsStrictlySortedBy by_key (fold (put_in by_key) ys xs)
+pub sorted_all : (xs ys : List KeyValue) → IsStrictlySortedBy by_key ys → IsStrictlySortedBy by_key (fold (put_in by_key) ys xs)
 sorted_all [] ys h = h
 sorted_all (x ∷ xs) ys h = sorted_all xs (put_in by_key ys x) (sorted-put_in by_key by_key_total x ys h)
 
@@ -95,13 +94,13 @@ last_filtered key p (x ∷ xs) = by (p x.key) (bytes_eq x.key key) (λ t. ap p (
 -- ---- the rows of an interval
 
 module _ (store : StoreState) (ws : List Write) (places : List ℕ) (deletes : List DeleteReq) (is : IsPending store ws places deletes) (key end : List ℕ) where
-  abbrev inside : List ℕ → Bool
+  abbrev pub inside : List ℕ → Bool
   inside k = is_in key end k
 
-  abbrev puts : List KeyValue
+  abbrev pub puts : List KeyValue
   puts = filter (λ row. inside row.key) (rows_at ws places)
 
-  abbrev left : List KeyValue
+  abbrev pub left : List KeyValue
   left = filter (λ row. not (is_erased deletes row.key)) (rows inside store.kept.current store.kept.changes)
 
   shows : (a b : Bool) (o p q : Option KeyValue) → option_or o (if b then None else q) ≡ p → (if a then p else None) ≡ option_or (if a then o else None) (if not b then (if a then q else None) else None)
@@ -126,21 +125,3 @@ module _ (store : StoreState) (ws : List Write) (places : List ℕ) (deletes : L
       ∙ ap (λ o. option_or o (if not (is_erased deletes k) then (if inside k then live k s.current s.changes else None) else None)) (sym (last_filtered k inside (rows_at ws places)))
       ∙ ap (option_or (row_put_to k puts)) (ap (λ o. if not (is_erased deletes k) then o else None) (sym (found_inside k inside s.current s.changes own)) ∙ sym (find_filtered k (λ j. not (is_erased deletes j)) (rows inside s.current s.changes)))
       ∙ sym (find_put_all k puts left))
-
-  -- the rows under the cells that are left ascend
-  left_is : (cs kept : List ℕ) (rs : List KeyValue) → Under (row_at (cells store)) cs (rows inside store.kept.current store.kept.changes) → kept ≡ left_cells (cells store) deletes cs
-      → map Some rs ≡ map (row_at (cells store)) kept → rs ≡ left
-  left_is cs kept rs under is_left is_rows =
-      same_somes rs left (is_rows ∙ ap (map (row_at (cells store))) is_left ∙ under_left store deletes cs (rows inside store.kept.current store.kept.changes) under)
-
-  pub left_rises : (cs kept : List ℕ) (rs : List KeyValue) → Under (row_at (cells store)) cs (rows inside store.kept.current store.kept.changes) → kept ≡ left_cells (cells store) deletes cs
-      → map Some rs ≡ map (row_at (cells store)) kept → IsStrictlySortedBy by_key rs
-  left_rises cs kept rs under is_left is_rows =
-      let s = store.kept in
-      subst (IsStrictlySortedBy by_key) (sym (left_is cs kept rs under is_left is_rows))
-      (IsStrictlySortedBy-filter by_key (λ row. not (is_erased deletes row.key)) (rows inside s.current s.changes) (rows_rise s.changes is.sound.kept.own s.current inside))
-
-  -- what a read makes of the cells that the store has there
-  pub rows_made : (cs kept : List ℕ) (rs found : List KeyValue) → Under (row_at (cells store)) cs (rows inside store.kept.current store.kept.changes) → kept ≡ left_cells (cells store) deletes cs
-      → map Some rs ≡ map (row_at (cells store)) kept → found ≡ fold (put_in by_key) rs puts → found ≡ (look store (changes_of store ws)).rows key end
-  rows_made cs kept rs found under is_left is_rows made = made ∙ ap (λ qs. fold (put_in by_key) qs puts) (left_is cs kept rs under is_left is_rows) ∙ sym rows_are

@@ -90,7 +90,7 @@ given_read q rows = by q.keys_only q.sort_order q.sort_target
           ∙ no_values_twice (limited q.limit (in_order (row_cmp order target) rows))
     ] refl
 
-same_key : (needs : Bool) (a b : KeyValue) → by_key (if needs then a else without_value a) (if needs then b else without_value b) ≡ by_key a b
+pub same_key : (needs : Bool) (a b : KeyValue) → by_key (if needs then a else without_value a) (if needs then b else without_value b) ≡ by_key a b
 same_key true a b = refl
 same_key false a b = refl
 

@@ -1,5 +1,5 @@
 -- The rows under some cells.
-use Rattle.std.proofs.Common.{◌≡◌, ℕ, zero, suc, List, [], ◌∷◌, length, take, map, Option, Some, None, IsSome, Bool, true, false, refl, sym, ap, ◌∙◌, cond, subst, arith}
+use Rattle.std.proofs.Common.{◌≡◌, ℕ, zero, suc, List, [], ◌∷◌, length, take, map, Option, Some, None, IsSome, Bool, true, false, refl, sym, ap, ◌∙◌, cond, arith}
 use Rattle.std.specs.Prelude.{◌&&◌, ◌||◌, pos, int_le, filter, filter_map, option_map}
 use Rattle.std.specs.List.{AllByRecursion, cons_option}
 use Rattle.std.specs.Ordering.{int_eq}
@@ -11,7 +11,7 @@ use Rattle.etcd_model.specs.Ranges.{is_wanted}
 use Rattle.etcd_model.specs.Order.{by_key}
 use Rattle.revision_store.specs.Answering.{IsLimit, given, is_by_key, wants_all}
 use Rattle.revision_store.specs.Ranging.{AllAreGiven, row_passes}
-use Rattle.revision_store.proofs.AnsweringLaws.{given_taken, given_whole, sorted-take}
+use Rattle.revision_store.proofs.AnsweringLaws.{given_whole}
 
 -- what holds of all elements holds of those that pass a test
 pub all_kept : {X : Type 0} (P : X → Type 0) (p : X → Bool) (xs : List X) → AllByRecursion P xs → AllByRecursion P (filter p xs)
@@ -110,20 +110,9 @@ all_pass look q (c ∷ cs) all h = ap (λ b. cond b (c ∷ filter (λ d. row_pas
 
 -- ---- those that are read
 
--- of some cells these show all that is given of the rows of all, and in the order of keys no more
-pub record IsEnough (look : ℕ → Option KeyValue) (q : RangeReq) (cs read : List ℕ) : Type 0 where
-  pub ascend : IsStrictlySortedBy by_key (filter_map look read)
-  pub given : given q (filter_map look read) ≡ given q (filter_map look cs)
-  pub whole : AllAreGiven q (filter_map look read)
-
-pub first_are_enough : (look : ℕ → Option KeyValue) (q : RangeReq) (cs : List ℕ) (n : ℕ) → AllShow look cs → IsStrictlySortedBy by_key (filter_map look cs) → is_by_key q ≡ true → IsLimit q (length cs) n → IsEnough look q cs (take n cs)
-first_are_enough look q cs n all up by limit = record {
-  ascend = subst (IsStrictlySortedBy by_key) (sym (filter_map-take look n cs all)) (sorted-take by_key n (filter_map look cs) up);
-  given =
-      ap (given q) (filter_map-take look n cs all)
-      ∙ given_taken q (filter_map look cs) (length cs) n by up limit (omega (arith, length-filter_map look cs all));
-  whole = λ first.
-      ap (λ rows. length (given q rows)) (filter_map-take look n cs all)
-      ∙ given_whole q (filter_map look cs) (length cs) n by up limit (omega (arith, length-filter_map look cs all))
-      ∙ sym (ap length (filter_map-take look n cs all));
-}
+-- in the order of keys each of the first ones is given
+pub first_are_given : (look : ℕ → Option KeyValue) (q : RangeReq) (cs : List ℕ) (n : ℕ) → AllShow look cs → IsStrictlySortedBy by_key (filter_map look cs) → is_by_key q ≡ true → IsLimit q (length cs) n → AllAreGiven q (filter_map look (take n cs))
+first_are_given look q cs n all up by limit = λ first.
+    ap (λ rows. length (given q rows)) (filter_map-take look n cs all)
+    ∙ given_whole q (filter_map look cs) (length cs) n by up limit (omega (arith, length-filter_map look cs all))
+    ∙ sym (ap length (filter_map-take look n cs all))

@@ -58,7 +58,7 @@ tied_after Less q h = refl
 tied_after Equal q h = h
 tied_after Greater q h = refl
 
-apart_by_row : (order : SortOrder) (target : SortTarget) (a b : KeyValue) → eq_by_cmp by_key a b ≡ false → eq_by_cmp (row_cmp order target) a b ≡ false
+pub apart_by_row : (order : SortOrder) (target : SortTarget) (a b : KeyValue) → eq_by_cmp by_key a b ≡ false → eq_by_cmp (row_cmp order target) a b ≡ false
 apart_by_row Unsorted target a b h = tied_after (target_cmp target a b) (by_key a b) h
 apart_by_row Ascend target a b h = tied_after (target_cmp target a b) (by_key a b) h
 apart_by_row Descend target a b h = tied_after (ordering_reverse (target_cmp target a b)) (by_key a b) h

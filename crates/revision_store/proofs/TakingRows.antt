@@ -1,5 +1,5 @@
 -- The first rows of an order are the same where the rows behind them were cut away before others came.
-use Rattle.std.proofs.Common.{◌≡◌, ℕ, zero, suc, List, [], ◌∷◌, ◌++◌, Bool, Option, Some, None, IsSome, false, length, take, map, refl, sym, ap, ◌∙◌, subst, arith}
+use Rattle.std.proofs.Common.{◌≡◌, ℕ, zero, suc, ◌≤◌, List, [], ◌∷◌, ◌++◌, Bool, Option, Some, None, IsSome, true, false, length, take, map, refl, sym, ap, ◌∙◌, subst, arith}
 use Rattle.std.specs.Prelude.{filter_map, fold, option_map}
 use Rattle.std.specs.declared.cmp.Ordering.{Ordering}
 use Rattle.std.specs.declared.cmp.Ordering.TheVariants.{Less, Equal, Greater}
@@ -8,7 +8,7 @@ use Rattle.std.specs.Ordering.{eq_by_cmp}
 use Rattle.std.specs.List.{AllByRecursion, IsDistinct, cons_option}
 use Rattle.std.specs.List.Sorted.{IsStrictlySortedBy}
 use Rattle.std.proofs.lemmas.Cmp.{eq_by_cmp_equiv}
-use Rattle.std.proofs.lemmas.List.{append-nil, append_assoc, length-map, take-take}
+use Rattle.std.proofs.lemmas.List.{append-nil, append_assoc, length-map, take-map, take-take}
 use Rattle.std.proofs.lemmas.List.Sums.{fold-append}
 use Rattle.std.proofs.lemmas.List.Sorted.{IsPermutation-append_left}
 use Rattle.std.proofs.lemmas.Map.Keys.{IsDistinct-IsPermutation}
@@ -17,12 +17,12 @@ use Rattle.etcd_types.specs.declared.kv.RangeReq.{RangeReq}
 use Rattle.etcd_model.specs.Order.{beside, by_key, put_in, in_order}
 use Rattle.etcd_model.proofs.OrderLaws.{sorted-in_order}
 use Rattle.model_laws.proofs.SortingLaws.{already_in_order, permuted-in_order}
-use Rattle.revision_store.specs.Answering.{IsLimit, given, shown}
+use Rattle.revision_store.specs.Answering.{IsLimit, given, is_by_key, shown}
 use Rattle.revision_store.specs.Ranging.{read}
 use Rattle.revision_store.specs.Taking.{AreEnough, NoneTies, first_of, row_order}
-use Rattle.revision_store.proofs.AnsweringLaws.{given_is, sorted-take}
+use Rattle.revision_store.proofs.AnsweringLaws.{given_by_key, given_is, sorted-take}
 use Rattle.revision_store.proofs.RangingAnswers.{given_read, sorted-read}
-use Rattle.revision_store.proofs.RangingCells.{length-filter_map}
+use Rattle.revision_store.proofs.RangingCells.{filter_map-take, length-filter_map}
 use Rattle.revision_store.proofs.SortingRows.{length_rows, row_total, rows_distinct}
 
 -- ---- elements that don't tie
@@ -40,7 +40,7 @@ distinct_cut same zero (x ∷ xs) ys d = distinct_cut same zero xs ys d.1
 distinct_cut same (suc n) [] ys d = d
 distinct_cut same (suc n) (x ∷ xs) ys d = (all_cut (λ y. same x y ≡ false) n xs ys d.0, distinct_cut same n xs ys d.1)
 
-distinct_front : {X : Type 0} (same : X → X → Bool) (xs ys : List X) → IsDistinct same (xs ++ ys) → IsDistinct same xs
+pub distinct_front : {X : Type 0} (same : X → X → Bool) (xs ys : List X) → IsDistinct same (xs ++ ys) → IsDistinct same xs
 unfolding IsDistinct
 distinct_front same [] ys d = tt
 distinct_front same (x ∷ xs) ys d = (all_front (λ y. same x y ≡ false) xs ys d.0, distinct_front same xs ys d.1)
@@ -86,9 +86,6 @@ module _ {X : Type 0} (cmp : X → X → Ordering) where
 
 pub none_ties_before : (q : RangeReq) (rows more : List KeyValue) → NoneTies q (rows ++ more) → NoneTies q rows
 none_ties_before q rows more apart = distinct_front (eq_by_cmp (row_order q)) rows more apart
-
-pub all_enough : (q : RangeReq) (limit : ℕ) (rows : List KeyValue) → AreEnough q limit rows rows
-all_enough q limit rows = record { first = λ more. refl; apart = λ more apart. apart }
 
 pub first_enough : (q : RangeReq) (limit : ℕ) (rows : List KeyValue) → NoneTies q rows → AreEnough q limit rows (first_of q limit rows)
 first_enough q limit rows none =
@@ -153,3 +150,14 @@ given_first look q cs n all up limit =
     let long : length (in_order (row_order q) seen) ≡ length cs =
     length_rows q.sort_order q.sort_target seen (sorted-read q rows up) ∙ length-map rows (read q) ∙ length-filter_map look cs all in
     given_is q seen (in_order (row_order q) seen) n refl (λ rs few. limit rs (omega (arith, few, long))) ∙ given_read q rows
+
+-- in the order of keys those that are read are those that are given
+pub given_cut : (look : ℕ → Option KeyValue) (q : RangeReq) (cs : List ℕ) (n : ℕ) → AllByRecursion (λ c. IsSome (look c)) cs → IsStrictlySortedBy by_key (filter_map look cs) → is_by_key q ≡ true → IsLimit q (length cs) n
+    → map (shown q) (map (read q) (filter_map look (take n cs))) ≡ given q (filter_map look cs)
+given_cut look q cs n all up by limit =
+    let rows : List KeyValue = filter_map look cs in
+    let few : length (map (read q) rows) ≤ length cs = omega (arith, length-map rows (read q), length-filter_map look cs all) in
+    ap (λ rs. map (shown q) (map (read q) rs)) (filter_map-take look n cs all)
+    ∙ ap (map (shown q)) (sym (take-map (read q) n rows))
+    ∙ sym (given_by_key q (map (read q) rows) (length cs) n by (sorted-read q rows up) limit few)
+    ∙ given_read q rows

@@ -9,6 +9,7 @@ pub mod Answering
 pub mod Pending
 pub mod Ranging
 pub mod Taking
+pub mod Mixing
 pub mod Comparing
 pub mod Merging
 pub mod Walking

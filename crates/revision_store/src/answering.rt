@@ -1,13 +1,9 @@
 //! What turns the rows of an interval into the answer of a range.
 ghost use Rattle.std.specs.Prelude.{◌≡◌, ◌≤◌, false, map, pos};
-ghost use Rattle.std.specs.List.Sorted.{IsStrictlySortedBy};
 ghost use Rattle.etcd_model.specs.Ranges.{is_within, without_value};
-ghost use Rattle.etcd_model.specs.Order.{by_key};
-ghost use Rattle.revision_store.specs.Answering.{given, is_by_key, IsLimit, SaysMore, SaysWanted};
-ghost use Rattle.revision_store.specs.Answering.{shown, wants_all};
+ghost use Rattle.revision_store.specs.Answering.{is_by_key, IsLimit, SaysMore, SaysWanted, shown, wants_all};
 ghost use Rattle.revision_store.specs.Ranging.{needs_values};
 
-use crate::sorting::sort_rows;
 use etcd_types::{KeyValue, List, RangeReq, SortOrder, SortTarget};
 use std::alloc::Global;
 
@@ -78,18 +74,6 @@ pub(crate) fn is_cut(request: &RangeReq, wanted: usize) -> bool
     ensures { SaysMore request.now wanted result }
 {
     limit_of(request, wanted) < wanted
-}
-
-/// What is given of the rows that it wants, which ascend by key. Takes no memory.
-pub(crate) fn ordered(alloc: Global, request: &RangeReq, mut rows: Vec<KeyValue>) -> List<KeyValue>
-    requires { IsStrictlySortedBy by_key rows.items }
-    ensures { result ≡ given request.now rows.items }
-{
-    if !is_by_key(request) {
-        sort_rows(&mut rows, request);
-    }
-    rows.truncate(limit_of(request, rows.len()));
-    shown(alloc, request, rows)
 }
 
 /// Rows as they are given: with no values where keys alone are asked for. Takes no memory.

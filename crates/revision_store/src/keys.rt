@@ -13,7 +13,7 @@ use std::cmp::Ordering;
 
 /// How the key of a row stands to another one.
 #[tactic(auto, using(crate::proofs::PendingStores::held, crate::proofs::PendingStores::compared))]
-fn key_cmp(log: &Log, cell: CellNo, key: &[u8]) -> Ordering
+pub(crate) fn key_cmp(log: &Log, cell: CellNo, key: &[u8]) -> Ordering
     requires { IsSome (row_at (cells_of log.now.records) cell) }
     ensures { result ≡ key_cmp (key_at (cells_of log.now.records) cell) key.now }
 {

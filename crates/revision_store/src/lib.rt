@@ -8,6 +8,7 @@ mod cutting;
 mod heads;
 mod keys;
 mod log;
+mod mixing;
 mod pending;
 mod pending_deletes;
 mod pending_puts;

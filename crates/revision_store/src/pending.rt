@@ -6,16 +6,18 @@ ghost use Rattle.etcd_types.specs.declared.txn.Op.TheVariants.{Range as RangeOp,
 ghost use Rattle.etcd_types.specs.declared.txn.Op.TheVariants.{Delete as DeleteOp};
 ghost use Rattle.etcd_model.specs.Changes.{version_of};
 ghost use Rattle.etcd_model.specs.Operations.{and_changes, op_reply, row_put, value_put};
+ghost use Rattle.etcd_model.specs.Ranges.{range_reply};
 ghost use Rattle.etcd_model.specs.Reads.{revision_read, unreadable};
 ghost use Rattle.revision_store.specs.Stored.{IsPlanFor, cells, changes_of, look, reads, row_at};
 ghost use Rattle.revision_store.specs.Pending.{changes_key, pending_reads, present, puts_inside, puts_within};
 ghost use Rattle.std.specs.Option.{option_copied};
 
+use crate::mixing::mixed_reply;
 use crate::pending_deletes::{left_cells, push_deletes};
-use crate::pending_puts::{put_rows, puts_in};
+use crate::pending_puts::{puts_in, puts_of, unput_cells};
 use crate::plan::{Plan, Write};
-use crate::ranging::{range_reply, rows_reply, walked_reply};
-use crate::rows::{rows_asked, rows_under};
+use crate::ranging::{range_reply, walked_reply};
+use crate::rows::rows_asked;
 use crate::store::Store;
 use etcd_types::{CellNo, CopyOf, DeleteReq, KeyValue, List, Mem, OpReply, PutReq, RangeReq};
 use std::alloc::Global;
@@ -73,18 +75,6 @@ impl<'a> Pending<'a> {
         }
     }
 
-    /// The rows of the keys of an interval that are live, by ascending key.
-    fn rows(&self, alloc: Global, key: &[u8], range_end: &[u8]) -> Mem<Vec<KeyValue>>
-        ensures { IfOk result (λ found. found.items ≡ (pending_reads self.now).rows key.now range_end.now) }
-    {
-        let store = self.store;
-        let live = store.log.newest_list(alloc, key, range_end)?;
-        let left = left_cells(alloc, &store.log, live, &self.deletes)?;
-        let mut rows = rows_under(alloc, &store.log, &left)?;
-        put_rows(alloc, &mut rows, &self.writes, &self.puts, key, range_end)?;
-        Ok(rows)
-    }
-
     /// Reads an interval, the newest rows with what is pending among them, or at a revision above 0
     /// the store's.
     pub fn range(&self, alloc: Global, request: &RangeReq) -> Mem<OpReply>
@@ -100,8 +90,7 @@ impl<'a> Pending<'a> {
             return self.store.range_at(alloc, request, self.current());
         }
         if puts_in(&self.writes, &self.puts, key, range_end) {
-            let rows = self.rows(alloc, key, range_end)?;
-            return rows_reply(alloc, request, rows, self.current());
+            return self.mixed_range(alloc, request);
         }
         let store = self.store;
         if self.deletes.is_empty() {
@@ -110,6 +99,23 @@ impl<'a> Pending<'a> {
         }
         let cells = self.live_cells(alloc, key, range_end)?;
         range_reply(alloc, &store.log, request, cells, self.current())
+    }
+
+    /// The same of the newest rows with the puts that are pending among them.
+    fn mixed_range(&self, alloc: Global, request: &RangeReq) -> Mem<OpReply>
+        ensures { IfOk result
+            (λ reply. reply
+            ≡ range_reply (pending_reads self.now).current request.now
+            ((pending_reads self.now).rows request.now.key request.now.range_end)) }
+    {
+        let key = request.key.as_slice();
+        let range_end = request.range_end.as_slice();
+        let store = self.store;
+        let puts = puts_of(alloc, &self.writes, &self.puts, key, range_end)?;
+        let live = store.log.newest_list(alloc, key, range_end)?;
+        let left = left_cells(alloc, &store.log, live, &self.deletes)?;
+        let left = unput_cells(&store.log, left, &puts);
+        mixed_reply(alloc, &store.log, request, left, &puts, self.current())
     }
 
     /// Puts a key that nothing pending changes, and answers as if it was done. Without memory

@@ -1,14 +1,16 @@
-//! The rows of pending puts, in their places among those of an interval.
-ghost use Rattle.std.specs.Prelude.{◌≡◌, ◌<◌, ◌≤◌, length, map, filter, fold, set, OnOk, MatchResult};
-ghost use Rattle.std.specs.List.{insert, list_any};
+//! The puts that are pending in an interval, and the rows of the store that they leave there.
+ghost use Rattle.std.specs.Prelude.{◌≡◌, ◌<◌, IfOk, IfSome, MatchOption, filter, length, map};
+ghost use Rattle.std.specs.List.{list_any, remove};
 ghost use Rattle.std.specs.List.Sorted.{IsStrictlySortedBy};
 ghost use Rattle.std.specs.Option.{option_copied};
-ghost use Rattle.etcd_model.specs.Interval.{is_in};
-ghost use Rattle.etcd_model.specs.Order.{put_in, by_key};
-ghost use Rattle.revision_store.specs.Pending.{is_row_in, put_at, rows_at};
+ghost use Rattle.revision_store.specs.Mixing.{by_cell, cells_without, unput_cells};
+ghost use Rattle.revision_store.specs.Pending.{AreRows, is_row_in, put_at, rows_at};
+ghost use Rattle.revision_store.specs.Recorded.{cells_of};
 
+use crate::keys::key_cmp;
+use crate::log::Log;
 use crate::plan::Write;
-use etcd_types::{CopyOf, KeyValue, Mem};
+use etcd_types::{CellNo, KeyValue, Mem};
 use std::alloc::Global;
 use std::cmp::Ordering;
 use store_words::is_in;
@@ -36,60 +38,61 @@ pub(crate) fn puts_in(writes: &[Write], places: &[usize], key: &[u8], range_end:
     false
 }
 
-/// Where a row stands among rows that ascend, or where it is to stand.
-fn place_of(rows: &[KeyValue], row: &KeyValue) -> Result<usize, usize>
-    requires { IsStrictlySortedBy by_key rows.now }
-    ensures within { MatchResult result (λ i. i < length rows.now) (λ i. i ≤ length rows.now) }
-    ensures place { MatchResult result (λ i. put_in by_key rows.now row.now ≡ set rows.now i row.now)
-        (λ i. put_in by_key rows.now row.now ≡ insert rows.now i row.now) }
-{
-    let mut low = 0;
-    let mut high = rows.len();
-    while low < high {
-        let middle = low + (high - low) / 2;
-        match row.key.as_slice().cmp(rows[middle].key.as_slice()) {
-            Ordering::Less => high = middle,
-            Ordering::Equal => return Ok(middle),
-            Ordering::Greater => low = middle + 1,
-        }
-    }
-    Err(low)
-}
-
-/// Puts a row in its place among rows that ascend, and they still do; one of its key gives way.
-fn put_in(rows: &mut Vec<KeyValue>, row: KeyValue) -> Mem<()>
-    requires { IsStrictlySortedBy by_key rows.old.items }
-    ensures put { OnOk result (rows.new.items ≡ put_in by_key rows.old.items row) }
-    ensures ascend { OnOk result (IsStrictlySortedBy by_key rows.new.items) }
-{
-    match place_of(rows, &row) {
-        Ok(place) => rows[place] = row,
-        Err(place) => rows.insert(place, row)?,
-    }
-    Ok(())
-}
-
-/// Puts the rows of the puts of an interval in their places among rows that ascend.
-pub(crate) fn put_rows(
+/// The rows of the puts of keys of an interval, in the order of the puts.
+pub(crate) fn puts_of<'a>(
     alloc: Global,
-    rows: &mut Vec<KeyValue>,
-    writes: &[Write],
+    writes: &'a [Write],
     places: &[usize],
     key: &[u8],
     range_end: &[u8],
-) -> Mem<()>
-    requires { IsStrictlySortedBy by_key rows.old.items }
-    ensures { OnOk result (rows.new.items
-        ≡ fold (put_in by_key) rows.old.items
-        (filter (λ row. is_in key.now range_end.now row.key) (rows_at writes.now places.now))) }
+) -> Mem<Vec<&'a KeyValue>>
+    ensures { IfOk result
+        (λ found. map (λ row. row.now) found.items
+        ≡ filter (is_row_in key.now range_end.now) (rows_at writes.now places.now)) }
 {
+    let mut found = Vec::new(alloc);
     for place in places {
         match put_at(writes, *place) {
-            Some(row) if is_in(key, range_end, row.key.as_slice()) => {
-                put_in(rows, row.copy_of(alloc)?)?;
-            }
+            Some(row) if is_in(key, range_end, row.key.as_slice()) => found.push(row)?,
             _ => {}
         }
     }
-    Ok(())
+    Ok(found)
+}
+
+/// Those of some cells, which ascend by key, whose keys none of some rows has. Takes no memory, and looks at
+/// few of the cells.
+pub(crate) fn unput_cells(log: &Log, mut cells: Vec<CellNo>, puts: &[&KeyValue]) -> Vec<CellNo>
+    requires rows { AreRows (cells_of log.now.records) cells.items }
+    requires ascend { IsStrictlySortedBy (by_cell (cells_of log.now.records)) cells.items }
+    ensures { result.items
+        ≡ unput_cells (cells_of log.now.records) (map (λ row. row.now) puts.now) cells.items }
+{
+    for put in puts {
+        if let Some(place) = place_of(log, &cells, put.key.as_slice()) {
+            cells.remove(place);
+        }
+    }
+    cells
+}
+
+/// Where the cell of a key stands among cells that ascend by key, if it is there.
+fn place_of(log: &Log, cells: &[CellNo], key: &[u8]) -> Option<usize>
+    requires rows { AreRows (cells_of log.now.records) cells.now }
+    requires ascend { IsStrictlySortedBy (by_cell (cells_of log.now.records)) cells.now }
+    ensures within { IfSome result (λ i. i < length cells.now) }
+    ensures place { MatchOption result (cells_without (cells_of log.now.records) key.now cells.now ≡ cells.now)
+        (λ i. cells_without (cells_of log.now.records) key.now cells.now ≡ remove cells.now i) }
+{
+    let mut low = 0;
+    let mut high = cells.len();
+    while low < high {
+        let middle = low + (high - low) / 2;
+        match key_cmp(log, cells[middle], key) {
+            Ordering::Less => low = middle + 1,
+            Ordering::Equal => return Some(middle),
+            Ordering::Greater => high = middle,
+        }
+    }
+    None
 }

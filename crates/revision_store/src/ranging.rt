@@ -1,5 +1,5 @@
 //! The answer of a range.
-ghost use Rattle.std.specs.Prelude.{◌≡◌, ◌<◌, ◌^◌, filter, map, pos, true, false, None, Some, IsSome, is_some};
+ghost use Rattle.std.specs.Prelude.{◌≡◌, ◌<◌, ◌^◌, map, pos, true, false, None, Some, IsSome, is_some};
 ghost use Rattle.std.specs.Prelude.{IfOk, IsOk, MatchResult};
 ghost use Rattle.std.specs.List.Sorted.{IsStrictlySortedBy};
 ghost use Rattle.etcd_types.specs.declared.reply.OpReply.TheVariants.{Range as RangeReply};
@@ -15,9 +15,7 @@ ghost use Rattle.revision_store.specs.Ranging.{wanted_cells};
 ghost use Rattle.revision_store.specs.Recorded.{cells_of};
 ghost use Rattle.revision_store.specs.Stored.{reads, row_at};
 
-use crate::answering::{
-    is_by_key, is_cut, is_wanted, limit_of, needs_values, ordered, shown, wants_all,
-};
+use crate::answering::{is_by_key, is_cut, is_wanted, limit_of, needs_values, shown, wants_all};
 use crate::log::Log;
 use crate::rows::{first_cells, keys_under, rows_under};
 use crate::store::Store;
@@ -171,29 +169,8 @@ fn first_reply(
     Ok(reply_of(revision, count as u64, kvs, more))
 }
 
-/// What a range is answered at a revision, where its interval has these rows, which ascend by key.
-pub(crate) fn rows_reply(
-    alloc: Global,
-    request: &RangeReq,
-    rows: Vec<KeyValue>,
-    revision: u64,
-) -> Mem<OpReply>
-    requires ascend { IsStrictlySortedBy by_key rows.items }
-    requires revision { revision < 2 ^ 63 }
-    ensures { IfOk result (λ reply. reply ≡ range_reply revision request.now rows.items) }
-{
-    let count = rows.len() as u64;
-    if request.count_only {
-        return Ok(reply_of(revision, count, List::new(alloc), false));
-    }
-    let found = wanted_rows(alloc, request, rows)?;
-    let more = is_cut(request, found.len());
-    let kvs = ordered(alloc, request, found);
-    Ok(reply_of(revision, count, kvs, more))
-}
-
 /// The answer of a range.
-fn reply_of(revision: u64, count: u64, kvs: List<KeyValue>, more: bool) -> OpReply
+pub(crate) fn reply_of(revision: u64, count: u64, kvs: List<KeyValue>, more: bool) -> OpReply
     requires { revision < 2 ^ 63 }
     ensures { result ≡ RangeReply (pos revision) count kvs more }
 {
@@ -205,24 +182,13 @@ fn reply_of(revision: u64, count: u64, kvs: List<KeyValue>, more: bool) -> OpRep
     }
 }
 
-/// Those of some rows that pass the filters. With no filter they are all.
-fn wanted_rows(alloc: Global, request: &RangeReq, rows: Vec<KeyValue>) -> Mem<Vec<KeyValue>>
-    ensures { IfOk result (λ found. found.items ≡ filter (is_wanted request.now) rows.items) }
-{
-    if wants_all(request) {
-        return Ok(rows);
-    }
-    let mut found = Vec::new(alloc);
-    for row in rows {
-        if is_wanted(request, row.create_revision, row.mod_revision) {
-            found.push(row)?;
-        }
-    }
-    Ok(found)
-}
-
 /// Those of some cells whose rows pass the filters. With no filter they are all, and none is looked at.
-fn wanted(alloc: Global, log: &Log, request: &RangeReq, cells: Vec<CellNo>) -> Mem<Vec<CellNo>>
+pub(crate) fn wanted(
+    alloc: Global,
+    log: &Log,
+    request: &RangeReq,
+    cells: Vec<CellNo>,
+) -> Mem<Vec<CellNo>>
     requires { AreRows (cells_of log.now.records) cells.items }
     ensures { IfOk result
         (λ found. found.items ≡ wanted_cells (cells_of log.now.records) request.now cells.items) }
@@ -274,7 +240,7 @@ fn rows_given(
     if is_by_key(request) {
         wanted.truncate(limit);
         let rows = rows_read(alloc, log, request, &wanted)?;
-        return Ok(ordered(alloc, request, rows));
+        return Ok(shown(alloc, request, rows));
     }
     let rows = first_rows(alloc, log, request, &wanted, limit)?;
     Ok(shown(alloc, request, rows))

@@ -1,13 +1,15 @@
-use Rattle.std.proofs.Common.{◌≡◌, ◌≤◌, ◌-◌, ◌∷◌, ◌++◌, drop, take, length}
-use Rattle.etcd_model.specs.Order.{put_in, by_key}
+use Rattle.std.proofs.Common.{◌≤◌, ◌-◌, drop, take, length}
+use Rattle.std.specs.List.{AllByRecursion}
+use Rattle.revision_store.specs.Recorded.{cells_of}
+use Rattle.revision_store.proofs.MixingCells.{Unlike}
 use Rattle.revision_store.proofs.pending_puts.place_of.Given as goal
 
 abbrev pub invariant-loop-low : goal.invariant-loop-low
 invariant-loop-low l = record {
   ordered : l.low ≤ l.high;
-  within : l.high ≤ length l.rows;
-  behind : put_in by_key l.rows l.row ≡ take l.low l.rows ++ put_in by_key (drop l.low l.rows) l.row;
-  before : put_in by_key (drop l.high l.rows) l.row ≡ l.row ∷ drop l.high l.rows;
+  within : l.high ≤ length l.cells;
+  before : AllByRecursion (Unlike (cells_of l.log.records) l.key) (take l.low l.cells);
+  after : AllByRecursion (Unlike (cells_of l.log.records) l.key) (drop l.high l.cells);
 }
 
 abbrev pub decreases-loop-low : goal.decreases-loop-low

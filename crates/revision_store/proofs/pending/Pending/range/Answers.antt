@@ -53,20 +53,12 @@ returns-then-request-gt0 c =
     c.range_at.ensures
 
 -- something of the interval is put
-pub rows_reply-requires-clause-ascend : goal.rows_reply-requires-clause-ascend
-rows_reply-requires-clause-ascend c =
-    let p = c.args.self.now in
-    let is : IsStore p.store.kept = subst (λ (s : PendingState). IsStore s.store.kept) c.self.view_is c.self.invariant.sound.kept in
-    subst (IsStrictlySortedBy by_key) (sym c.in_ok-rows.ensures) (rows_ascend p.store.kept p.changes c.as_slice-key.result.now c.as_slice-range_end.result.now is)
-
 pub returns-then-puts_in : goal.returns-then-puts_in
 returns-then-puts_in c =
     let q = c.args.request.now in
     let R = pending_reads c.args.self.now in
     let bits : to_z w64 (of_z w64 q.revision) ≡ q.revision = search rules in
-    newest R q c.rows_reply.result c.current-then-puts_in.result c.in_ok-rows.rows.items (ap (int_lt (pos 0)) (sym bits) ∙ c.if-request-gt0.false) c.current-then-puts_in.ensures.current
-    (c.in_ok-rows.ensures ∙ ap (λ k. R.rows k c.as_slice-range_end.result.now) c.as_slice-key.ensures ∙ ap (R.rows q.key) c.as_slice-range_end.ensures)
-    c.rows_reply.ensures
+    newest R q c.mixed_range.result R.current (R.rows q.key q.range_end) (ap (int_lt (pos 0)) (sym bits) ∙ c.if-request-gt0.false) refl refl c.mixed_range.ensures
 
 -- nothing of it is
 pub live_cells-requires : goal.live_cells-requires

@@ -1,0 +1,5 @@
+use Rattle.revision_store.proofs.TakingRows.{none_ties_before}
+use Rattle.revision_store.proofs.mixing.first_with.Goals as goal
+
+pub keep_few-requires : goal.keep_few-requires
+keep_few-requires c = none_ties_before c.args.request.now c.loop-put.first.items _ c.loop-put.invariant.apart

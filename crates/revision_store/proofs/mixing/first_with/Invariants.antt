@@ -1,0 +1,10 @@
+use Rattle.std.proofs.Common.{◌≡◌, ◌++◌, drop, map}
+use Rattle.revision_store.specs.Ranging.{read}
+use Rattle.revision_store.specs.Taking.{NoneTies, first_of}
+use Rattle.revision_store.proofs.mixing.first_with.Given as goal
+
+abbrev pub invariant-loop-put : goal.invariant-loop-put
+invariant-loop-put l = record {
+  apart : NoneTies l.request (l.first.items ++ map (read l.request) (map (λ row. row.now) (drop l.put-index l.puts)));
+  first : first_of l.request l.limit (l.first.items ++ map (read l.request) (map (λ row. row.now) (drop l.put-index l.puts))) ≡ first_of l.request l.limit (l.initial.first.items ++ map (read l.request) (map (λ row. row.now) l.puts));
+}

@@ -1,0 +1,30 @@
+-- The rows of an interval in which puts are pending: those under some cells, and those of the puts.
+use Rattle.std.specs.Prelude.{ℕ, Bool, not, List, filter}
+use Rattle.std.specs.List.{IsDistinct, list_any}
+use Rattle.std.specs.Ordering.{eq_by_cmp}
+use Rattle.std.specs.Str.{bytes_eq}
+use Rattle.std.specs.declared.cmp.Ordering.{Ordering}
+use Rattle.etcd_types.specs.declared.key_value.KeyValue.{KeyValue}
+use Rattle.etcd_model.specs.Order.{key_cmp, by_key}
+use Rattle.key_index.specs.Links.{Cells}
+use Rattle.revision_store.specs.Plans.{key_at}
+
+-- cells by the keys of their changes
+abbrev pub by_cell : Cells → ℕ → ℕ → Ordering
+by_cell cells c d = key_cmp (key_at cells c) (key_at cells d)
+
+-- those of some cells whose keys are not this one
+abbrev pub cells_without : Cells → List ℕ → List ℕ → List ℕ
+cells_without cells key cs = filter (λ c. not (bytes_eq key (key_at cells c))) cs
+
+-- some row is of the key
+abbrev pub is_put_to : List KeyValue → List ℕ → Bool
+is_put_to puts key = list_any (λ row. bytes_eq row.key key) puts
+
+-- those of some cells whose keys none of some rows has
+abbrev pub unput_cells : Cells → List KeyValue → List ℕ → List ℕ
+unput_cells cells puts cs = filter (λ c. not (is_put_to puts (key_at cells c))) cs
+
+-- no two rows are of one key
+abbrev pub HaveOwnKeys : List KeyValue → Type 0
+HaveOwnKeys rows = IsDistinct (eq_by_cmp by_key) rows
