@@ -4,9 +4,8 @@ ghost use Rattle.serde_json.specs.View.{view};
 ghost use Rattle.etcd_types.specs.Limits.{max_body};
 ghost use Rattle.etcd_types.specs.declared.refusal.Refusal.TheVariants.{TooLarge};
 ghost use Rattle.etcd_model.specs.Members.{IsAnswer};
-ghost use Rattle.etcd_model.specs.Calls.{call_of, check_fields, read_call, read_members, read_posted};
-ghost use Rattle.etcd_model.specs.Calls.{read_step};
-ghost use Rattle.gateway_json.specs.Unread.{oversize, refused_unread, unknown};
+ghost use Rattle.etcd_model.specs.Calls.{check_fields, read_members, read_posted, read_step};
+ghost use Rattle.gateway_json.specs.Unread.{oversize, refused_unread};
 
 use crate::body::read_body;
 use crate::kv::{read_compaction, read_delete, read_put, read_range};
@@ -77,20 +76,8 @@ pub fn read_step(alloc: Global, call: Call, body: &[u8]) -> Result<Step, Refusal
     check_fields(read_members(alloc, call, &value)?)
 }
 
-/// The step that a path, what follows `/v3/`, and a body ask for, or why they are refused.
-#[tactic(auto, unfolding(etcd_model::specs::Calls::read_call))]
-pub fn read_call(alloc: Global, path: &[u8], body: &[u8]) -> Result<Step, Refusal>
-    ensures step { IsAnswer result (read_call path.now body.now) }
-    ensures unread { IfSome (unknown (call_of path.now) (oversize body.now)) (λ refusal. result ≡ Err refusal) }
-{
-    match call_of(path) {
-        Some(call) => read_step(alloc, call, body),
-        None => Err(Refusal::NoPath),
-    }
-}
-
-/// `read_call` of a request with a method: any but `POST` is refused, after the path and before the
-/// body.
+/// The step that a method, a path, what follows `/v3/`, and a body ask for, or why they are refused: an unknown
+/// path, else any method but `POST`, else what `read_step` refuses.
 pub fn read_posted(alloc: Global, method: &[u8], path: &[u8], body: &[u8]) -> Result<Step, Refusal>
     ensures step { IsAnswer result (read_posted method.now path.now body.now) }
     ensures unread { IfSome (refused_unread method.now path.now body.now) (λ refusal. result ≡ Err refusal) }

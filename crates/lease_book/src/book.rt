@@ -219,14 +219,6 @@ impl LeaseBook {
         self.list.set(place, booked);
     }
 
-    /// The cell of a lease's record.
-    pub fn cell(&self, id: i64) -> CellNo
-        requires { has_lease self.now.leases id ≡ true }
-        ensures { result ≡ slice_index_or self.now.cells (ids_below self.now.leases id) result }
-    {
-        self.list.get(place_with(&self.list, id)).cell
-    }
-
     /// Takes a lease away with its attachments, and gives the cell of its record.
     pub fn end(&mut self, id: i64) -> CellNo
         requires { has_lease self.old.leases id ≡ true }
