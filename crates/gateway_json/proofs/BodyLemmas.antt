@@ -16,3 +16,5 @@ body_value_read body d some text reads = rw (some, is_utf8-from_IsUtf8 body text
 
 pub body_value_refused : (body : List ℕ) → (length body == 0) ≡ false → (IsUtf8 body → read body ≡ None) → body_value body ≡ None
 body_value_refused body some refused = rw some (guarded (is_utf8 body) (read body) (λ h. refused (IsUtf8-from_is_utf8 body h)))
+
+pub ruleset body_value_is = (body_value_read, body_value_refused)

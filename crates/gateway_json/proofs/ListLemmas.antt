@@ -31,3 +31,5 @@ module _ {T : Type 0} (element : Data → Result T Refusal) where
 
   pub all_read : (done : List T) (whole : Result (List T) Refusal) → whole ≡ after_read done (Ok []) → whole ≡ Ok done
   all_read done whole before = before ∙ ap Ok (append-nil done)
+
+pub ruleset elements_are = (element_read, element_refused, all_read)

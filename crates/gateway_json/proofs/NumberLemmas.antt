@@ -115,3 +115,5 @@ pub unsigned_unread : {E : Type 0} (s : List ℕ) (r : Result ℤ E) → (slice_
 unfolding unsigned_text
 unsigned_unread s (Ok x) h p is = absurd (cc)
 unsigned_unread s (Err e) h p is = refused _ _ _ (λ b. let parts = and_parts _ _ b in (numeral_from (magnitude s) parts.0, wider_from (text_value s) parts.1)) (rw h at p)
+
+pub ruleset unsigned_is = (unsigned_plus, unsigned_unread, unsigned_read)

@@ -8,7 +8,7 @@ use serde_json::Value;
 use std::alloc::Global;
 
 /// The object of a body; a null stands for one with no members.
-#[tactic(auto, unfolding(etcd_model::specs::Calls::read_body), using(crate::proofs::BodyLemmas::body_value_read, crate::proofs::BodyLemmas::body_value_refused))]
+#[tactic(auto, unfolding(etcd_model::specs::Calls::read_body), using(crate::proofs::BodyLemmas::body_value_is))]
 pub(crate) fn read_body(alloc: Global, body: &[u8]) -> Result<Value, Refusal>
     ensures { IsBody result body.now }
 {

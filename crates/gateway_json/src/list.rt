@@ -21,7 +21,7 @@ pub(crate) trait FromElement: Drop {
 }
 
 /// Reads the elements of a list, one after another; the first fault is told.
-#[tactic(auto, using(crate::proofs::ListLemmas::element_read, crate::proofs::ListLemmas::element_refused, crate::proofs::ListLemmas::all_read))]
+#[tactic(auto, using(crate::proofs::ListLemmas::elements_are))]
 fn read_elements<T: FromElement>(alloc: Global, values: &[Value]) -> Result<List<T>, Refusal>
     ensures ok { IfOk result (λ items. read_elements T.reads_element (items_view values.now) ≡ Ok items) }
     ensures err { IfErr result (λ e. e ≢ Memory

@@ -71,7 +71,7 @@ impl FromMember for i64 {
 }
 
 /// The number of a text: digits, or an optional minus before a 0.
-#[tactic(auto, using(crate::proofs::NumberLemmas::unsigned_plus, crate::proofs::NumberLemmas::unsigned_unread, crate::proofs::NumberLemmas::unsigned_read))]
+#[tactic(auto, using(crate::proofs::NumberLemmas::unsigned_is))]
 fn unsigned_of_text(text: &str) -> Option<u64>
     ensures { result ≡ unsigned_text text.now }
 {
