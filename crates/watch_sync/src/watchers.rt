@@ -69,7 +69,8 @@ impl Watchers {
         Hint { slots }
     }
 
-    /// A watch that is to be opened at a moment, with its ring, or the refusal if no slot is free, which takes no memory.
+    /// A watch that is to be opened at a moment, with its ring, or the refusal if no slot is free, which takes no
+    /// memory.
     pub fn plan_create(
         &self,
         alloc: Global,
