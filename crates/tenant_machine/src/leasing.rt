@@ -55,10 +55,7 @@ impl Machine {
         ensures fits { Fits self.now result }
     {
         if !self.quota.admit(self.quota.used + 1) {
-            return Planned {
-                effect: Effect::Alarm(true),
-                reply: Reply::Refused(Refusal::NoSpace),
-            };
+            return Planned::no_space();
         }
         let reply = Reply::Granted {
             header: self.header(),

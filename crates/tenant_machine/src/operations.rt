@@ -14,7 +14,7 @@ ghost use Rattle.tenant_machine.specs.Plans.{Fits, used_after, written};
 
 use crate::machine::Machine;
 use crate::planned::{Effect, Planned};
-use etcd_types::{DeleteReq, Header, Mem, OpReply, PutReq, RangeReq, Refusal, Reply, TxnReq};
+use etcd_types::{DeleteReq, Header, Mem, OpReply, PutReq, RangeReq, Reply, TxnReq};
 use revision_store::{Plan, PlannedOp};
 use std::alloc::Global;
 use txn_plan::{PlannedTxn, lease_refusal};
@@ -142,10 +142,7 @@ impl Machine {
         if self.quota.admit(used) {
             self.writing(plan, reply, used)
         } else {
-            Planned {
-                effect: Effect::Alarm(true),
-                reply: Reply::Refused(Refusal::NoSpace),
-            }
+            Planned::no_space()
         }
     }
 

@@ -1,5 +1,6 @@
 //! What is planned for a step.
-ghost use Rattle.std.specs.Prelude.{◌≡◌};
+ghost use Rattle.std.specs.Prelude.{◌≡◌, true};
+ghost use Rattle.etcd_types.specs.declared.refusal.Refusal.TheVariants.{NoSpace};
 ghost use Rattle.etcd_types.specs.declared.reply.Reply.TheVariants.{Refused};
 
 use etcd_types::{Refusal, Reply};
@@ -74,5 +75,15 @@ impl Planned {
         ensures { result ≡ record { effect = Effect.Nothing; reply = Refused refusal } }
     {
         Planned::told(Reply::Refused(refusal))
+    }
+
+    /// A step for which there is no space: it is refused, and the alarm goes on.
+    pub(crate) fn no_space() -> Planned
+        ensures { result ≡ record { effect = Effect.Alarm true; reply = Refused NoSpace } }
+    {
+        Planned {
+            effect: Effect::Alarm(true),
+            reply: Reply::Refused(Refusal::NoSpace),
+        }
     }
 }
