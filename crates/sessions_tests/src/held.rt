@@ -25,8 +25,8 @@ struct Until {
 }
 
 impl Gate for Until {
-    fn wait_more(&self, tenant: &[u8], turn: u32) -> bool {
-        if turn >= 9_999 {
+    fn wait_more(&self, tenant: &[u8], asked: u32) -> bool {
+        if asked >= 9_999 {
             self.last.store(true, Ordering::SeqCst);
         }
         if tenant != b"one".as_slice() {

@@ -9,7 +9,7 @@ use Rattle.tenant_registry.specs.declared.audit.Entry.{Entry}
 use Rattle.tenant_registry.specs.declared.audit.Opening.{Opening}
 use Rattle.tenant_registry.specs.declared.close.Sheet.{Sheet}
 use Rattle.tenant_registry.specs.declared.closed.CloseFault.{CloseFault}
-use Rattle.tenant_registry.specs.declared.tally.Call.{Call}
+use Rattle.tenant_registry.specs.declared.tally.MadeCall.{MadeCall}
 use Rattle.tenant_registry.specs.declared.tenant.Tenant.{Tenant}
 use Rattle.tenant_registry.specs.Audits.{Log, IsLawful, replies_of}
 use Rattle.tenant_registry.specs.Closed.{AreTold, AreClosed, AreLawful, HasFault, IsClosed, IsFault, audits_of, given_of, sheet_audits}
@@ -61,23 +61,23 @@ at_turn f [] e es = refl
 at_turn f (p ∷ pre) e es = at_turn f pre e es
 
 -- the replies of a seat's entries stand at their places
-told_by : (f : Reply → Answer) (n k : ℕ) (pre es : List Entry) → k ≡ length pre → AllByRecursion (λ (c : Call). slice_get (map f (replies_of (pre ++ es))) c.turn ≡ Some (f c.reply)) (calls_by n k es)
+told_by : (f : Reply → Answer) (n k : ℕ) (pre es : List Entry) → k ≡ length pre → AllByRecursion (λ (c : MadeCall). slice_get (map f (replies_of (pre ++ es))) c.turn ≡ Some (f c.reply)) (calls_by n k es)
 told_by f n k pre [] at = tt
 told_by f n k pre (e ∷ es) at =
     by (n == e.seat) (subst (λ (j : ℕ). slice_get (map f (replies_of (pre ++ e ∷ es))) j ≡ Some (f e.reply)) (sym at) (at_turn f pre e es))
-    (subst (λ (l : List Entry). AllByRecursion (λ (c : Call). slice_get (map f (replies_of l)) c.turn ≡ Some (f c.reply)) (calls_by n (k + 1) es)) (append_assoc pre (e ∷ []) es)
+    (subst (λ (l : List Entry). AllByRecursion (λ (c : MadeCall). slice_get (map f (replies_of l)) c.turn ≡ Some (f c.reply)) (calls_by n (k + 1) es)) (append_assoc pre (e ∷ []) es)
     (told_by f n (k + 1) (pre ++ e ∷ []) es (omega (arith, at, length-append {A = Entry} pre (e ∷ [])))))
   where
     by : (b : Bool) → slice_get (map f (replies_of (pre ++ e ∷ es))) k ≡ Some (f e.reply)
-        → AllByRecursion (λ (c : Call). slice_get (map f (replies_of (pre ++ e ∷ es))) c.turn ≡ Some (f c.reply)) (calls_by n (k + 1) es)
-        → AllByRecursion (λ (c : Call). slice_get (map f (replies_of (pre ++ e ∷ es))) c.turn ≡ Some (f c.reply)) (cond b (call k e.step e.reply ∷ calls_by n (k + 1) es) (calls_by n (k + 1) es))
+        → AllByRecursion (λ (c : MadeCall). slice_get (map f (replies_of (pre ++ e ∷ es))) c.turn ≡ Some (f c.reply)) (calls_by n (k + 1) es)
+        → AllByRecursion (λ (c : MadeCall). slice_get (map f (replies_of (pre ++ e ∷ es))) c.turn ≡ Some (f c.reply)) (cond b (call k e.step e.reply ∷ calls_by n (k + 1) es) (calls_by n (k + 1) es))
     by true here rest = (here, rest)
     by false here rest = rest
 
 are_told : (a : Log) (name : List ℕ) (s : SeatState) → IsLawful a → calls_by s.number 0 a.entries ≡ calls_on name s → AreTold a (calls_on name s)
 are_told a name s lawful list =
-    subst (λ (cs : List Call). AreTold a cs) list
-    (subst (λ (rs : List Reply). AllByRecursion (λ (c : Call). slice_get (map text rs) c.turn ≡ Some (text c.reply)) (calls_by s.number 0 a.entries)) (sym lawful.replies) (told_by text s.number 0 [] a.entries refl))
+    subst (λ (cs : List MadeCall). AreTold a cs) list
+    (subst (λ (rs : List Reply). AllByRecursion (λ (c : MadeCall). slice_get (map text rs) c.turn ≡ Some (text c.reply)) (calls_by s.number 0 a.entries)) (sym lawful.replies) (told_by text s.number 0 [] a.entries refl))
 
 -- ---- all agree
 

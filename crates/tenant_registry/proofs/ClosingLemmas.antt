@@ -9,7 +9,7 @@ use Rattle.std.specs.List.{slice_get}
 use Rattle.std.proofs.Math.Seq.{drop-cons}
 use Rattle.tenant_registry.specs.declared.audit.Entry.{Entry}
 use Rattle.tenant_registry.specs.declared.close.Sheet.{Sheet}
-use Rattle.tenant_registry.specs.declared.tally.Call.{Call}
+use Rattle.tenant_registry.specs.declared.tally.MadeCall.{MadeCall}
 use Rattle.tenant_registry.specs.Audits.{Log, entry}
 use Rattle.tenant_registry.specs.Seats.{SeatState, call, calls_on}
 use Rattle.tenant_registry.specs.Closing.{calls_by, times, made_on, IsInPlace, InOrder, AreInOrder, BreaksAt, DiffersAt, IsInOrder, Agrees}
@@ -17,7 +17,7 @@ use Rattle.tenant_registry.specs.Closing.{calls_by, times, made_on, IsInPlace, I
 -- ---- calls in order
 
 -- the calls stand among the entries from the place k on, one after another
-abbrev pub Fits : ℕ → ℕ → List Entry → List Call → Type 0
+abbrev pub Fits : ℕ → ℕ → List Entry → List MadeCall → Type 0
 Fits n k [] [] = Unit {0}
 Fits n k [] (c ∷ cs) = ⊥
 Fits n k (e ∷ es) [] = Unit {0}
@@ -27,7 +27,7 @@ at_end : (pre : List Entry) (e : Entry) (es : List Entry) → slice_get (pre ++ 
 at_end [] e es = refl
 at_end (p ∷ pre) e es = at_end pre e es
 
-in_order_fits : (n k : ℕ) (pre es : List Entry) (cs : List Call) → k ≡ length pre → InOrder n k (pre ++ es) cs → Fits n k es cs
+in_order_fits : (n k : ℕ) (pre es : List Entry) (cs : List MadeCall) → k ≡ length pre → InOrder n k (pre ++ es) cs → Fits n k es cs
 in_order_fits n k pre [] [] at h = tt
 in_order_fits n k pre [] (c ∷ cs) at h =
     let within : c.turn < length (pre ++ []) = slice_get_within (pre ++ []) c.turn (entry n c.step c.reply) h.0.stands in
@@ -51,27 +51,27 @@ in_order_fits n k pre (e ∷ es) (c ∷ cs) at h =
 -- ---- a walk over the calls
 
 -- one call more is in place
-pub order_here : (n next : ℕ) (es : List Entry) (calls : List Call) (i : ℕ) (c : Call) → i < length calls → c ≡ get_or calls i c
+pub order_here : (n next : ℕ) (es : List Entry) (calls : List MadeCall) (i : ℕ) (c : MadeCall) → i < length calls → c ≡ get_or calls i c
     → IsInPlace n next es c → InOrder n (c.turn + 1) es (drop (i + 1) calls) → InOrder n next es (drop i calls)
 order_here n next es calls i c lt is place rest =
     let cut : drop i calls ≡ c ∷ drop (i + 1) calls = rw (add-one, drop-cons calls i c, ← is) refl in
     rw cut (place, rest)
 
-pub breaks_later : (n next : ℕ) (es : List Entry) (calls : List Call) (i : ℕ) (c : Call) (turn : ℕ) → i < length calls → c ≡ get_or calls i c
+pub breaks_later : (n next : ℕ) (es : List Entry) (calls : List MadeCall) (i : ℕ) (c : MadeCall) (turn : ℕ) → i < length calls → c ≡ get_or calls i c
     → IsInPlace n next es c → BreaksAt n (c.turn + 1) es (drop (i + 1) calls) turn → BreaksAt n next es (drop i calls) turn
 breaks_later n next es calls i c turn lt is place rest =
     let cut : drop i calls ≡ c ∷ drop (i + 1) calls = rw (add-one, drop-cons calls i c, ← is) refl in
     rw cut (inr (place, rest))
 
 -- a call that is not in place
-pub breaks_here : (n next : ℕ) (es : List Entry) (calls : List Call) (i : ℕ) (c : Call) → i < length calls → c ≡ get_or calls i c
+pub breaks_here : (n next : ℕ) (es : List Entry) (calls : List MadeCall) (i : ℕ) (c : MadeCall) → i < length calls → c ≡ get_or calls i c
     → (IsInPlace n next es c → ⊥) → BreaksAt n next es (drop i calls) c.turn
 breaks_here n next es calls i c lt is not =
     let cut : drop i calls ≡ c ∷ drop (i + 1) calls = rw (add-one, drop-cons calls i c, ← is) refl in
     rw cut (inl (refl, not))
 
 -- where one is not in place, not all are in order
-pub breaks_order : (n next : ℕ) (es : List Entry) (calls : List Call) (turn : ℕ) → BreaksAt n next es calls turn → InOrder n next es calls → ⊥
+pub breaks_order : (n next : ℕ) (es : List Entry) (calls : List MadeCall) (turn : ℕ) → BreaksAt n next es calls turn → InOrder n next es calls → ⊥
 breaks_order n next es [] turn h order = h
 breaks_order n next es (c ∷ cs) turn (inl p) order = p.1 order.0
 breaks_order n next es (c ∷ cs) turn (inr p) order = breaks_order n (c.turn + 1) es cs turn p.1 order.1
@@ -114,14 +114,14 @@ apart_all (s ∷ ss) h n =
 
 -- ---- a seat's entries and its list
 
-longer : (b : Bool) (x : Call) (xs : List Call) (m : ℕ) → m ≤ length xs → m ≤ length (cond b (x ∷ xs) xs)
+longer : (b : Bool) (x : MadeCall) (xs : List MadeCall) (m : ℕ) → m ≤ length xs → m ≤ length (cond b (x ∷ xs) xs)
 longer true x xs m h = omega arith
 longer false x xs m h = h
 
-seat_is : (n : ℕ) (e : Entry) (c : Call) → e ≡ entry n c.step c.reply → (n == e.seat) ≡ true
+seat_is : (n : ℕ) (e : Entry) (c : MadeCall) → e ≡ entry n c.step c.reply → (n == e.seat) ≡ true
 seat_is n e c is = let eq : e.seat ≡ n = ap (λ (x : Entry). x.seat) is in grind (arith, nat_tests)
 
-fits_fewer : (n k : ℕ) (es : List Entry) (cs : List Call) → Fits n k es cs → length cs ≤ length (calls_by n k es)
+fits_fewer : (n k : ℕ) (es : List Entry) (cs : List MadeCall) → Fits n k es cs → length cs ≤ length (calls_by n k es)
 fits_fewer n k [] [] fits = omega arith
 fits_fewer n k [] (c ∷ cs) fits = absurd fits
 fits_fewer n k (e ∷ es) [] fits = omega arith
@@ -131,21 +131,21 @@ fits_fewer n k (e ∷ es) (c ∷ cs) (inl p) =
 fits_fewer n k (e ∷ es) (c ∷ cs) (inr q) =
     longer (n == e.seat) (call k e.step e.reply) (calls_by n (k + 1) es) (length (c ∷ cs)) (fits_fewer n (k + 1) es (c ∷ cs) q)
 
-call_is : (n k : ℕ) (e : Entry) (c : Call) → c.turn ≡ k → e ≡ entry n c.step c.reply → call k e.step e.reply ≡ c
+call_is : (n k : ℕ) (e : Entry) (c : MadeCall) → c.turn ≡ k → e ≡ entry n c.step c.reply → call k e.step e.reply ≡ c
 call_is n k e c turn is = rw (is, ← turn) refl
 
-only_none : (xs cs : List Call) (b : Bool) (x c : Call) → length (c ∷ cs) ≤ length xs → (length xs ≤ length (c ∷ cs) → xs ≡ c ∷ cs) → length (cond b (x ∷ xs) xs) ≤ length (c ∷ cs) → cond b (x ∷ xs) xs ≡ c ∷ cs
+only_none : (xs cs : List MadeCall) (b : Bool) (x c : MadeCall) → length (c ∷ cs) ≤ length xs → (length xs ≤ length (c ∷ cs) → xs ≡ c ∷ cs) → length (cond b (x ∷ xs) xs) ≤ length (c ∷ cs) → cond b (x ∷ xs) xs ≡ c ∷ cs
 only_none xs cs true x c less more most = absurd (omega arith)
 only_none xs cs false x c less more most = more most
 
-fits_equal : (n k : ℕ) (es : List Entry) (cs : List Call) → Fits n k es cs → length (calls_by n k es) ≤ length cs → calls_by n k es ≡ cs
+fits_equal : (n k : ℕ) (es : List Entry) (cs : List MadeCall) → Fits n k es cs → length (calls_by n k es) ≤ length cs → calls_by n k es ≡ cs
 fits_equal n k [] [] fits most = refl
 fits_equal n k [] (c ∷ cs) fits most = absurd fits
 fits_equal n k (e ∷ es) [] fits most = nil_from_length (calls_by n k (e ∷ es)) (omega arith)
 fits_equal n k (e ∷ es) (c ∷ cs) (inl p) most =
     let seat = seat_is n e c p.1 in
     let less : length (calls_by n (k + 1) es) ≤ length cs = let m = rw seat at most in omega arith in
-    rw seat (rw (call_is n k e c p.0 p.1) (ap (λ (l : List Call). c ∷ l) (fits_equal n (k + 1) es cs p.2 less)))
+    rw seat (rw (call_is n k e c p.0 p.1) (ap (λ (l : List MadeCall). c ∷ l) (fits_equal n (k + 1) es cs p.2 less)))
 fits_equal n k (e ∷ es) (c ∷ cs) (inr q) most =
     only_none (calls_by n (k + 1) es) cs (n == e.seat) (call k e.step e.reply) c (fits_fewer n (k + 1) es (c ∷ cs) q) (λ m. fits_equal n (k + 1) es (c ∷ cs) q m) most
 
@@ -155,7 +155,7 @@ fits_equal n k (e ∷ es) (c ∷ cs) (inr q) most =
 abbrev pub own : ℕ → List Entry → SeatState → ℕ
 own k es s = length (calls_by s.number k es)
 
-more_by : (b : Bool) (x : Call) (xs : List Call) (n m p : ℕ) → m ≡ n + p → length (cond b (x ∷ xs) xs) + m ≡ cond b 1 0 + n + (length xs + p)
+more_by : (b : Bool) (x : MadeCall) (xs : List MadeCall) (n m p : ℕ) → m ≡ n + p → length (cond b (x ∷ xs) xs) + m ≡ cond b 1 0 + n + (length xs + p)
 more_by true x xs n m p h = omega arith
 more_by false x xs n m p h = omega arith
 

@@ -1,7 +1,7 @@
 -- What lies under a lock stays so over a step.
 use Rattle.std.specs.Prelude.{ℤ, pos, negsuc, ◌≤ℤ◌, Result, Ok, Err, IfOk}
 use Rattle.std.specs.List.{AllByRecursion}
-use Rattle.std.proofs.Common.{◌≡◌, ◌∙◌, ◌==◌, ◌+◌, ◌*◌, ◌/◌, ◌<◌, ◌≤◌, sym, ap, subst, refl, ℕ, suc, Bool, true, false, cond, nat_lt, length, List, [], ◌∷◌, ◌++◌, Option, Some, None, append_assoc, max, arith}
+use Rattle.std.proofs.Common.{◌≡◌, ◌∙◌, ◌==◌, ◌+◌, ◌*◌, ◌/◌, ◌<◌, ◌≤◌, sym, ap, subst, refl, ℕ, Bool, true, false, cond, nat_lt, length, List, [], ◌∷◌, ◌++◌, Option, Some, None, append_assoc, max, arith}
 use Rattle.std.proofs.lemmas.Bool.Decides.{nat_tests}
 use Rattle.std.proofs.lemmas.Int.{ints}
 use Rattle.std.proofs.lemmas.List.{map-append, length-append}
@@ -21,9 +21,10 @@ use Rattle.tenant_machine.specs.Plans.{Plan, Plans, IsAfter, Steps}
 use Rattle.tenant_registry.specs.declared.audit.Entry.{Entry}
 use Rattle.tenant_registry.specs.declared.audit.Opening.{Opening}
 use Rattle.tenant_registry.specs.declared.kept.Served.{Served}
-use Rattle.tenant_registry.specs.Audits.{Act, Asked, Resized, Log, IsOpen, acts_after, acts_of, at_quota, entry, replies_of, replies_to_acts, resized_after, state_after_acts, opened_log, opening_of, copy_at, first_of, end_of, turn_of, with_entry, with_entry_at, with_change, with_change_at}
+use Rattle.tenant_registry.specs.Audits.{Act, Asked, Resized, Log, IsOpen, acts_after, acts_of, at_quota, entry, replies_of, replies_to_acts, resized_after, state_after_acts, opened_log, opening_of, first_of, end_of, turn_of, with_entry, with_entry_at, with_change, with_change_at}
 use Rattle.tenant_registry.specs.Keeping.{Content, IsKept, loan_of}
 use Rattle.tenant_registry.specs.Receipts.{slip_of}
+use Rattle.tenant_registry.specs.Seats.{call_at}
 use Rattle.tenant_registry.specs.Serving.{Serves, IsServed}
 
 -- ---- runs
@@ -183,7 +184,7 @@ kept_step m n a b left rest seat step p reply kept plans after is settles made =
 -- what is promised of that
 pub serves : (old : Content) (m n : MachineState) (a b : Log) (left rest : StockState) (seat : ℕ) (step : Step) (p : Plan) (reply told : Reply) (turn : Option ℕ) (served : Served)
     → record { machine = m; audit = a; left = left } ≡ old → Plans m step p → IsAfter m p n → reply ≡ p.reply → turn ≡ turn_of a → told ≡ p.reply
-    → served.receipt ≡ slip_of turn told → served.mine ≡ copy_at turn (entry seat step told) → b ≡ with_entry_at (turn_of a) a (entry seat step reply)
+    → served.receipt ≡ slip_of turn told → served.mine ≡ call_at turn step told → b ≡ with_entry_at (turn_of a) a (entry seat step reply)
     → Serves old seat step served (record { machine = n; audit = b; left = rest })
 serves old m n a b left rest seat step p reply told turn served view plans after is turns tells receipt mine made =
     let same : told ≡ reply = tells ∙ sym is in
@@ -192,13 +193,13 @@ serves old m n a b left rest seat step p reply told turn served view plans after
       spoken = λ h. plans.spoken (sym is ∙ h);
       steps = stepped m n step p reply plans after is;
       receipt = receipt ∙ ap (λ t. slip_of t told) turns ∙ ap (slip_of (turn_of a)) same;
-      mine = mine ∙ ap (λ t. copy_at t (entry seat step told)) turns ∙ ap (λ r. copy_at (turn_of a) (entry seat step r)) same;
+      mine = mine ∙ ap (λ t. call_at t step told) turns ∙ ap (call_at (turn_of a) step) same;
       audit = made;
     } in
     subst (λ (o : Content). Serves o seat step served (record { machine = n; audit = b; left = rest })) view there
 
 -- what a step under the lock is to its caller
-pub is_served : {E : Type 0} (old new : Content) (seat : ℕ) (step : Step) (r : Result Served E) → IfOk r (λ served. Serves old seat step served new) → IfOk r (λ served. IsServed seat step served)
+pub is_served : {E : Type 0} (old new : Content) (seat : ℕ) (step : Step) (r : Result Served E) → IfOk r (λ served. Serves old seat step served new) → IfOk r (λ served. IsServed step served)
 is_served old new seat step (Ok served) h = record { turn = turn_of old.audit; reply = h.reply; receipt = h.receipt; mine = h.mine }
 is_served old new seat step (Err e) h = h
 

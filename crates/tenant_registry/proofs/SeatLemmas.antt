@@ -8,13 +8,11 @@ use Rattle.std.proofs.lemmas.List.{map-append}
 use Rattle.steps_core.proofs.Lists.{lookup_last, lookup_others}
 use Rattle.steps_core.proofs.Shown.{others_set, own_set, test}
 use Rattle.etcd_types.specs.declared.step.Step.{Step}
-use Rattle.tenant_registry.specs.declared.audit.Entry.{Entry}
 use Rattle.tenant_registry.specs.declared.kept.Served.{Served}
-use Rattle.tenant_registry.specs.declared.tally.Call.{Call}
-use Rattle.tenant_registry.specs.Audits.{copy_at, entry}
+use Rattle.tenant_registry.specs.declared.tally.MadeCall.{MadeCall}
 use Rattle.tenant_registry.specs.Receipts.{Slip, slip_of}
 use Rattle.tenant_registry.specs.Serving.{IsServed}
-use Rattle.tenant_registry.specs.Seats.{SeatState, TallyState, seat_of, tally_on, has_tally, calls_in, calls_on, missed_in, missed_on, HasRoom, HasRoomOn, Keeps, call, KeepsLists, KeepsOthers, AddsCall, AddsMissed}
+use Rattle.tenant_registry.specs.Seats.{SeatState, TallyState, seat_of, tally_on, has_tally, calls_in, calls_on, missed_in, missed_on, HasRoom, HasRoomOn, Keeps, call, call_at, KeepsLists, KeepsOthers, AddsCall, AddsMissed}
 
 -- ---- look-ups
 
@@ -62,7 +60,7 @@ module _ {A : Type 0} (number : ℕ) (t : List ℕ) (es : List (Vec ℕ A × Tal
       }
 
   -- what is written to the tally of the tenant
-  pub call_set : (s : SeatState) (fs : List (Vec ℕ A × TallyState)) (v w : TallyState) (c : Call) → seat_of number es ≡ s → Some v ≡ lookup (test t) es → fs ≡ set_value (test t) es w
+  pub call_set : (s : SeatState) (fs : List (Vec ℕ A × TallyState)) (v w : TallyState) (c : MadeCall) → seat_of number es ≡ s → Some v ≡ lookup (test t) es → fs ≡ set_value (test t) es w
       → w.calls ≡ v.calls ++ c ∷ [] → w.missed ≡ v.missed → AddsCall t c s (seat_of number fs)
   call_set s fs v w c view at set calls missed =
       let now : tally_on t (seat_of number fs) ≡ Some w = ap (λ xs. tally_on t (seat_of number xs)) set ∙ own v w (sym at) in
@@ -125,7 +123,7 @@ keeps_twice old mid new first second = record {
   missed = λ t. second.missed t ∙ first.missed t;
 }
 
-pub added_after : (t : List ℕ) (c : Call) (old mid new : SeatState) → KeepsLists old mid → AddsCall t c mid new → AddsCall t c old new
+pub added_after : (t : List ℕ) (c : MadeCall) (old mid new : SeatState) → KeepsLists old mid → AddsCall t c mid new → AddsCall t c old new
 added_after t c old mid new keeps adds = record {
   calls = adds.calls ∙ ap (λ cs. cs ++ c ∷ []) (keeps.calls t);
   missed = adds.missed ∙ keeps.missed t;
@@ -149,26 +147,23 @@ missed_after t old mid new keeps adds = record {
 
 -- ---- what is kept of a step that was served
 
--- the turn of a receipt is the one at which the copy was made
-turn_of_served : (seat : ℕ) (step : Step) (served : Served) (h : IsServed seat step served) → served.receipt.turn ≡ h.turn
-turn_of_served seat step served h = ap (λ (r : Slip). r.turn) h.receipt
+pub keeps_call : (step : Step) (served : Served) (c : MadeCall) (t : List ℕ) (old mid new : SeatState) → IsServed step served
+    → served.mine ≡ Some c → KeepsLists old mid → AddsCall t c mid new → Keeps served.receipt.turn t step served.receipt old new
+keeps_call step served c t old mid new h is keeps adds = by h.turn h.receipt h.mine
+  where
+    by : (turn : Option ℕ) → served.receipt ≡ slip_of turn h.reply → served.mine ≡ call_at turn step h.reply → Keeps served.receipt.turn t step served.receipt old new
+    by None receipt mine = absurd (cc (is, mine))
+    by (Some turn) receipt mine =
+        let same : c ≡ call turn step h.reply = cc (is, mine) in
+        let made : AddsCall t (call turn step h.reply) mid new = subst (λ (x : MadeCall). AddsCall t x mid new) same adds in
+        subst (λ o. Keeps o t step served.receipt old new) (sym (ap (λ (r : Slip). r.turn) receipt))
+        ((h.reply, receipt, added_after t (call turn step h.reply) old mid new keeps made))
 
-pub keeps_call : (seat turn : ℕ) (step : Step) (served : Served) (e : Entry) (t : List ℕ) (old mid new : SeatState) → IsServed seat step served
-    → served.receipt.turn ≡ Some turn → served.mine ≡ Some e → KeepsLists old mid → AddsCall t (call turn e.step e.reply) mid new → Keeps served.receipt.turn t step served.receipt old new
-keeps_call seat turn step served e t old mid new h at mine keeps adds =
-    let turns : h.turn ≡ Some turn = sym (turn_of_served seat step served h) ∙ at in
-    let copied : served.mine ≡ Some (entry seat step h.reply) = h.mine ∙ ap (λ o. copy_at o (entry seat step h.reply)) turns in
-    let same : e ≡ entry seat step h.reply = cc (mine, copied) in
-    let made : AddsCall t (call turn step h.reply) mid new = subst (λ (x : Entry). AddsCall t (call turn x.step x.reply) mid new) same adds in
-    let told : served.receipt ≡ slip_of (Some turn) h.reply = h.receipt ∙ ap (λ o. slip_of o h.reply) turns in
-    subst (λ o. Keeps o t step served.receipt old new) (sym at) ((h.reply, told, added_after t (call turn step h.reply) old mid new keeps made))
-
-pub keeps_miss : (step : Step) (receipt : Slip) (t : List ℕ) (old mid new : SeatState) → receipt.turn ≡ None → KeepsLists old mid → AddsMissed t mid new → Keeps receipt.turn t step receipt old new
-keeps_miss step receipt t old mid new none keeps adds = subst (λ o. Keeps o t step receipt old new) (sym none) (missed_after t old mid new keeps adds)
-
--- a receipt with a turn has a copy
-pub has_copy : (seat turn : ℕ) (step : Step) (served : Served) → IsServed seat step served → served.receipt.turn ≡ Some turn → served.mine ≡ None → ⊥
-has_copy seat turn step served h at none =
-    let turns : h.turn ≡ Some turn = sym (turn_of_served seat step served h) ∙ at in
-    let copied : served.mine ≡ Some (entry seat step h.reply) = h.mine ∙ ap (λ o. copy_at o (entry seat step h.reply)) turns in
-    cc (none, copied)
+pub keeps_miss : (step : Step) (served : Served) (t : List ℕ) (old mid new : SeatState) → IsServed step served
+    → served.mine ≡ None → KeepsLists old mid → AddsMissed t mid new → Keeps served.receipt.turn t step served.receipt old new
+keeps_miss step served t old mid new h none keeps adds = by h.turn h.receipt h.mine
+  where
+    by : (turn : Option ℕ) → served.receipt ≡ slip_of turn h.reply → served.mine ≡ call_at turn step h.reply → Keeps served.receipt.turn t step served.receipt old new
+    by None receipt mine =
+        subst (λ o. Keeps o t step served.receipt old new) (sym (ap (λ (r : Slip). r.turn) receipt)) (missed_after t old mid new keeps adds)
+    by (Some turn) receipt mine = absurd (cc (none, mine))

@@ -127,8 +127,3 @@ with_entry_at (Some turn) a e = with_entry a e
 abbrev pub with_change_at : Option ℕ → ℕ → Log → Log
 with_change_at None quota a = a
 with_change_at (Some turn) quota a = with_change quota a
-
--- the copy for the caller, which is there if there is a turn
-abbrev pub copy_at : Option ℕ → Entry → Option Entry
-copy_at None e = None
-copy_at (Some turn) e = Some e

@@ -7,7 +7,7 @@ use Rattle.tenant_registry.specs.declared.close.Sheet.{Sheet}
 use Rattle.tenant_registry.specs.declared.close.Verdict.TheVariants as verdict
 use Rattle.tenant_registry.specs.declared.closed.CloseFault.{CloseFault}
 use Rattle.tenant_registry.specs.declared.closed.CloseFault.TheVariants as fault
-use Rattle.tenant_registry.specs.declared.tally.Call.{Call}
+use Rattle.tenant_registry.specs.declared.tally.MadeCall.{MadeCall}
 use Rattle.tenant_registry.specs.Audits.{Log, IsLawful, IsOpen, replies_from}
 use Rattle.tenant_registry.specs.Seats.{SeatState, calls_on}
 use Rattle.tenant_registry.specs.Closing.{AreApart, Agrees, HaveMissedNone, IsVerdict}
@@ -17,7 +17,7 @@ abbrev pub texts_of : Log → List Answer
 texts_of a = map text (replies_from a)
 
 -- at the turn of each of these calls stands the text of its reply, which is that of its receipt
-abbrev pub AreTold : Log → List Call → Type 0
+abbrev pub AreTold : Log → List MadeCall → Type 0
 AreTold a cs = AllByRecursion (λ c. slice_get (texts_of a) c.turn ≡ Some (text c.reply)) cs
 
 -- the audit of one tenant: lawful, it agrees with the seats, and while it is not full, they missed no call

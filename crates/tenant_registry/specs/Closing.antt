@@ -5,7 +5,7 @@ use Rattle.tenant_registry.specs.declared.audit.Entry.{Entry}
 use Rattle.tenant_registry.specs.declared.close.Sheet.{Sheet}
 use Rattle.tenant_registry.specs.declared.close.Verdict.{Verdict}
 use Rattle.tenant_registry.specs.declared.close.Verdict.TheVariants as verdict
-use Rattle.tenant_registry.specs.declared.tally.Call.{Call}
+use Rattle.tenant_registry.specs.declared.tally.MadeCall.{MadeCall}
 use Rattle.tenant_registry.specs.Audits.{Log, IsOpen, entry}
 use Rattle.tenant_registry.specs.Seats.{SeatState, call, calls_on, missed_on}
 
@@ -31,24 +31,24 @@ HaveMissedNone name seats = All (λ s. missed_on name s ≡ 0) seats
 -- ---- a seat's list and the entries
 
 -- the entries of one seat, in their order, each as a call at its place; the first place is `place`
-abbrev pub calls_by : ℕ → ℕ → List Entry → List Call
+abbrev pub calls_by : ℕ → ℕ → List Entry → List MadeCall
 calls_by seat place [] = []
 calls_by seat place (e ∷ es) =
     if seat == e.seat then call place e.step e.reply ∷ calls_by seat (place + 1) es
     else calls_by seat (place + 1) es
 
 -- the call's turn is not below `next`, and the entry there is this call of this seat
-pub record IsInPlace (seat next : ℕ) (es : List Entry) (c : Call) : Type 0 where
+pub record IsInPlace (seat next : ℕ) (es : List Entry) (c : MadeCall) : Type 0 where
   pub rises : next ≤ c.turn
   pub stands : slice_get es c.turn ≡ Some (entry seat c.step c.reply)
 
 -- these calls are all in place, at turns that rise from `next` on
-abbrev pub InOrder : ℕ → ℕ → List Entry → List Call → Type 0
+abbrev pub InOrder : ℕ → ℕ → List Entry → List MadeCall → Type 0
 InOrder seat next es [] = Unit {0}
 InOrder seat next es (c ∷ cs) = IsInPlace seat next es c × InOrder seat (c.turn + 1) es cs
 
 -- the first of these calls that is not in place has this turn
-abbrev pub BreaksAt : ℕ → ℕ → List Entry → List Call → ℕ → Type 0
+abbrev pub BreaksAt : ℕ → ℕ → List Entry → List MadeCall → ℕ → Type 0
 BreaksAt seat next es [] turn = ⊥
 BreaksAt seat next es (c ∷ cs) turn =
     ((c.turn ≡ turn) × (IsInPlace seat next es c → ⊥))

@@ -5,12 +5,12 @@ use Rattle.std.specs.Str.{bytes_eq}
 use Rattle.std.specs.Map.{lookup}
 use Rattle.etcd_types.specs.declared.step.Step.{Step}
 use Rattle.etcd_types.specs.declared.reply.Reply.{Reply}
-use Rattle.tenant_registry.specs.declared.tally.Call.{Call}
+use Rattle.tenant_registry.specs.declared.tally.MadeCall.{MadeCall}
 use Rattle.tenant_registry.specs.Receipts.{Slip, slip_of}
 
 -- the calls on one tenant that have a turn, how many have none, and how many more it takes without memory
 pub record TallyState : Type 0 where
-  pub calls : List Call
+  pub calls : List MadeCall
   pub missed : ℕ
   pub room : ℕ
 
@@ -23,8 +23,13 @@ pub record SeatState : Type 0 where
 abbrev pub seat_of : {A : Type 0} → ℕ → List (Vec ℕ A × TallyState) → SeatState
 seat_of number es = record { number = number; tallies = map (λ e. (e.0.items, e.1)) es }
 
-abbrev pub call : ℕ → Step → Reply → Call
+abbrev pub call : ℕ → Step → Reply → MadeCall
 call turn step reply = record { turn = turn; step = step; reply = reply }
+
+-- the call at a turn, if there is one
+abbrev pub call_at : Option ℕ → Step → Reply → Option MadeCall
+call_at None step reply = None
+call_at (Some turn) step reply = Some (call turn step reply)
 
 -- ---- what a seat has of a tenant
 
@@ -34,7 +39,7 @@ tally_on t s = lookup (bytes_eq t) s.tallies
 abbrev pub has_tally : List ℕ → SeatState → Bool
 has_tally t s = is_some (tally_on t s)
 
-abbrev pub calls_in : Option TallyState → List Call
+abbrev pub calls_in : Option TallyState → List MadeCall
 calls_in None = []
 calls_in (Some y) = y.calls
 
@@ -43,7 +48,7 @@ missed_in None = 0
 missed_in (Some y) = y.missed
 
 -- the calls that have a turn, in order
-abbrev pub calls_on : List ℕ → SeatState → List Call
+abbrev pub calls_on : List ℕ → SeatState → List MadeCall
 calls_on t s = calls_in (tally_on t s)
 
 -- how many have none
@@ -75,7 +80,7 @@ pub record KeepsOthers (tenant : List ℕ) (old new : SeatState) : Type 0 where
   pub missed : (t : List ℕ) → t ≢ tenant → missed_on t new ≡ missed_on t old
 
 -- one call more stands on the tenant's list, at its end
-pub record AddsCall (tenant : List ℕ) (c : Call) (old new : SeatState) : Type 0 where
+pub record AddsCall (tenant : List ℕ) (c : MadeCall) (old new : SeatState) : Type 0 where
   pub calls : calls_on tenant new ≡ calls_on tenant old ++ c ∷ []
   pub missed : missed_on tenant new ≡ missed_on tenant old
   pub others : KeepsOthers tenant old new

@@ -1,9 +1,8 @@
 //! What was served on a tenant, in order, from its opening on, with the quotas that it was given.
 ghost use Rattle.std.specs.Prelude.{◌≡◌, length, IfOk, OnErr, OnOk};
-ghost use Rattle.tenant_registry.specs.Audits.{copy_at, entry, opened_log, turn_of};
-ghost use Rattle.tenant_registry.specs.Audits.{with_change_at, with_entry_at};
+ghost use Rattle.tenant_registry.specs.Audits.{opened_log, turn_of, with_change_at, with_entry_at};
 
-use etcd_types::{CopyOf, Mem, Reply, Step};
+use etcd_types::{Mem, Reply, Step};
 use std::alloc::Global;
 use std::marker::Model;
 
@@ -27,28 +26,6 @@ pub struct Entry {
     pub seat: u8,
     pub step: Step,
     pub reply: Reply,
-}
-
-impl Entry {
-    /// A copy of the entry that a step has at its turn, if it has one.
-    pub(crate) fn copy_at(
-        alloc: Global,
-        turn: Option<u32>,
-        seat: u8,
-        step: &Step,
-        reply: &Reply,
-    ) -> Mem<Option<Entry>>
-        ensures { IfOk result (λ mine. mine ≡ copy_at turn (entry seat step.now reply.now)) }
-    {
-        match turn {
-            None => Ok(None),
-            Some(_) => Ok(Some(Entry {
-                seat,
-                step: step.copy_of(alloc)?,
-                reply: reply.copy_of(alloc)?,
-            })),
-        }
-    }
 }
 
 /// The steps that were served on a tenant, in order, up to a number of them, and the quotas that it was given

@@ -8,7 +8,7 @@ ghost use Rattle.tenant_registry.specs.Closing.{IsMatched, IsVerdict, made_on, t
 
 use crate::audit::{Audit, Entry, Opening};
 use crate::seat::Seat;
-use crate::tally::Call;
+use crate::tally::MadeCall;
 
 /// A tenant's audit, and what the tenant was opened with.
 #[derive(Drop)]
@@ -197,7 +197,7 @@ fn differs_at(sheet: &Sheet, seats: &[Seat]) -> Option<u32>
 }
 
 /// The turn of a seat's first call that is not in its place among the entries.
-fn breaks_at(entries: &[Entry], number: u8, calls: &[Call]) -> Option<u32>
+fn breaks_at(entries: &[Entry], number: u8, calls: &[MadeCall]) -> Option<u32>
     ensures { MatchOption result (InOrder number 0 entries.now calls.now)
         (λ turn. BreaksAt number 0 entries.now calls.now turn) }
 {
@@ -212,7 +212,7 @@ fn breaks_at(entries: &[Entry], number: u8, calls: &[Call]) -> Option<u32>
 }
 
 /// The entry at the call's turn is this call of this seat, and the turn is not below `next`.
-fn is_in_place(entries: &[Entry], number: u8, next: usize, call: &Call) -> bool
+fn is_in_place(entries: &[Entry], number: u8, next: usize, call: &MadeCall) -> bool
     ensures yes { result ≡ true → IsInPlace number next entries.now call.now }
     ensures no { result ≡ false → IsInPlace number next entries.now call.now → ⊥ }
 {

@@ -5,12 +5,14 @@ ghost use Rattle.etcd_model.specs.Held.{Holds};
 ghost use Rattle.etcd_types.specs.Limits.{max_quota};
 ghost use Rattle.tenant_machine.specs.Reserving.{reservation};
 ghost use Rattle.tenant_machine.specs.Tenants.{tenant};
-ghost use Rattle.tenant_registry.specs.Audits.{IsAllowed, IsLawful, copy_at, entry, opened_log, opening_of};
+ghost use Rattle.tenant_registry.specs.Audits.{IsAllowed, IsLawful, opened_log, opening_of};
 ghost use Rattle.tenant_registry.specs.Receipts.{is_cancel, slip_of, slot_of};
 ghost use Rattle.tenant_registry.specs.Resizing.{Resizes, Stays, lacks_segments, unresized};
+ghost use Rattle.tenant_registry.specs.Seats.{call_at};
 ghost use Rattle.tenant_registry.specs.Serving.{Serves};
 
 use crate::audit::{Audit, Entry, Opening};
+use crate::tally::MadeCall;
 use etcd_types::{Mem, Reply, Step};
 use gateway_text::write_reply;
 use segment_pool::Stock;
@@ -79,7 +81,7 @@ impl Receipt {
         self.slot
     }
 
-    /// The call was a take of a watch, which it found canceled.
+    /// The call was a take of a watch, which it found cancelled.
     pub fn canceled(&self) -> bool
         ensures { result ≡ self.now.canceled }
     {
@@ -122,18 +124,18 @@ fn is_cancel(reply: &Reply) -> bool
 #[derive(Drop)]
 pub struct Served {
     pub receipt: Receipt,
-    /// A copy of the audit's entry, for the caller, unless the audit was full.
-    pub mine: Option<Entry>,
+    /// The call as its seat keeps it, unless the audit was full.
+    pub(crate) mine: Option<MadeCall>,
 }
 
 impl Served {
     /// What a call is given of a reply.
-    fn of(alloc: Global, turn: Option<u32>, seat: u8, step: &Step, reply: &Reply) -> Mem<Served>
+    fn of(alloc: Global, turn: Option<u32>, step: &Step, reply: &Reply) -> Mem<Served>
         ensures receipt { IfOk result (λ served. served.receipt ≡ slip_of turn reply.now) }
-        ensures mine { IfOk result (λ served. served.mine ≡ copy_at turn (entry seat step.now reply.now)) }
+        ensures mine { IfOk result (λ served. served.mine ≡ call_at turn step.now reply.now) }
     {
         let receipt = Receipt::of(alloc, turn, reply)?;
-        let mine = Entry::copy_at(alloc, turn, seat, step, reply)?;
+        let mine = MadeCall::copy_at(alloc, turn, step, reply)?;
         Ok(Served { receipt, mine })
     }
 }
@@ -200,7 +202,7 @@ impl Kept {
         let turn = self.audit.next_turn();
         let planned = self.machine.plan(self.alloc, &step)?;
         let told = planned.reply();
-        let served = Served::of(self.alloc, turn, seat, &step, told)?;
+        let served = Served::of(self.alloc, turn, &step, told)?;
         let reply = self.machine.commit(&mut self.left, planned);
         self.audit.keep(Entry { seat, step, reply });
         Ok(served)

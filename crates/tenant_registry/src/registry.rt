@@ -20,7 +20,6 @@ use crate::gate::{Gate, pass};
 use crate::kept::{Kept, Receipt, Served};
 use crate::removing::{is_one_of, take_out};
 use crate::seat::Seat;
-use crate::tally::Call;
 use crate::tenant::Tenant;
 use etcd_types::limits::MAX_SEATS;
 use etcd_types::{Mem, Refusal, Step};
@@ -288,19 +287,10 @@ fn serve<R: Wait + Clock, G: Gate>(
 {
     seat.prepare(tenant)?;
     let Served { receipt, mine } = serve_locked(rt, gate, kept, tenant, seat.number(), step)?;
-    let Some(turn) = receipt.turn() else {
-        seat.miss(tenant);
-        return Ok(receipt);
-    };
-    let Some(entry) = mine else { unreachable!() };
-    seat.record(
-        tenant,
-        Call {
-            turn,
-            step: entry.step,
-            reply: entry.reply,
-        },
-    );
+    match mine {
+        Some(call) => seat.record(tenant, call),
+        None => seat.miss(tenant),
+    }
     Ok(receipt)
 }
 
@@ -313,7 +303,7 @@ fn serve_locked<R: Wait + Clock, G: Gate>(
     seat: u8,
     step: Step,
 ) -> Mem<Served>
-    ensures { IfOk result (λ served. IsServed seat step served) }
+    ensures { IfOk result (λ served. IsServed step served) }
 {
     let mut kept = kept.lock(rt);
     pass(rt, gate, tenant);

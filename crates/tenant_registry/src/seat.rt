@@ -3,7 +3,7 @@ ghost use Rattle.std.specs.Prelude.{◌≡◌, [], length, true, IfOk, OnOk};
 ghost use Rattle.tenant_registry.specs.Seats.{AddsCall, AddsMissed, HasRoomOn, KeepsLists, calls_on};
 ghost use Rattle.tenant_registry.specs.Seats.{has_tally, missed_on};
 
-use crate::tally::{Call, Tally};
+use crate::tally::{MadeCall, Tally};
 use etcd_types::Mem;
 use indexmap::IndexMap;
 use std::alloc::Global;
@@ -65,7 +65,7 @@ impl Seat {
     }
 
     /// Its calls on a tenant.
-    pub(crate) fn calls(&self, tenant: &[u8]) -> &[Call]
+    pub(crate) fn calls(&self, tenant: &[u8]) -> &[MadeCall]
         ensures { result.now ≡ calls_on tenant.now self.now }
     {
         match self.tallies.get(tenant) {
@@ -109,7 +109,7 @@ impl Seat {
     }
 
     /// Appends a call that has a turn.
-    pub(crate) fn record(&mut self, tenant: &[u8], call: Call)
+    pub(crate) fn record(&mut self, tenant: &[u8], call: MadeCall)
         requires { HasRoomOn tenant.now self.old }
         ensures { AddsCall tenant.now call self.old self.new }
     {

@@ -1,23 +1,44 @@
 //! A seat's list of its calls on one tenant.
-ghost use Rattle.std.specs.Prelude.{◌≡◌, ◌+◌, ◌-◌, ◌^◌, ◌++◌, ◌∷◌, [], length, min, OnOk};
-ghost use Rattle.tenant_registry.specs.Seats.{HasRoom};
+ghost use Rattle.std.specs.Prelude.{◌≡◌, ◌+◌, ◌-◌, ◌^◌, ◌++◌, ◌∷◌, [], length, min, IfOk, OnOk};
+ghost use Rattle.tenant_registry.specs.Seats.{HasRoom, call_at};
 
-use etcd_types::{Mem, Reply, Step};
+use etcd_types::{CopyOf, Mem, Reply, Step};
 use std::alloc::{AllocError, Global};
 use std::marker::Model;
 
 /// A call that has a turn: its place in the audit, what was asked, and what was answered.
 #[derive(Drop)]
-pub(crate) struct Call {
+pub(crate) struct MadeCall {
     pub(crate) turn: u32,
     pub(crate) step: Step,
     pub(crate) reply: Reply,
 }
 
+impl MadeCall {
+    /// A copy of the step and its reply, if it has a turn.
+    pub(crate) fn copy_at(
+        alloc: Global,
+        turn: Option<u32>,
+        step: &Step,
+        reply: &Reply,
+    ) -> Mem<Option<MadeCall>>
+        ensures { IfOk result (λ mine. mine ≡ call_at turn step.now reply.now) }
+    {
+        match turn {
+            None => Ok(None),
+            Some(turn) => Ok(Some(MadeCall {
+                turn,
+                step: step.copy_of(alloc)?,
+                reply: reply.copy_of(alloc)?,
+            })),
+        }
+    }
+}
+
 /// The calls on one tenant that have a turn, in order, and how many have none.
 #[derive(Drop)]
 pub(crate) struct Tally {
-    calls: Vec<Call>,
+    calls: Vec<MadeCall>,
     missed: u32,
 }
 
@@ -49,7 +70,7 @@ impl Tally {
     }
 
     /// The calls that have a turn.
-    pub(crate) fn calls(&self) -> &[Call]
+    pub(crate) fn calls(&self) -> &[MadeCall]
         ensures { result.now ≡ self.now.calls }
     {
         self.calls.as_slice()
@@ -82,7 +103,7 @@ impl Tally {
     }
 
     /// Appends a call that has a turn.
-    pub(crate) fn record(&mut self, call: Call)
+    pub(crate) fn record(&mut self, call: MadeCall)
         requires { HasRoom self.old }
         ensures calls { self.new.calls ≡ self.old.calls ++ call ∷ [] }
         ensures missed { self.new.missed ≡ self.old.missed }

@@ -142,8 +142,8 @@ struct Until<'a> {
 }
 
 impl Gate for Until<'_> {
-    fn wait_more(&self, tenant: &[u8], turn: u32) -> bool {
-        if turn >= 9_999 {
+    fn wait_more(&self, tenant: &[u8], asked: u32) -> bool {
+        if asked >= 9_999 {
             self.last.store(true, Ordering::SeqCst);
         }
         if tenant != b"one".as_slice() {

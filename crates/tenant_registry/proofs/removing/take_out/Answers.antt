@@ -1,8 +1,7 @@
-use Rattle.std.proofs.Common.{◌≡◌, ◌∙◌, ◌≤◌, ◌<◌, ◌+◌, ℕ, sym, ap, subst, refl, true≢false, is_some, List, length, None, Some, arith}
+use Rattle.std.proofs.Common.{◌≡◌, ◌∙◌, ℕ, sym, ap, subst, refl, true≢false, is_some, List, None, arith}
 use Rattle.std.specs.Option.{IsSome, option_map}
 use Rattle.std.specs.Map.{keys_of, lookup}
 use Rattle.std.proofs.lemmas.List.{length-map}
-use Rattle.std.specs.Str.{bytes_eq}
 use Rattle.std.proofs.lemmas.Map.Made.{lookup_key_passes}
 use Rattle.steps_core.proofs.Shown.{test}
 use Rattle.tenant_registry.specs.Registries.{tenants_of}

@@ -1,5 +1,5 @@
 use Rattle.std.proofs.Common.{◌≡◌, ◌∙◌, sym, ap, subst, IfErr, None}
-use Rattle.tenant_registry.specs.Adding.{IsUnadded, add_fault, config_fault, fault_beside}
+use Rattle.tenant_registry.specs.Adding.{IsUnadded, add_fault, config_fault}
 use Rattle.tenant_registry.specs.Registries.{tenants_of}
 use Rattle.tenant_registry.proofs.AddingLemmas.{added_if, can_admit, fault_shown, unadded, unadded_for_memory}
 use Rattle.tenant_registry.proofs.registry.Registry.add.Goals as goal
