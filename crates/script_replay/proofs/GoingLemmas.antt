@@ -14,8 +14,8 @@ use Rattle.std.specs.Prelude.{Result, Ok, Err, IsErr, IsErrAnd, ◌==◌}
 use borrow.Author.Tests.{eqb-true}
 use Rattle.script_replay.specs.declared.fault.ReplayFault.{ReplayFault}
 use Rattle.script_replay.specs.declared.fault.ReplayFault.TheVariants as fault
-use Rattle.script_replay.specs.declared.lines.Taken.{Taken}
-use Rattle.script_replay.specs.declared.lines.Taken.TheVariants.{Line, TooLong}
+use Rattle.script_replay.specs.declared.lines.TakenLine.{TakenLine}
+use Rattle.script_replay.specs.declared.lines.TakenLine.TheVariants.{Line, TooLong}
 use Rattle.steps_core.specs.Hosts.{HostState}
 use Rattle.script_replay.specs.Script.{Asked, Pool, Live, lines_of, read_line, read_lines, read_words}
 use Rattle.script_replay.specs.Answers.{answer_line}
@@ -31,7 +31,7 @@ use Rattle.script_replay.proofs.TurnLemmas.{none_told, read_more, told_more}
 
 -- ---- facts of values
 
-pub line_taken : (t : Taken) → (t ≡ TooLong → ⊥) → t ≡ Line
+pub line_taken : (t : TakenLine) → (t ≡ TooLong → ⊥) → t ≡ Line
 line_taken Line short = refl
 line_taken TooLong short = absurd (short refl)
 

@@ -14,7 +14,7 @@ use std::io::{BufRead, Error, ErrorKind, Write};
 
 /// What was taken of a script.
 #[derive(Clone, Copy, PartialEq, Eq)]
-pub(crate) enum Taken {
+pub(crate) enum TakenLine {
     /// A line with its newline, which the last may lack; at the script's end nothing.
     Line,
     /// The front of a line that is longer than a line may be.
@@ -45,23 +45,23 @@ impl<R: BufRead> Lines<R> {
         &mut self,
         writer: &mut W,
         line: &mut Vec<u8>,
-    ) -> Result<Taken, ReplayFault>
-        ensures line { result ≡ Ok Taken.Line → BeginsWithLine (R.remaining self.old.reader) line.new.items }
-        ensures rest { result ≡ Ok Taken.Line
+    ) -> Result<TakenLine, ReplayFault>
+        ensures line { result ≡ Ok TakenLine.Line → BeginsWithLine (R.remaining self.old.reader) line.new.items }
+        ensures rest { result ≡ Ok TakenLine.Line
             → DropsThrough (R.remaining self.old.reader) (R.remaining self.new.reader) 10 }
         ensures held { length line.new.items ≤ max_script_line + 1 }
-        ensures long { result ≡ Ok Taken.TooLong → BeginsTooLong (R.remaining self.old.reader) }
+        ensures long { result ≡ Ok TakenLine.TooLong → BeginsTooLong (R.remaining self.old.reader) }
         ensures written { Keeps (W.contents writer.old) (W.contents writer.new) }
         ensures fault { NamesNoLine result }
     {
         line.clear();
         for _ in 0..u64::MAX {
             if line.len() > MAX_SCRIPT_LINE {
-                return Ok(Taken::TooLong);
+                return Ok(TakenLine::TooLong);
             }
             let most = MAX_SCRIPT_LINE + 1 - line.len();
             if self.take_some(writer, most, line)? {
-                return Ok(Taken::Line);
+                return Ok(TakenLine::Line);
             }
         }
         Err(ReplayFault::Io)

@@ -4,7 +4,7 @@ ghost use Rattle.script_replay.specs.Written.{Replays};
 
 use crate::answer::write_answer;
 use crate::fault::ReplayFault;
-use crate::lines::{Lines, Taken, without_newline};
+use crate::lines::{Lines, TakenLine, without_newline};
 use crate::replay::Replay;
 use crate::script::read_line;
 use std::alloc::Global;
@@ -43,7 +43,7 @@ fn run_lines<R: BufRead, W: Write>(
     ensures { Replays (R.remaining lines.old.reader) (W.contents writer.old) (W.contents writer.new) result }
 {
     for n in 0..u32::MAX {
-        if let Taken::TooLong = lines.take_line(writer, text)? {
+        if let TakenLine::TooLong = lines.take_line(writer, text)? {
             return Err(ReplayFault::Line(n + 1));
         }
         if text.is_empty() {

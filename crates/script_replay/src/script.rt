@@ -4,7 +4,8 @@ ghost use Rattle.std.specs.Char.{is_ascii_digit};
 ghost use Rattle.std.specs.List.{list_all};
 ghost use Rattle.etcd_types.specs.Limits.{max_script_line};
 ghost use Rattle.script_replay.specs.Script.{asked_by, is_number, number_of, number_below, parts_of};
-ghost use Rattle.script_replay.specs.Script.{read_add, read_call_line, read_line, read_pool, read_remove, read_resize, read_words};
+ghost use Rattle.script_replay.specs.Script.{read_add, read_call_line, read_line, read_pool};
+ghost use Rattle.script_replay.specs.Script.{read_remove, read_resize, read_words};
 ghost use Rattle.script_replay.specs.Script.{read_event, read_take, read_drop, read_tick, read_catch_up};
 ghost use Rattle.script_replay.specs.Parted.{parts_by};
 
