@@ -11,7 +11,7 @@ use cell_arena::Segments;
 use etcd_types::limits::LAST_REVISION;
 use etcd_types::{CellNo, DeleteReq, KeyValue, Mem, PutReq, Step};
 use key_index::Records;
-use revision_store::{Plan, PlannedOp, Store};
+use revision_store::{Changes, Plan, PlannedOp, Store};
 use std::alloc::Global;
 use test_segments::Shelf;
 
@@ -88,14 +88,14 @@ impl Answers for CellStore {
 
 /// Writes the changes that a store keeps at revisions from this one on.
 fn write_since(text: &mut String, alloc: Global, store: &Store, revision: u64) -> Mem<()> {
-    write_changes(text, alloc, store, store.since(revision))
+    write_changes(text, alloc, store, &store.since(revision))
 }
 
-fn write_changes(text: &mut String, alloc: Global, store: &Store, changes: &[CellNo]) -> Mem<()>
+fn write_changes(text: &mut String, alloc: Global, store: &Store, changes: &Changes<'_>) -> Mem<()>
     requires { AllByRecursion (λ c. IsSome (cells store.now c)) changes.now }
 {
-    for cell in changes {
-        write_change(text, alloc, store, *cell)?;
+    for cell in changes.again() {
+        write_change(text, alloc, store, cell)?;
     }
     Ok(())
 }
