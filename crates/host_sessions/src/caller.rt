@@ -4,8 +4,7 @@ use etcd_types::{Refusal, Step};
 use std::alloc::Global;
 use std::rt::Clock;
 use std::sync::Wait;
-use tenant_machine::Hint;
-use tenant_registry::{Gate, Receipt, Registry, Seat};
+use tenant_registry::{Gate, Hint, Receipt, Registry, Seat};
 
 /// The registry, and the seat of the thread that calls it.
 #[derive(Drop)]

@@ -59,8 +59,6 @@ fn tick<R: Wait + Clock + Drop, G: Gate>(
     if let Some(desk) = floor.desks.get(place) {
         let desk = desk.lock(rt);
         let _ = caller.call(desk.name.as_slice(), Step::Tick(moment));
-        if !desk.watches.is_empty() {
-            floor.rota.call_for(rt, place, Duty::Takes);
-        }
+        desk.call_for_takes(rt, &floor.rota, place);
     }
 }

@@ -1,6 +1,7 @@
 //! What a tenant's turn is about: its callers' jobs, and its open watches.
 use crate::answer::Answer;
 use crate::feed::Outlet;
+use crate::rota::{Duty, Rota};
 use etcd_types::{Call, Step};
 use futures::channel::oneshot;
 use std::sync::Wait;
@@ -23,9 +24,9 @@ pub(crate) struct Job<R: Wait + Drop> {
     pub(crate) reply: oneshot::Sender<Answer<R>>,
 }
 
-/// A watch whose client is there.
+/// A watch whose client is there, and where its texts go.
 #[derive(Drop)]
-pub(crate) struct OpenWatch {
+pub(crate) struct WatchStream {
     pub(crate) slot: u8,
     pub(crate) outlet: Outlet,
 }
@@ -35,7 +36,16 @@ pub(crate) struct OpenWatch {
 pub(crate) struct Desk<R: Wait + Drop> {
     pub(crate) name: Vec<u8>,
     pub(crate) jobs: mpsc::Receiver<Job<R>>,
-    pub(crate) watches: Vec<OpenWatch>,
+    pub(crate) watches: Vec<WatchStream>,
     /// How many of its brief calls the loops leave to the workers, since an answer was long.
     pub(crate) left_to_workers: u32,
+}
+
+impl<R: Wait + Drop> Desk<R> {
+    /// Calls for the takes of its watches, if there are any. The tenant is that at this place.
+    pub(crate) fn call_for_takes(&self, rt: &R, rota: &Rota, place: usize) {
+        if !self.watches.is_empty() {
+            rota.call_for(rt, place, Duty::Takes);
+        }
+    }
 }

@@ -12,7 +12,7 @@ use crate::crew::Station;
 use crate::desk::Desk;
 use crate::doors::Route;
 use crate::rota::Duty;
-use crate::worker::may_tell;
+use crate::worker::may_give;
 use etcd_types::Step;
 use futures::channel::oneshot;
 use futures::ready;
@@ -96,8 +96,8 @@ impl<'x, R: Wait + Clock + Copy + Drop, G: Gate> Hatch<'x, R, G> {
                 Some(desk) => {
                     let mut desk = desk.lock(rt);
                     let told = answer_at(self.alloc, caller, &mut *desk, step);
-                    if may_tell(route.call) && !desk.watches.is_empty() {
-                        floor.rota.call_for(rt, place, Duty::Takes);
+                    if may_give(route.call) {
+                        desk.call_for_takes(rt, &floor.rota, place);
                     }
                     told
                 }

@@ -1,14 +1,13 @@
 //! The pump: from a tenant's watches to their clients.
 use crate::caller::Caller;
 use crate::crew::Station;
-use crate::desk::{Desk, OpenWatch};
+use crate::desk::{Desk, WatchStream};
 use crate::feed::NoPlace;
 use crate::rota::{Duty, Rota, Turn};
 use etcd_types::Step;
 use std::rt::Clock;
 use std::sync::Wait;
-use tenant_machine::Hint;
-use tenant_registry::{Gate, Seat};
+use tenant_registry::{Gate, Hint, Seat};
 
 /// Takes for the open watches of each tenant where that is due, until there are no more turns.
 pub(crate) fn pump<R: Wait + Clock + Copy + Drop, G: Gate>(station: Station<'_, R, G>) -> Seat {
@@ -43,10 +42,10 @@ fn take_turn<R: Wait + Clock + Drop, G: Gate>(
     if desk.watches.is_empty() {
         return;
     }
-    let Some(told) = caller.hint(desk.name.as_slice()) else {
+    let Some(hint) = caller.hint(desk.name.as_slice()) else {
         return;
     };
-    let all_answered = take_each(caller, desk, Some(&told));
+    let all_answered = take_each(caller, desk, Some(&hint));
     let Some(left) = caller.hint(desk.name.as_slice()) else {
         return;
     };
@@ -83,15 +82,15 @@ pub(crate) fn take_each<R: Wait + Clock + Drop, G: Gate>(
         let taken = if is_meant(hint, &watches[at]) {
             take(caller, name, &watches[at])
         } else {
-            Taken::Open
+            TakeOutcome::Open
         };
         match taken {
-            Taken::Open => at += 1,
-            Taken::NoMemory => {
+            TakeOutcome::Open => at += 1,
+            TakeOutcome::NoMemory => {
                 all_answered = false;
                 at += 1;
             }
-            Taken::Ended => {
+            TakeOutcome::Ended => {
                 let _ = watches.swap_remove(at);
             }
         }
@@ -99,7 +98,7 @@ pub(crate) fn take_each<R: Wait + Clock + Drop, G: Gate>(
     all_answered
 }
 
-fn is_meant(hint: Option<&Hint>, watch: &OpenWatch) -> bool {
+fn is_meant(hint: Option<&Hint>, watch: &WatchStream) -> bool {
     match hint {
         Some(hint) => hint.has(watch.slot) && watch.outlet.is_awaited(),
         None => true,
@@ -108,9 +107,9 @@ fn is_meant(hint: Option<&Hint>, watch: &OpenWatch) -> bool {
 
 /// What a take leaves of a watch.
 #[derive(Clone, Copy)]
-enum Taken {
+enum TakeOutcome {
     Open,
-    /// It was canceled, and its client has been told.
+    /// It was cancelled, and its client has been told.
     Ended,
     NoMemory,
 }
@@ -119,23 +118,23 @@ enum Taken {
 fn take<R: Wait + Clock + Drop, G: Gate>(
     caller: &mut Caller<'_, R, G>,
     tenant: &[u8],
-    watch: &OpenWatch,
-) -> Taken {
+    watch: &WatchStream,
+) -> TakeOutcome {
     let permit = match watch.outlet.permit() {
         Ok(permit) => permit,
-        Err(NoPlace::Taken) => return Taken::Open,
-        Err(NoPlace::Memory) => return Taken::NoMemory,
+        Err(NoPlace::Taken) => return TakeOutcome::Open,
+        Err(NoPlace::Memory) => return TakeOutcome::NoMemory,
     };
     let Ok(receipt) = caller.call(tenant, Step::Take(watch.slot)) else {
-        return Taken::NoMemory;
+        return TakeOutcome::NoMemory;
     };
     if receipt.body().is_empty() {
-        return Taken::Open;
+        return TakeOutcome::Open;
     }
     let taken = if receipt.canceled() {
-        Taken::Ended
+        TakeOutcome::Ended
     } else {
-        Taken::Open
+        TakeOutcome::Open
     };
     permit.send(receipt.into_body());
     taken

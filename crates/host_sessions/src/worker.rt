@@ -2,7 +2,7 @@
 use crate::answer::{Answer, AnswerBody, Text};
 use crate::caller::Caller;
 use crate::crew::Station;
-use crate::desk::{Ask, Desk, Job, OpenWatch};
+use crate::desk::{Ask, Desk, Job, WatchStream};
 use crate::feed::{Feed, Outlet};
 use crate::pump::take_each;
 use crate::rota::{Duty, Rota, Turn};
@@ -60,9 +60,9 @@ struct Bench<'a, R> {
 impl<R: Wait + Clock + Copy + Drop> Bench<'_, R> {
     /// Serves a few of a tenant's jobs. If there may be more, the tenant comes again behind the others.
     fn serve_jobs<G: Gate>(&self, caller: &mut Caller<'_, R, G>, desk: &mut Desk<R>) {
-        let mut told = 0usize;
+        let mut bytes = 0usize;
         for _ in 0..JOBS_A_TURN {
-            if told > BYTES_A_TURN {
+            if bytes > BYTES_A_TURN {
                 break;
             }
             let Ok(job) = desk.jobs.try_recv() else {
@@ -70,11 +70,11 @@ impl<R: Wait + Clock + Copy + Drop> Bench<'_, R> {
             };
             let Job { call, ask, reply } = job;
             let answer = self.answer(caller, desk, call, ask);
-            told = told.saturating_add(answer.len());
+            bytes = bytes.saturating_add(answer.len());
             // Where the client has gone, the call stays made.
             drop(reply.send(answer));
-            if may_tell(call) && !desk.watches.is_empty() {
-                self.rota.call_for(&self.rt, self.place, Duty::Takes);
+            if may_give(call) {
+                desk.call_for_takes(&self.rt, self.rota, self.place);
             }
         }
         self.rota.call_for(&self.rt, self.place, Duty::Jobs);
@@ -97,7 +97,7 @@ impl<R: Wait + Clock + Copy + Drop> Bench<'_, R> {
         match step {
             Step::Watch(_) => self.open(caller, desk, step),
             Step::Compact(_) => {
-                // A watch with nothing to tell moves on by being taken; else it would be canceled for what it
+                // A watch with nothing to tell moves on by being taken; else it would be cancelled for what it
                 // has only not been asked about.
                 if !take_each(caller, desk, None) {
                     return Answer::no_memory();
@@ -140,7 +140,7 @@ fn opened<R: Wait + Clock + Copy + Drop, G: Gate>(
     let Some(slot) = receipt.slot() else {
         return Answer::text(status, receipt.into_body());
     };
-    if desk.watches.push(OpenWatch { slot, outlet }).is_err() {
+    if desk.watches.push(WatchStream { slot, outlet }).is_err() {
         let _ = caller.call(desk.name.as_slice(), Step::DropWatch(slot));
         return Answer::no_memory();
     }
@@ -154,7 +154,7 @@ fn opened<R: Wait + Clock + Copy + Drop, G: Gate>(
 }
 
 /// A call after which a watch may have something to give.
-pub(crate) fn may_tell(call: Call) -> bool {
+pub(crate) fn may_give(call: Call) -> bool {
     match call {
         Call::Put | Call::DeleteRange | Call::Txn | Call::Compaction | Call::Watch | Call::Revoke =>
             true,
