@@ -220,7 +220,8 @@ impl<T: Copy> Shelf<T> {
     pub(crate) fn copy_on(&mut self, chunk: usize, keep: usize)
         requires chunk { chunk + 1 < length self.old.chunks }
         requires keep { keep ≤ length (chunk_at self.old.chunks chunk) }
-        ensures chunks { IsChanged self.old.chunks self.new.chunks (chunk + 1) (λ _. drop keep (chunk_at self.old.chunks chunk)) }
+        ensures chunks { IsChanged self.old.chunks self.new.chunks (chunk + 1)
+            (λ _. drop keep (chunk_at self.old.chunks chunk)) }
         ensures most { self.new.most ≡ self.old.most }
     {
         let span = self.spans[chunk];
@@ -237,7 +238,8 @@ impl<T: Copy> Shelf<T> {
     pub(crate) fn append_next(&mut self, chunk: usize)
         requires chunk { chunk + 1 < length self.old.chunks }
         requires few { size_of_two self.old.chunks chunk ≤ MOST }
-        ensures chunks { IsChanged self.old.chunks self.new.chunks chunk (λ p. p ++ chunk_at self.old.chunks (chunk + 1)) }
+        ensures chunks { IsChanged self.old.chunks self.new.chunks chunk
+            (λ p. p ++ chunk_at self.old.chunks (chunk + 1)) }
         ensures most { self.new.most ≡ self.old.most }
     {
         let span = self.spans[chunk];

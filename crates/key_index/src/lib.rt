@@ -12,9 +12,9 @@
 //! **The life of a key.** It is put at 2, put at 3, deleted at 4 and put at 6; revisions 5 and 7 change other
 //! keys. Its place stands among the live keys from 2 on, among the deleted ones from 4 on, and among the live
 //! ones again from 6 on. It has the put at 6 then, which is linked to the delete at 4, this to the put at 3,
-//! and this to the put at 2: 6 → 4 → 3 → 2. `at` answers the first on this way that is not above the revision asked for:
-//! nothing at 1, the put at 2, the put at 3, the delete at 4 and at 5, the put at 6 and at 7. Then come
-//! compactions, one after another:
+//! and this to the put at 2: 6 → 4 → 3 → 2. `at` answers the first on this way that is not above the revision
+//! asked for: nothing at 1, the put at 2, the put at 3, the delete at 4 and at 5, the put at 6 and at 7. Then
+//! come compactions, one after another:
 //!
 //! | compaction at | drops | leaves | because | then `at` that revision is |
 //! |---|---|---|---|---|
@@ -24,9 +24,9 @@
 //! | 6 | nothing | 6 | the put at 6 is from 6 on | the put at 6 |
 //! | 7 | nothing | 6 | the last up to 7 is a put | the put at 6 |
 //!
-//! Once the key is deleted at 8, its place has that delete, 8 → 6, and stands among the deleted ones. A compaction at 8 drops the put at 6,
-//! since the last up to 8 is the delete, which is at 8 itself and stays. One at 9 drops the delete, and the
-//! key loses its place.
+//! Once the key is deleted at 8, its place has that delete, 8 → 6, and stands among the deleted ones. A
+//! compaction at 8 drops the put at 6, since the last up to 8 is the delete, which is at 8 itself and stays.
+//! One at 9 drops the delete, and the key loses its place.
 #![tactic(auto)]
 
 mod compaction;
