@@ -1,4 +1,6 @@
 //! From the configuration to the end.
+ghost use Rattle.std.specs.Prelude.{◌≡◌, ◌≢◌, IfErr};
+
 use crate::fault::HostFault;
 use etcd_types::limits::MAX_CONFIG;
 use host_sessions::{Config, Ended, Sessions, read_config};
@@ -99,7 +101,10 @@ fn configured<R: Input>(rt: &R, alloc: Global) -> Result<Config, HostFault> {
 }
 
 /// Why no registry was made: what speaks against its tenants, or want of memory.
-fn refused(fault: OperatorFault) -> HostFault {
+fn refused(fault: OperatorFault) -> HostFault
+    ensures memory { fault ≡ OperatorFault.Memory → result ≡ HostFault.Memory }
+    ensures config { fault ≢ OperatorFault.Memory → result ≡ HostFault.Config }
+{
     match fault {
         OperatorFault::Memory => HostFault::Memory,
         _ => HostFault::Config,
@@ -107,7 +112,9 @@ fn refused(fault: OperatorFault) -> HostFault {
 }
 
 /// So many seats of a registry.
-fn seats(alloc: Global, registry: &mut Registry, count: usize) -> Result<Vec<Seat>, HostFault> {
+fn seats(alloc: Global, registry: &mut Registry, count: usize) -> Result<Vec<Seat>, HostFault>
+    ensures { IfErr result (λ fault. fault ≡ HostFault.Memory) }
+{
     let mut seats = Vec::new(alloc);
     for _ in 0..count {
         match registry.seat() {
