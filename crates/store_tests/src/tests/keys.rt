@@ -97,8 +97,17 @@ impl Changes {
         Some(cell.number())
     }
 
+    /// Compacts the key of each record.
     fn cut(&mut self, revision: u64) {
-        self.index.cut(&mut self.records, revision);
+        for place in 0..64 {
+            self.cut_at(CellNo::at(0, place), revision);
+        }
+    }
+
+    fn cut_at(&mut self, cell: CellNo, revision: u64) {
+        if self.records.has(cell) {
+            self.index.cut_key(&mut self.records, cell, revision);
+        }
     }
 
     fn has(&self, place: usize) -> bool {
