@@ -31,9 +31,9 @@ counts_end cells until [] some rises = tt
 counts_end cells until (c ∷ cs) some rises =
     let e = which (cells c) (some 0 0 (omega arith)) in (
       λ off. all_from_places (λ z. has_within cells until z ≡ false) cs (λ j lt. (
-      let f = which (cells (get_or cs j 0)) (some (suc j) 0 (omega (arith, lt))) in
-      let le = rises_along cells (c ∷ cs) some rises 0 (suc j) e.0 f.0 (omega arith) (omega (arith, lt)) e.1 f.1 in
-      within_is cells until (get_or cs j 0) f.0 f.1 ∙ within_below until e.0.change.revision f.0.change.revision le (sym (within_is cells until c e.0 e.1) ∙ off))),
+          let f = which (cells (get_or cs j 0)) (some (suc j) 0 (omega (arith, lt))) in
+          let le = rises_along cells (c ∷ cs) some rises 0 (suc j) e.0 f.0 (omega arith) (omega (arith, lt)) e.1 f.1 in
+          within_is cells until (get_or cs j 0) f.0 f.1 ∙ within_below until e.0.change.revision f.0.change.revision le (sym (within_is cells until c e.0 e.1) ∙ off))),
       counts_end cells until cs (All-tail (λ x. is_some (cells x) ≡ true) c cs some) (subst Rises (changes_some cells c e.0 cs e.1) rises).1,
     )
 

@@ -220,7 +220,6 @@ module _ (m now : Cells) (st cs : List ℕ) (revision i : ℕ) (chained_m : IsCh
           ])
           ∙ filters_both (λ s. is_some (now s)) (is_other d) st
 
-
     -- what is left of the settled ones are those with records
     pub order_visited : (left after : List ℕ) → left ≡ with_records now st → after ≡ without_cell f.older left → after ≡ with_records new st
     order_visited left after order visited = by f.older refl visited

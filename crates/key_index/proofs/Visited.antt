@@ -74,11 +74,14 @@ AreOf m now = (c : ℕ) (e : Linked) → now c ≡ Some e → (f : Linked) × (m
 pub kept_of_fewer : (m now : Cells) (revision : ℕ) → AreOf m now → (x : Recorded) → IsKept m revision x → IsKept now revision x
 kept_of_fewer m now revision back x kept = elim kept [
   | inl from ↦ inl from
-  | inr p ↦ inr (p.0, λ b g has same low. (
-      let f = back b g has in
-      let rev : f.0.change.revision ≡ g.change.revision = ap (λ (y : Recorded). y.revision) f.2 in
-      let at_most = p.1 b f.0 f.1 (key_of f.0 g f.2 ∙ same) (omega (arith, low, rev)) in
-      omega (arith, at_most, rev)))
+  | inr p ↦ inr (
+    p.0,
+    λ b g has same low. (
+        let f = back b g has in
+        let rev : f.0.change.revision ≡ g.change.revision = ap (λ (y : Recorded). y.revision) f.2 in
+        let at_most = p.1 b f.0 f.1 (key_of f.0 g f.2 ∙ same) (omega (arith, low, rev)) in
+        omega (arith, at_most, rev)),
+  )
 ]
 
 -- a key that was done, and is compacted once more, is done

@@ -58,9 +58,9 @@ settling-preserved g c =
           let there : is_some (cells c.remove-cell.result) ≡ true = sym c.has.ensures ∙ w.if-has.true in
           let one : with_records cells (c.remove-cell.result ∷ []) ≡ c.remove-cell.result ∷ [] = filter_yes (λ x. is_some (cells x)) c.remove-cell.result [] there in
           let settled : w.append.new.self.items ≡ c.args.settled.now.items ++ with_records cells (take (i + 1) ys) =
-              w.append.ensures.items ∙ ap (λ (xs : List ℕ). xs ++ c.remove-cell.result ∷ []) c.settling.invariant.settled
-              ∙ append_assoc c.args.settled.now.items (with_records cells (take i ys)) (c.remove-cell.result ∷ [])
-              ∙ ap (λ (xs : List ℕ). c.args.settled.now.items ++ xs) (ap (λ (xs : List ℕ). with_records cells (take i ys) ++ xs) (sym one) ∙ sym more) in
+          w.append.ensures.items ∙ ap (λ (xs : List ℕ). xs ++ c.remove-cell.result ∷ []) c.settling.invariant.settled
+          ∙ append_assoc c.args.settled.now.items (with_records cells (take i ys)) (c.remove-cell.result ∷ [])
+          ∙ ap (λ (xs : List ℕ). c.args.settled.now.items ++ xs) (ap (λ (xs : List ℕ). with_records cells (take i ys) ++ xs) (sym one) ∙ sym more) in
           let longer = ap (λ (xs : List ℕ). length xs) w.append.ensures.items ∙ length-append c.settling.settled.items (c.remove-cell.result ∷ []) in
           rw w.settled-is (record {
             recent = c.remove-cell.ensures.items ∙ out.0;
@@ -73,8 +73,8 @@ settling-preserved g c =
           let none : is_some (cells c.remove-cell.result) ≡ false = sym c.has.ensures ∙ w.if-has.false in
           let without : with_records cells (c.remove-cell.result ∷ []) ≡ [] = filter_no (λ x. is_some (cells x)) c.remove-cell.result [] none in
           let settled : c.settling.settled.items ≡ c.args.settled.now.items ++ with_records cells (take (i + 1) ys) =
-              c.settling.invariant.settled
-              ∙ ap (λ (xs : List ℕ). c.args.settled.now.items ++ xs) (sym (append-nil (with_records cells (take i ys))) ∙ ap (λ (xs : List ℕ). with_records cells (take i ys) ++ xs) (sym without) ∙ sym more) in
+          c.settling.invariant.settled
+          ∙ ap (λ (xs : List ℕ). c.args.settled.now.items ++ xs) (sym (append-nil (with_records cells (take i ys))) ∙ ap (λ (xs : List ℕ). with_records cells (take i ys) ++ xs) (sym without) ∙ sym more) in
           rw w.settled-is (record {
             recent = c.remove-cell.ensures.items ∙ out.0;
             settled = settled;

@@ -61,4 +61,3 @@ pub returns-clause-done : goal.returns-clause-done
 returns-clause-done g c =
     let all : c.visiting._visited ≡ c.args.count = search rules in
     subst (AreDone (g.R.Records.cells c.args.records.now) (g.R.Records.cells c.visiting.records) c.args.recent.now.items c.args.revision) all c.visiting.invariant.visiting.done
-
