@@ -5,4 +5,4 @@ use Rattle.store_tests.proofs.tests.cell_store.write_since.Goals as goal
 
 pub write_changes-requires : goal.write_changes-requires
 write_changes-requires c =
-    all_there (cells c.args.store.now) c.since.result.now (since c.args.revision c.args.store.now.kept.changes) c.since.ensures
+    all_there (cells c.args.store.now) c.since.result (since c.args.revision c.args.store.now.kept.changes) c.since.ensures
