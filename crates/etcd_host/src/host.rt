@@ -1,5 +1,5 @@
 //! From the configuration to the end.
-ghost use Rattle.std.specs.Prelude.{◌≡◌, ◌≢◌, IfErr};
+ghost use Rattle.std.specs.Prelude.{◌≡◌, ◌≢◌, IfErr, IfOk, length};
 
 use crate::fault::HostFault;
 use etcd_types::limits::MAX_CONFIG;
@@ -113,10 +113,11 @@ fn refused(fault: OperatorFault) -> HostFault
 
 /// So many seats of a registry.
 fn seats(alloc: Global, registry: &mut Registry, count: usize) -> Result<Vec<Seat>, HostFault>
-    ensures { IfErr result (λ fault. fault ≡ HostFault.Memory) }
+    ensures count { IfOk result (λ seats. length seats.items ≡ count) }
+    ensures fault { IfErr result (λ fault. fault ≡ HostFault.Memory) }
 {
     let mut seats = Vec::new(alloc);
-    for _ in 0..count {
+    'seating: for _seated in 0..count {
         match registry.seat() {
             Ok(seat) => {
                 if seats.push(seat).is_err() {
