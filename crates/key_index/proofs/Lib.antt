@@ -23,3 +23,5 @@ pub mod Settled
 pub mod Listing
 pub mod Turned
 pub mod Parted
+pub mod Chains
+pub mod Both

@@ -1,10 +1,10 @@
 //! Compaction of the chain of a key.
-ghost use Rattle.std.specs.Prelude.{◌≡◌, ℕ, ◌+◌, ◌-◌, ◌<◌, ◌≤◌, List, length, slice_index};
+ghost use Rattle.std.specs.Prelude.{◌≡◌, ℕ, ◌+◌, ◌-◌, ◌<◌, ◌≤◌, List, length, slice_index, take};
 ghost use Rattle.std.specs.Prelude.{Option, Some, None, IsSome, is_some, true, false, ◌⊎◌};
-ghost use Rattle.chunk_list.specs.Chunked.{HasItem, position_of};
+ghost use Rattle.chunk_list.specs.Chunked.{HasItem, IsPlace, position_of};
 ghost use Rattle.key_index.specs.Links.{Linked, IsChained, IsNewest, IsOfKey, with_link, without};
 ghost use Rattle.key_index.specs.Index.{AreNewest, StayParted};
-ghost use Rattle.key_index.specs.Compaction.{CutsAt, DropsUpTo, GivesBack, IsCompactedAt};
+ghost use Rattle.key_index.specs.Compaction.{AreDone, CutsAt, DropsUpTo, GivesBack, IsCompactedAt};
 ghost use Rattle.key_index.specs.Compaction.{KeptAsDefined, Remains};
 
 use crate::records::{Records, RecordsMut};
@@ -49,6 +49,58 @@ pub(crate) fn cut_head<R: RecordsMut>(
     if !cut_chain(head, records, revision) {
         heads.remove(place);
     }
+}
+
+/// Compacts the chains of the heads of a list at a revision, and takes away the places of those of which none
+/// is left.
+pub(crate) fn cut_heads<R: RecordsMut>(
+    heads: &mut ChunkList<CellNo>,
+    records: &mut R,
+    revision: u64,
+)
+    requires chained { IsChained (R.cells records.old) }
+    requires newest { AreNewest (R.cells records.old) heads.old.items }
+
+    ensures room { heads.new.room ≡ heads.old.room }
+    ensures parted { StayParted (R.cells records.old) heads.old.items (R.cells records.new) heads.new.items }
+    ensures chained { IsChained (R.cells records.new) }
+    ensures done { AreDone (R.cells records.old) (R.cells records.new)
+        heads.old.items revision (length heads.old.items) }
+    ensures free { GivesBack R.cost (R.cells records.old) (R.cells records.new)
+        (R.free records.old) (R.free records.new) }
+    ensures rest { R.same_rest records.old records.new }
+{
+    let left = cut_chains(heads, records, revision);
+    heads.truncate(left);
+}
+
+/// The same, but that the heads of which any is left are moved to the front, up to a place.
+fn cut_chains<R: RecordsMut>(heads: &mut ChunkList<CellNo>, records: &mut R, revision: u64) -> Place
+    requires chained { IsChained (R.cells records.old) }
+    requires newest { AreNewest (R.cells records.old) heads.old.items }
+
+    ensures place { IsPlace heads.new.sizes result }
+    ensures room { heads.new.room ≡ heads.old.room }
+    ensures parted { StayParted (R.cells records.old) heads.old.items (R.cells records.new)
+        (take (position_of heads.new.sizes result) heads.new.items) }
+    ensures chained { IsChained (R.cells records.new) }
+    ensures done { AreDone (R.cells records.old) (R.cells records.new)
+        heads.old.items revision (length heads.old.items) }
+    ensures free { GivesBack R.cost (R.cells records.old) (R.cells records.new)
+        (R.free records.old) (R.free records.new) }
+    ensures rest { R.same_rest records.old records.new }
+{
+    let mut read = heads.start();
+    let mut left = heads.start();
+    'cutting: for _read in 0..heads.len() {
+        let head = heads.get(read);
+        read = heads.next(read);
+        if cut_chain(head, records, revision) {
+            heads.set(left, head);
+            left = heads.next(left);
+        }
+    }
+    left
 }
 
 /// Compacts the chain of a head at a revision, and says whether any of it is left.

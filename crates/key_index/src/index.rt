@@ -2,12 +2,12 @@
 ghost use Rattle.std.specs.Prelude.{◌≡◌, ◌+◌, ◌<◌, ◌≤◌, length, [], max};
 ghost use Rattle.std.specs.Prelude.{MatchOption, IfOk, IfSome, IsOk, IsSome, OnOk, OnErr};
 ghost use Rattle.key_index.specs.Links.{IsChained, IsLast, IsPlaced, NoneUpTo, SameChanges, without};
-ghost use Rattle.key_index.specs.Compaction.{GivesBack, IsCompactedAt};
+ghost use Rattle.key_index.specs.Compaction.{GivesBack, IsCompacted, IsCompactedAt};
 ghost use Rattle.key_index.specs.Index.{AreHeadsIn, AreParted, IsHeadOf, IsIndexOf, IsSpread};
 ghost use Rattle.key_index.specs.Index.{NoneOfKey, is_put_of, key_count};
 ghost use Rattle.key_index.specs.Moving.{IsMoved};
 
-use crate::compaction::cut_head;
+use crate::compaction::{cut_head, cut_heads};
 use crate::records::{Records, RecordsMut};
 use crate::search::{Sought, last_up_to, search};
 use crate::span::span;
@@ -152,6 +152,22 @@ impl KeyIndex {
                 Err(_) => unreachable!(),
             },
         }
+    }
+    /// The same of all keys.
+    pub fn cut<R: RecordsMut>(&mut self, records: &mut R, revision: u64)
+        requires index { IsIndexOf (R.cells records.old) self.old.live self.old.dead }
+        requires chained { IsChained (R.cells records.old) }
+
+        ensures index { IsIndexOf (R.cells records.new) self.new.live self.new.dead }
+        ensures chained { IsChained (R.cells records.new) }
+        ensures compacted { IsCompacted (R.cells records.old) (R.cells records.new) revision }
+        ensures capacity { self.new.capacity ≡ self.old.capacity }
+        ensures free { GivesBack R.cost (R.cells records.old) (R.cells records.new)
+            (R.free records.old) (R.free records.new) }
+        ensures rest { R.same_rest records.old records.new }
+    {
+        cut_heads(&mut self.live, records, revision);
+        cut_heads(&mut self.dead, records, revision);
     }
 }
 

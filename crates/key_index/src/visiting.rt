@@ -1,4 +1,5 @@
-//! A compaction of all keys. It visits the changes since the last one, up to its revision, and no others.
+//! A compaction of all keys. It visits the changes since the last one, up to its revision, and no others; unless they
+//! are so many that one walk over all keys is faster.
 //!
 //! The cells of all records stand in two lists, in the order of their changes. The first has the settled ones: what
 //! compactions went over and left, from below their revisions. They are puts, and each is the first record of its
@@ -17,7 +18,7 @@ ghost use Rattle.std.specs.List.{All};
 ghost use Rattle.chunk_list.specs.Chunked.{TurnsAt};
 ghost use Rattle.key_index.specs.Links.{IsChained};
 ghost use Rattle.key_index.specs.Index.{IsIndexOf};
-ghost use Rattle.key_index.specs.Compaction.{AreDone, GivesBack, IsCompacted, times};
+ghost use Rattle.key_index.specs.Compaction.{GivesBack, IsCompacted, times};
 ghost use Rattle.key_index.specs.Order.{AreAll, AreSettled, IsInOrder, with_records};
 ghost use Rattle.key_index.specs.declared.visiting.Until.TheVariants.{Through};
 ghost use Rattle.key_index.specs.Visiting.{Visits, has_within, is_within, without_cell};
@@ -26,6 +27,9 @@ use crate::index::KeyIndex;
 use crate::records::{Records, RecordsMut};
 use chunk_list::{ChunkList, Test};
 use etcd_types::CellNo;
+
+/// A visit looks a key up, which takes about as long as a walk over all keys takes for so many of them.
+const VISIT: usize = 32;
 
 /// Up to which revision changes count: below it, or through it.
 #[derive(Clone, Copy)]
@@ -65,8 +69,51 @@ pub fn cut_changes<R: RecordsMut>(
 {
     let passed = count_until(recent, records, Until::Through(revision));
     let below = count_until(recent, records, Until::Before(revision));
-    visit_all(index, settled, recent, records, passed, revision);
+    drop_all(index, settled, recent, records, passed, revision);
     settle(settled, recent, records, below);
+}
+
+/// Drops the records that a compaction doesn't keep, by visits of so many recent changes, which are those through
+/// the revision; or by one walk over all keys, where there are so many that the visits would take longer.
+fn drop_all<R: RecordsMut>(
+    index: &mut KeyIndex,
+    settled: &mut ChunkList<CellNo>,
+    recent: &ChunkList<CellNo>,
+    records: &mut R,
+    count: usize,
+    revision: u64,
+)
+    requires index { IsIndexOf (R.cells records.old) index.old.live index.old.dead }
+    requires chained { IsChained (R.cells records.old) }
+    requires all { AreAll (R.cells records.old) (settled.old.items ++ recent.now.items) }
+    requires rises { IsInOrder (R.cells records.old) (settled.old.items ++ recent.now.items) }
+    requires settled { AreSettled (R.cells records.old) settled.old.items }
+    requires turns { TurnsAt (has_within (R.cells records.old) (Through revision)) recent.now.items count }
+
+    ensures index { IsIndexOf (R.cells records.new) index.new.live index.new.dead }
+    ensures chained { IsChained (R.cells records.new) }
+    ensures compacted { IsCompacted (R.cells records.old) (R.cells records.new) revision }
+    ensures order { settled.new.items ≡ with_records (R.cells records.new) settled.old.items }
+    ensures capacity { index.new.capacity ≡ index.old.capacity }
+    ensures room { settled.new.room ≡ settled.old.room }
+    ensures free { GivesBack R.cost (R.cells records.old) (R.cells records.new)
+        (R.free records.old) (R.free records.new) }
+    ensures rest { R.same_rest records.old records.new }
+{
+    if count < settled.len() / VISIT + recent.len() / VISIT {
+        visit_all(index, settled, recent, records, count, revision);
+    } else {
+        index.cut(records, revision);
+        keep_recorded(settled, records);
+    }
+}
+
+/// Leaves the cells of an order that have a record.
+fn keep_recorded<R: Records>(order: &mut ChunkList<CellNo>, records: &R)
+    ensures items { order.new.items ≡ with_records (R.cells records.now) order.old.items }
+    ensures room { order.new.room ≡ order.old.room }
+{
+    order.retain(&HasRecord { records });
 }
 
 /// Visits so many of the recent changes, which are those through the revision.
@@ -87,7 +134,7 @@ fn visit_all<R: RecordsMut>(
 
     ensures index { IsIndexOf (R.cells records.new) index.new.live index.new.dead }
     ensures chained { IsChained (R.cells records.new) }
-    ensures done { AreDone (R.cells records.old) (R.cells records.new) recent.now.items revision count }
+    ensures compacted { IsCompacted (R.cells records.old) (R.cells records.new) revision }
     ensures order { settled.new.items ≡ with_records (R.cells records.new) settled.old.items }
     ensures capacity { index.new.capacity ≡ index.old.capacity }
     ensures room { settled.new.room ≡ settled.old.room }
@@ -185,6 +232,24 @@ fn count_until<R: Records>(order: &ChunkList<CellNo>, records: &R, until: Until)
 {
     let end = order.search(&HasWithin { records, until });
     order.count_between(order.start(), end)
+}
+
+/// Whether a cell has a record.
+#[derive(Drop)]
+struct HasRecord<'a, R> {
+    records: &'a R,
+}
+
+impl<'a, R: Records> Test<CellNo> for HasRecord<'a, R> {
+    ghost use Rattle.std.specs.Prelude.{is_some};
+
+    ghost can = { λ s c. Unit {0} };
+
+    ghost test = { λ s c. is_some (R.cells s.records.now c) };
+
+    fn holds(&self, cell: CellNo) -> bool {
+        self.records.has(cell)
+    }
 }
 
 /// Whether the change under a cell is at a revision that counts.

@@ -2,7 +2,8 @@ use Rattle.std.proofs.Common.{rules, ◌≡◌, ℕ, ◌<◌, length, get_or, re
 use Rattle.std.proofs.lemmas.List.{get_or_default}
 use Rattle.key_index.specs.Compaction.{AreDone}
 use Rattle.key_index.proofs.Costs.{gives_nothing, gives_then}
-use Rattle.key_index.proofs.Visits.{left_rises, left_some, linked_once, low_through, visited, visiting_none}
+use Rattle.key_index.proofs.Passed.{all_passed}
+use Rattle.key_index.proofs.Visits.{later_through, left_rises, left_some, linked_once, low_through, visited, visiting_none}
 use Rattle.key_index.proofs.visiting.visit_all.Goals as goal
 
 pub visiting-init : goal.visiting-init
@@ -57,7 +58,12 @@ visiting-preserved g c =
       rest = g.met.R.RecordsMut.joins _ _ _ c.visiting.invariant.rest c.visit.ensures.rest;
     }
 
-pub returns-clause-done : goal.returns-clause-done
-returns-clause-done g c =
+pub returns-clause-compacted : goal.returns-clause-compacted
+returns-clause-compacted g c =
+    let m = g.R.Records.cells c.args.records.now in
+    let now = g.R.Records.cells c.visiting.records in
+    let st = c.args.settled.now.items in
+    let cs = c.args.recent.now.items in
     let all : c.visiting._visited ≡ c.args.count = search rules in
-    subst (AreDone (g.R.Records.cells c.args.records.now) (g.R.Records.cells c.visiting.records) c.args.recent.now.items c.args.revision) all c.visiting.invariant.visiting.done
+    let done = subst (AreDone m now cs c.args.revision) all c.visiting.invariant.visiting.done in
+    all_passed m now st cs c.args.revision c.args.count c.requires.all c.requires.settled done (later_through m cs c.args.revision c.args.count c.requires.turns)
