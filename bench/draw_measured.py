@@ -9,6 +9,10 @@ from draw_tables import Spread, number, read_table, rows_named, spread
 CALLS = ["puts", "reads of a key", "ranges of 100 rows"]
 STORE_WORK = ["get a key", "get a range of 100 keys", "overwrite a key", "put a new key"]
 STORE_BELOW = "With values of 32 bytes:"
+GROWTH_SIZES = ["1,000 keys", "10,000 keys", "100,000 keys", "240,000 keys"]
+GROWTH_FIRST = ["10,000 keys, at first", "240,000 keys, at first"]
+GROWTH_WORK = ["put a new key", "range of all keys, limit 1", "count of all keys", "compaction that drops nothing",
+               "overwrite and a compaction that drops one record"]
 LEASE_SIZES = ["1,000 leases", "10,000", "100,000"]
 LEASE_WORK = ["a revoke, with the lease's key", "a put with a lease", "a renewal", "a grant",
               "a tick at which nothing is due"]
@@ -70,4 +74,22 @@ def leases():
     panel = Panel(drawing, 44, 400, Scale(marks[0], marks[-1], 276, 88))
     frame(panel, "The replay program", "microseconds a line", marks)
     lines(panel, Scale(sizes[0], sizes[-1], 60, 390, True), sizes, "leases", series)
+    return drawing.written()
+
+
+def growth():
+    """What a line of a script takes with more and more keys, when that was first measured and now."""
+    picked = rows_named(read_table("Growth", ["microseconds of processor", *GROWTH_FIRST, *GROWTH_SIZES]), GROWTH_WORK)
+    drawing = headed(1100, 352, "A line of a script, beside more and more keys of one tenant")
+    marks = powers_around([number(cell) for (row,) in picked.values() for cell in row[1:]])
+    panels = [("When it was first measured", GROWTH_FIRST, 1), ("Now", GROWTH_SIZES, 1 + len(GROWTH_FIRST))]
+    for place, (title, columns, first) in enumerate(panels):
+        sizes = [number(name) for name in columns]
+        series = [(name, dict(zip(sizes, map(number, row[first:first + len(sizes)])))) for name, (row,) in picked.items()]
+        left = 60 + 540 * place
+        panel = Panel(drawing, left, left + 190, Scale(marks[0], marks[-1], 300, 88, True))
+        frame(panel, title, "microseconds a line", marks)
+        # Those too near to the last have no room for their number.
+        told = [size for size in sizes if size * 10 <= sizes[-1] or size == sizes[-1]]
+        lines(panel, Scale(sizes[0], sizes[-1], left + 8, left + 182, True), told, "keys", series)
     return drawing.written()
