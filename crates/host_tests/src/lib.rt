@@ -1,5 +1,4 @@
-//! Tests of one tenant's machine, of many tenants as one value, in steps and in bytes, and of scripts and their
-//! answers.
+//! Tests of many tenants as one value, in steps and in bytes, and of what the gateway reads and writes.
 #![tactic(auto)]
 
 #[cfg(test)]

@@ -1,6 +1,4 @@
-//! What a machine and a host answer, asked in steps, in bytes and in the lines of a script.
+//! What a host answers, asked in steps and in the lines of a script, and what the gateway reads and writes.
 mod front;
 mod gateway;
-mod machine;
-mod replay;
 mod steps;

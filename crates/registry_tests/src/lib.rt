@@ -1,5 +1,4 @@
-//! Tests of tenants under locks: calls, seats and threads by worked examples, and the worked rows by callers who
-//! take turns.
+//! Tests of tenants under locks: the worked rows, answered to callers who take turns.
 #![tactic(auto)]
 
 #[cfg(test)]

@@ -1,9 +1,7 @@
 //! The worked rows, answered through `Registry::call` by two seats in turn, and what no row asks.
 mod callers;
-mod calls;
 mod opening;
 mod operator;
-mod segments;
 
 use callers::Callers;
 use opening::registry_of;

@@ -1,6 +1,5 @@
-//! Tests of lists in chunks, the index of keys and the book of leases, by worked examples; and of stores of many
-//! versions: the plain one, which is the definition written down, and the one over cells answer the same steps
-//! alike, whichever segments the latter draws.
+//! Tests of stores of many versions: the plain one, which is the definition written down, and the one over cells
+//! answer the same steps alike, whichever segments the latter draws.
 #![tactic(auto)]
 
 #[cfg(test)]

@@ -1,12 +1,7 @@
 mod answers;
 mod asked;
 mod cell_store;
-mod chunks;
-mod interval;
-mod keys;
-mod leases;
 mod random;
-mod records;
 mod scripts;
 mod told;
 

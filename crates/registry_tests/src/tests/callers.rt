@@ -9,7 +9,7 @@ use std::process::Abort;
 use std::rt::Clock;
 use std::sync::Wait;
 use steps_core::OperatorFault;
-use tenant_registry::{Closed, OpenGate, Registry, Seat};
+use tenant_registry::{Closed, OpenGate, Receipt, Registry, Seat};
 
 /// A registry with two seats, and what their calls were answered.
 #[derive(Drop)]
@@ -156,9 +156,7 @@ impl Callers {
         tenant: &[u8],
         step: Step,
     ) -> Mem<()> {
-        let told = self
-            .registry
-            .call(rt, &mut self.next, &OpenGate, tenant, step);
+        let told = told_to(rt, &self.registry, &mut self.next, tenant, step);
         mem::swap(&mut self.next, &mut self.other);
         match told {
             Ok(receipt) => self.keep(alloc, receipt.status(), receipt.body()),
@@ -171,20 +169,39 @@ impl Callers {
         self.keep(alloc, status, &body)
     }
 
-    /// One answer line, which a body that ends with a newline ends itself.
+    /// One answer line.
     fn keep(&mut self, alloc: Global, status: u16, body: &[u8]) -> Mem<()> {
+        self.keep_status(alloc, status)?;
+        self.keep_body(body)
+    }
+
+    fn keep_status(&mut self, alloc: Global, status: u16) -> Mem<()> {
         let status = format!(in alloc; "{status}")?;
-        self.answers.extend_from_slice(status.as_bytes())?;
+        self.answers.extend_from_slice(status.as_bytes())
+    }
+
+    /// A space and the body, if there is one, and the line's end, which some bodies have.
+    fn keep_body(&mut self, body: &[u8]) -> Mem<()> {
         if !body.is_empty() {
             self.answers.push(b' ')?;
             self.answers.extend_from_slice(body)?;
         }
-        match body {
-            [.., b'\n'] => {}
-            _ => self.answers.push(b'\n')?,
+        if !body.ends_with(b"\n") {
+            self.answers.push(b'\n')?;
         }
         Ok(())
     }
+}
+
+/// What a seat is told. It stands by itself, since what a call promises is long.
+fn told_to<R: Wait + Clock>(
+    rt: &R,
+    registry: &Registry,
+    seat: &mut Seat,
+    tenant: &[u8],
+    step: Step,
+) -> Result<Receipt, Refusal> {
+    registry.call(rt, seat, &OpenGate, tenant, step)
 }
 
 /// A text before its first space, and what comes after it.

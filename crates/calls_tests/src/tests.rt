@@ -1,0 +1,166 @@
+//! Calls, turns, seats and closing, by worked examples.
+mod live;
+mod threads;
+
+use etcd_types::limits::MAX_SEATS;
+use etcd_types::{List, Mem, PutReq, Step};
+use std::alloc::Global;
+use std::process::Abort;
+use std::rt::Clock;
+use std::sync::Wait;
+use steps_core::OperatorFault;
+use tenant_registry::{
+    CloseFault, Closed, OpenGate, Receipt, Registry, Seat, SeatFault, TenantConfig,
+};
+
+/// The status and body of the first put of a tenant of cluster 7.
+const FIRST_PUT: &str =
+    r#"{"header":{"cluster_id":"7","member_id":"1","raft_term":"1","revision":"2"}}"#;
+
+fn put(alloc: Global) -> Mem<Step> {
+    Ok(Step::Put(put_request(alloc)?))
+}
+
+fn put_request(alloc: Global) -> Mem<PutReq> {
+    Ok(PutReq {
+        key: List::from_slice(alloc, b"foo")?,
+        value: List::from_slice(alloc, b"bar")?,
+        lease: 0,
+        prev_kv: false,
+        ignore_value: false,
+        ignore_lease: false,
+    })
+}
+
+fn config(alloc: Global, name: &str, cluster: u64, quota: u64, audit: u32) -> Mem<TenantConfig> {
+    Ok(TenantConfig {
+        name: Vec::from_slice(alloc, name.as_bytes())?,
+        cluster,
+        quota,
+        first: 1,
+        audit,
+    })
+}
+
+/// Two tenants: one of cluster 7 and 1,024 cells, two of cluster 8 and 2,048.
+fn two_configs(alloc: Global, audit: u32) -> Mem<Vec<TenantConfig>> {
+    let mut configs = Vec::new(alloc);
+    configs.push(config(alloc, "one", 7, 1024, audit)?)?;
+    configs.push(config(alloc, "two", 8, 2048, audit)?)?;
+    Ok(configs)
+}
+
+/// A registry of these two.
+fn two_tenants(alloc: Global, audit: u32) -> Result<Registry, OperatorFault> {
+    match two_configs(alloc, audit) {
+        Ok(configs) => Registry::new(alloc, configs, 64),
+        Err(_) => Err(OperatorFault::Memory),
+    }
+}
+
+/// A put on a tenant, which has a receipt.
+fn call<R: Wait + Clock + Abort>(
+    rt: &R,
+    alloc: Global,
+    registry: &Registry,
+    seat: &mut Seat,
+    tenant: &[u8],
+) -> Receipt {
+    let step = put(alloc).expect(rt, "memory");
+    registry
+        .call(rt, seat, &OpenGate, tenant, step)
+        .expect(rt, "the tenant is there")
+}
+
+/// The seats of a caller who is alone.
+fn alone(rt: &impl Abort, alloc: Global, seat: Seat) -> Vec<Seat> {
+    let mut seats = Vec::new(alloc);
+    seats.push(seat).expect(rt, "memory");
+    seats
+}
+
+/// A put on the first tenant has this place in its audit, and is answered as ever.
+fn assert_turn<R: Wait + Clock + Abort>(
+    rt: &R,
+    alloc: Global,
+    registry: &Registry,
+    seat: &mut Seat,
+    turn: Option<u32>,
+) {
+    let receipt = call(rt, alloc, registry, seat, b"one");
+    assert_eq!(rt; (receipt.turn(), receipt.status()), (turn, 200));
+}
+
+/// Three puts over an audit that takes two.
+fn fill_audit<R: Wait + Clock + Abort>(
+    rt: &R,
+    alloc: Global,
+    registry: &Registry,
+    seat: &mut Seat,
+) {
+    let first = call(rt, alloc, registry, seat, b"one");
+    assert_eq!(rt; (first.turn(), first.status()), (Some(0), 200));
+    assert!(rt; first.body() == FIRST_PUT.as_bytes());
+    assert_turn(rt, alloc, registry, seat, Some(1));
+    assert_turn(rt, alloc, registry, seat, None);
+    assert_eq!(rt; (seat.made(b"one"), seat.missed(b"one")), (2, 1));
+    assert_eq!(rt; (seat.made(b"two"), seat.missed(b"two")), (0, 0));
+}
+
+#[test]
+fn a_full_audit_serves_on(rt: HostRuntime) {
+    let mut registry = two_tenants(rt.alloc(), 2).expect(&rt, "two tenants");
+    let mut seat = registry.seat().expect(&rt, "a seat");
+    fill_audit(&rt, rt.alloc(), &registry, &mut seat);
+    let seats = alone(&rt, rt.alloc(), seat);
+    let Closed { audits } = registry.close(seats).expect(&rt, "the audits close");
+    assert_eq!(rt; audits.len(), 2);
+    assert_eq!(rt; audits[0].1.entries.len(), 2);
+    assert_eq!(rt; (audits[1].1.cluster, audits[1].1.quota), (8, 2048));
+}
+
+/// A call on a tenant that is not there is refused, and no seat counts it.
+fn assert_nobody<R: Wait + Clock + Abort>(
+    rt: &R,
+    alloc: Global,
+    registry: &Registry,
+    seat: &mut Seat,
+) {
+    let step = put(alloc).expect(rt, "memory");
+    let refused = registry.call(rt, seat, &OpenGate, b"three", step);
+    assert!(rt; matches!(&refused, Err(etcd_types::Refusal::NoTenant)));
+    assert_eq!(rt; seat.missed(b"three"), 0);
+}
+
+#[test]
+fn who_is_there(rt: HostRuntime) {
+    let mut registry = two_tenants(rt.alloc(), 0).expect(&rt, "two tenants");
+    assert!(rt; registry.has(b"two") && !registry.has(b"three"));
+    let mut seat = registry.seat().expect(&rt, "a seat");
+    assert_nobody(&rt, rt.alloc(), &registry, &mut seat);
+}
+
+#[test]
+fn seats_are_64(rt: HostRuntime) {
+    let mut registry = two_tenants(rt.alloc(), 0).expect(&rt, "two tenants");
+    for _ in 0..MAX_SEATS {
+        assert!(rt; registry.seat().is_ok());
+    }
+    assert!(rt; matches!(&registry.seat(), Err(SeatFault::Full)));
+}
+
+/// A seat of a registry of its own.
+fn seat_of_another(rt: &impl Abort, alloc: Global) -> Seat {
+    let mut other = two_tenants(alloc, 8).expect(rt, "two tenants");
+    other.seat().expect(rt, "a seat")
+}
+
+#[test]
+fn seats_of_two_registries(rt: HostRuntime) {
+    let mut registry = two_tenants(rt.alloc(), 8).expect(&rt, "two tenants");
+    let seat = registry.seat().expect(&rt, "a seat");
+    let mut seats = alone(&rt, rt.alloc(), seat);
+    let other = seat_of_another(&rt, rt.alloc());
+    seats.push(other).expect(&rt, "memory");
+    assert!(rt; matches!(&registry.close(seats), Err(CloseFault::Double(0))));
+}

@@ -1,0 +1,259 @@
+//! Several threads call one registry.
+use super::live::{is_replayed, is_text};
+use super::{call, put, two_tenants};
+use etcd_types::Mem;
+use std::alloc::Global;
+use std::process::Abort;
+use std::rt::Clock;
+use std::sync::Wait;
+use std::sync::atomic::{AtomicBool, Ordering};
+use std::thread::{self, Threads};
+use std::time::Duration;
+use tenant_registry::{CloseFault, Closed, Gate, Receipt, Registry, Seat};
+
+/// A caller's seat, with the receipts of its calls on the first tenant.
+#[derive(Drop)]
+struct Work {
+    seat: Seat,
+    receipts: Vec<Receipt>,
+}
+
+/// 100 calls of one seat, on two tenants in turn.
+fn make_calls<R: Wait + Clock + Abort>(
+    rt: &R,
+    alloc: Global,
+    registry: &Registry,
+    mut seat: Seat,
+) -> Work {
+    let mut receipts = Vec::new(alloc);
+    for _ in 0..50 {
+        let receipt = call(rt, alloc, registry, &mut seat, b"one");
+        receipts.push(receipt).expect(rt, "memory");
+        call(rt, alloc, registry, &mut seat, b"two");
+    }
+    Work { seat, receipts }
+}
+
+fn four_seats(rt: &impl Abort, alloc: Global, registry: &mut Registry) -> Vec<Seat> {
+    let mut seats = Vec::new(alloc);
+    for _ in 0..4 {
+        let seat = registry.seat().expect(rt, "a seat");
+        seats.push(seat).expect(rt, "memory");
+    }
+    seats
+}
+
+/// A thread for each seat, which makes 100 calls.
+fn work_of<R: Threads + Wait + Clock + Abort + Sync>(
+    rt: &R,
+    alloc: Global,
+    registry: &Registry,
+    seats: Vec<Seat>,
+) -> Vec<Work> {
+    thread::map_vec(rt, seats, &|seat| make_calls(rt, alloc, registry, seat)).expect(rt, "memory")
+}
+
+/// The seats and the receipts of such work, apart.
+fn parted(rt: &impl Abort, alloc: Global, work: Vec<Work>) -> (Vec<Seat>, Vec<Vec<Receipt>>) {
+    let mut seats = Vec::new(alloc);
+    let mut all = Vec::new(alloc);
+    for Work { seat, receipts } in work {
+        assert_eq!(rt; (seat.made(b"one"), seat.made(b"two")), (50, 50));
+        seats.push(seat).expect(rt, "memory");
+        all.push(receipts).expect(rt, "memory");
+    }
+    (seats, all)
+}
+
+/// The first tenant's entries of a seat have the texts of its receipts, in order.
+fn told_in_order(alloc: Global, closed: &Closed, number: usize, receipts: &[Receipt]) -> Mem<bool> {
+    let mut told = receipts.iter();
+    let Some(first) = closed.audits.first() else {
+        return Ok(false);
+    };
+    for entry in &first.1.entries {
+        if usize::from(entry.seat) == number {
+            match told.next() {
+                Some(receipt) if is_text(alloc, &entry.reply, receipt)? => {}
+                _ => return Ok(false),
+            }
+        }
+    }
+    Ok(told.next().is_none())
+}
+
+/// Each tenant's audit has the calls of four seats, and a new tenant answers them so.
+fn assert_lawful<R: Wait + Clock + Abort>(rt: &R, alloc: Global, closed: &Closed) {
+    for (_, audit) in &closed.audits {
+        assert_eq!(rt; audit.entries.len(), 200);
+        assert!(rt; is_replayed(rt, alloc, audit).expect(rt, "memory"));
+    }
+}
+
+fn assert_told(rt: &impl Abort, alloc: Global, closed: &Closed, receipts: &[Vec<Receipt>]) {
+    for (number, told) in receipts.iter().enumerate() {
+        let so = told_in_order(alloc, closed, number, told.as_slice());
+        assert!(rt; so.expect(rt, "memory"));
+    }
+}
+
+#[test]
+fn four_threads_close(rt: HostRuntime) {
+    let mut registry = two_tenants(rt.alloc(), 1000).expect(&rt, "two tenants");
+    let seats = four_seats(&rt, rt.alloc(), &mut registry);
+    let work = work_of(&rt, rt.alloc(), &registry, seats);
+    let (seats, receipts) = parted(&rt, rt.alloc(), work);
+    let closed = registry.close(seats).expect(&rt, "the audits close");
+    assert_lawful(&rt, rt.alloc(), &closed);
+    assert_told(&rt, rt.alloc(), &closed, receipts.as_slice());
+}
+
+/// The audit of a tenant has so many entries, and the seats have so many calls of it.
+fn is_mismatch(told: &Result<Closed, CloseFault>, name: &[u8], entries: u32, calls: u64) -> bool {
+    match told {
+        Err(
+            CloseFault::Mismatch {
+                tenant,
+                audit,
+                seats,
+            },
+        ) => tenant.as_slice() == name && *audit == entries && *seats == calls,
+        _ => false,
+    }
+}
+
+#[test]
+fn a_seat_that_is_kept_back_is_missed(rt: HostRuntime) {
+    let mut registry = two_tenants(rt.alloc(), 1000).expect(&rt, "two tenants");
+    let seats = four_seats(&rt, rt.alloc(), &mut registry);
+    let work = work_of(&rt, rt.alloc(), &registry, seats);
+    let (mut seats, _) = parted(&rt, rt.alloc(), work);
+    let _kept_back = seats.pop();
+    assert!(rt; is_mismatch(&registry.close(seats), b"one", 200, 150));
+}
+
+/// Holds calls on the first tenant until another call was answered.
+#[derive(Drop)]
+struct Until<'a> {
+    /// A call on the first tenant is held, under its lock.
+    held: &'a AtomicBool,
+    answered: &'a AtomicBool,
+    last: &'a AtomicBool,
+}
+
+impl Gate for Until<'_> {
+    fn wait_more(&self, tenant: &[u8], asked: u32) -> bool {
+        if asked >= 9_999 {
+            self.last.store(true, Ordering::SeqCst);
+        }
+        if tenant != b"one".as_slice() {
+            return false;
+        }
+        self.held.store(true, Ordering::SeqCst);
+        !self.answered.load(Ordering::SeqCst)
+    }
+}
+
+/// Waits until this is so, ten seconds at most.
+fn wait_for<R: Clock>(rt: &R, so: &AtomicBool) {
+    for _ in 0..10_000 {
+        if so.load(Ordering::SeqCst) {
+            return;
+        }
+        thread::sleep(rt, Duration::from_millis(1));
+    }
+}
+
+fn held_call<R: Wait + Clock + Abort>(
+    rt: &R,
+    alloc: Global,
+    registry: &Registry,
+    mut seat: Seat,
+    gate: &Until,
+    tenant: &[u8],
+) -> bool {
+    let step = put(alloc).expect(rt, "memory");
+    registry.call(rt, &mut seat, gate, tenant, step).is_ok()
+}
+
+/// Two calls on two tenants: the first is held under its lock until the second, which begins later, was
+/// answered.
+fn overlap<R: Threads + Wait + Clock + Abort + Sync>(
+    rt: &R,
+    alloc: Global,
+    registry: &Registry,
+    one: Seat,
+    two: Seat,
+) -> bool {
+    let held = AtomicBool::new(false);
+    let answered = AtomicBool::new(false);
+    let last = AtomicBool::new(false);
+    let gate = Until {
+        held: &held,
+        answered: &answered,
+        last: &last,
+    };
+    let (first, second) = thread::join(
+        rt,
+        || held_call(rt, alloc, registry, one, &gate, b"one"),
+        || {
+            wait_for(rt, &held);
+            let told = held_call(rt, alloc, registry, two, &gate, b"two");
+            answered.store(true, Ordering::SeqCst);
+            told
+        },
+    );
+    first && second && !last.load(Ordering::SeqCst)
+}
+
+#[test]
+fn two_tenants_overlap(rt: HostRuntime) {
+    let mut registry = two_tenants(rt.alloc(), 1).expect(&rt, "two tenants");
+    let one = registry.seat().expect(&rt, "a seat");
+    let two = registry.seat().expect(&rt, "a seat");
+    assert!(rt; overlap(&rt, rt.alloc(), &registry, one, two));
+}
+
+/// 100 quotas for the first tenant, which its cells in use come to pass.
+fn resize_often<R: Wait>(rt: &R, registry: &Registry) -> bool {
+    for turn in 0..100 {
+        let quota = if turn % 2 == 0 { 100 } else { 1024 };
+        if registry.resize(rt, b"one", quota).is_err() {
+            return false;
+        }
+    }
+    true
+}
+
+/// Threads that make calls, and one that resizes meanwhile.
+fn work_beside_resizes<R: Threads + Wait + Clock + Abort + Sync>(
+    rt: &R,
+    alloc: Global,
+    registry: &Registry,
+    seats: Vec<Seat>,
+) -> Vec<Work> {
+    let (work, resized) = thread::join(
+        rt,
+        || work_of(rt, alloc, registry, seats),
+        || resize_often(rt, registry),
+    );
+    assert!(rt; resized);
+    work
+}
+
+#[test]
+fn four_threads_close_beside_resizes(rt: HostRuntime) {
+    let mut registry = two_tenants(rt.alloc(), 1000).expect(&rt, "two tenants");
+    let seats = four_seats(&rt, rt.alloc(), &mut registry);
+    let work = work_beside_resizes(&rt, rt.alloc(), &registry, seats);
+    let (seats, _) = parted(&rt, rt.alloc(), work);
+    let closed = registry.close(seats).expect(&rt, "the audits close");
+    assert_replayed(&rt, rt.alloc(), &closed);
+}
+
+/// The first tenant's audit has all calls and quotas, and is answered so again.
+fn assert_replayed<R: Wait + Clock + Abort>(rt: &R, alloc: Global, closed: &Closed) {
+    let (_, audit) = closed.audits.first().expect(rt, "an audit");
+    assert_eq!(rt; (audit.entries.len(), audit.quotas.len()), (200, 100));
+    assert!(rt; is_replayed(rt, alloc, audit).expect(rt, "memory"));
+}
