@@ -4,8 +4,8 @@ mod inserting;
 mod numbers;
 mod searching;
 
-use crate::measure::{print_heading, print_times};
 use anyhow::Result;
+use bench_work::{print_heading, print_times};
 use inserting::Inserting;
 use searching::Searching;
 use std::alloc::Global;

@@ -1,4 +1,4 @@
-//! Times a part of the program: beside another way to do the same, or by one thread and by more.
+//! Times a part of the program beside another way to do the same.
 //!
 //! Its one argument is the part. With another, or with none, it prints how it is called.
 #![tactic(auto)]
@@ -6,10 +6,6 @@
 mod arena;
 mod gateway;
 mod lists;
-mod measure;
-mod registry;
-mod store;
-mod watches;
 
 use anyhow::Result;
 use std::env;
@@ -21,22 +17,23 @@ enum Part {
     Arena,
     Gateway,
     Lists,
-    Registry,
-    Store,
-    Watches,
 }
+
+/// The parts by their names.
+const PARTS: [(&str, Part); 3] = [
+    ("arena", Part::Arena),
+    ("gateway", Part::Gateway),
+    ("lists", Part::Lists),
+];
 
 impl Part {
     fn named(word: &str) -> Option<Part> {
-        match word {
-            "arena" => Some(Part::Arena),
-            "gateway" => Some(Part::Gateway),
-            "lists" => Some(Part::Lists),
-            "registry" => Some(Part::Registry),
-            "store" => Some(Part::Store),
-            "watches" => Some(Part::Watches),
-            _ => None,
+        for (name, part) in PARTS.iter() {
+            if *name == word {
+                return Some(*part);
+            }
         }
+        None
     }
 }
 
@@ -45,9 +42,6 @@ fn main(rt: HostRuntime) -> Result<()> {
         Some(Part::Arena) => arena::measure_all(&rt),
         Some(Part::Gateway) => gateway::measure_all(&rt),
         Some(Part::Lists) => lists::measure_all(&rt),
-        Some(Part::Registry) => registry::measure_all(&rt),
-        Some(Part::Store) => store::measure_all(&rt),
-        Some(Part::Watches) => watches::measure_all(&rt),
         None => print_usage(&rt),
     }
 }
@@ -60,6 +54,6 @@ fn asked(rt: &(impl Env + Alloc)) -> Result<Option<Part>> {
 }
 
 fn print_usage(rt: &impl Print) -> Result<()> {
-    println!(rt; "usage: bench_parts arena | gateway | lists | registry | store | watches")?;
+    println!(rt; "usage: bench_parts arena | gateway | lists")?;
     Ok(())
 }

@@ -2,8 +2,8 @@
 ghost use Rattle.std.specs.Prelude.{◌≡◌, ◌+◌};
 
 use crate::arena::record::{CELLS, FIELDS, KEY, SEGMENTS, VALUE};
-use crate::measure::Work;
 use anyhow::{Result, bail};
+use bench_work::Work;
 use cell_arena::{Kind, Region};
 use segment_pool::Stock;
 use std::alloc::Global;
@@ -28,10 +28,19 @@ impl Placing {
 
     /// In a region with another record, whose segment has room for more.
     pub(crate) fn beside_another(alloc: Global) -> Result<Placing> {
-        let mut region = Region::new(alloc, CELLS)?;
-        let mut stock = Stock::new(alloc, SEGMENTS)?;
-        let _other = region.place(&mut stock, Kind::Put, FIELDS, &KEY, &VALUE);
-        Ok(Placing { region, stock })
+        let mut placing = Placing::alone(alloc)?;
+        placing.place_another();
+        Ok(placing)
+    }
+
+    /// Places a record that stays, if there is room.
+    #[tactic(auto, using(cell_arena::proofs::Inserted::some_inserted))]
+    fn place_another(&mut self) {
+        if self.region.free_cells() >= 4 {
+            let _other = self
+                .region
+                .place(&mut self.stock, Kind::Put, FIELDS, &KEY, &VALUE);
+        }
     }
 }
 

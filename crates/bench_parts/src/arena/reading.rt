@@ -1,10 +1,10 @@
 //! Reading a record.
-ghost use Rattle.std.specs.Prelude.{IsSome};
+ghost use Rattle.std.specs.Prelude.{IfOk, IsSome};
 ghost use Rattle.std.specs.FinMap as map;
 
 use crate::arena::record::{CELLS, FIELDS, KEY, SEGMENTS, VALUE};
-use crate::measure::Work;
 use anyhow::Result;
+use bench_work::Work;
 use cell_arena::{Kind, Region};
 use etcd_types::CellNo;
 use segment_pool::Stock;
@@ -14,7 +14,6 @@ use std::alloc::Global;
 #[derive(Drop)]
 pub(crate) struct Reading {
     region: Region,
-    stock: Stock,
     cell: CellNo,
     key: Vec<u8>,
     value: Vec<u8>,
@@ -22,21 +21,28 @@ pub(crate) struct Reading {
 }
 
 impl Reading {
-    #[tactic(auto, using(cell_arena::proofs::Inserted::some_inserted))]
     pub(crate) fn new(alloc: Global) -> Result<Reading> {
         let key = Vec::from_slice(alloc, &KEY)?;
         let value = Vec::from_slice(alloc, &VALUE)?;
-        let mut region = Region::new(alloc, CELLS)?;
-        let mut stock = Stock::new(alloc, SEGMENTS)?;
-        let cell = region.place(&mut stock, Kind::Put, FIELDS, &KEY, &VALUE);
+        let (region, cell) = with_record(alloc)?;
         Ok(Reading {
             region,
-            stock,
             cell,
             key,
             value,
         })
     }
+}
+
+/// A region with a record under a cell.
+#[tactic(auto, using(cell_arena::proofs::Inserted::some_inserted))]
+fn with_record(alloc: Global) -> Result<(Region, CellNo)>
+    ensures { IfOk result (λ it. IsSome (map.get it.0.records it.1)) }
+{
+    let mut stock = Stock::new(alloc, SEGMENTS)?;
+    let mut region = Region::new(alloc, CELLS)?;
+    let cell = region.place(&mut stock, Kind::Put, FIELDS, &KEY, &VALUE);
+    Ok((region, cell))
 }
 
 impl Work for Reading {

@@ -14,20 +14,16 @@ pub(crate) const RANGE: &str = concat!(
     r#""min_create_revision":"1","max_create_revision":"123456"}"#,
 );
 
-fn push_bytes(body: &mut String, name: &str, bytes: &[u8]) -> Mem<()> {
-    body.push('"')?;
-    body.push_str(name)?;
-    body.push_str("\":\"")?;
-    STANDARD.encode_string(bytes, body)?;
-    body.push('"')
+/// Some text, and bytes in base64 behind it.
+fn push_bytes(body: &mut String, before: &str, bytes: &[u8]) -> Mem<()> {
+    body.push_str(before)?;
+    STANDARD.encode_string(bytes, body)
 }
 
 fn push_put(body: &mut String, key: &[u8], value: &[u8]) -> Mem<()> {
-    body.push('{')?;
-    push_bytes(body, "key", key)?;
-    body.push(',')?;
-    push_bytes(body, "value", value)?;
-    body.push('}')
+    push_bytes(body, "{\"key\":\"", key)?;
+    push_bytes(body, "\",\"value\":\"", value)?;
+    body.push_str("\"}")
 }
 
 /// A put of a key and a value.
@@ -47,12 +43,17 @@ fn push_operation(alloc: Global, body: &mut String, number: u32) -> Mem<()> {
 /// A transaction of 64 puts of values of 32 bytes.
 pub(crate) fn txn(alloc: Global) -> Mem<String> {
     let mut body = String::from_str(alloc, "{\"success\":[")?;
+    push_operations(alloc, &mut body)?;
+    Ok(body)
+}
+
+/// The operations, and what ends the list.
+fn push_operations(alloc: Global, body: &mut String) -> Mem<()> {
     for number in 0..OPERATIONS {
         if number > 0 {
             body.push(',')?;
         }
-        push_operation(alloc, &mut body, number)?;
+        push_operation(alloc, body, number)?;
     }
-    body.push_str("]}")?;
-    Ok(body)
+    body.push_str("]}")
 }

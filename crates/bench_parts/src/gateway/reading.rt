@@ -1,7 +1,7 @@
 //! A request's body that is read.
 use crate::gateway::by_values::read;
-use crate::measure::Work;
 use anyhow::{Result, anyhow};
+use bench_work::Work;
 use etcd_types::{Call, Step};
 use gateway_json::read_step;
 use std::alloc::Global;

@@ -1,8 +1,8 @@
 //! Putting a number between the items, and taking it away again. Each begins with a search.
 use crate::lists::below::Below;
 use crate::lists::numbers::{Numbers, listed, vector};
-use crate::measure::Work;
 use anyhow::{Result, bail};
+use bench_work::Work;
 use chunk_list::ChunkList;
 use std::alloc::Global;
 

@@ -1,8 +1,8 @@
 //! Looking for an item. What is found is tested, so that no search is left out as unused.
 use crate::lists::below::Below;
 use crate::lists::numbers::{Numbers, listed, vector};
-use crate::measure::Work;
 use anyhow::{Result, bail};
+use bench_work::Work;
 use chunk_list::ChunkList;
 use std::alloc::Global;
 

@@ -39,19 +39,23 @@ pub(crate) fn measure_all<R: Threads + Wait + Clock + Sync + Print + Alloc<A = G
         "calls a second", "1 thread", "2", "4", "2 to 1", "4 to 1"
     )?;
     for (name, asked, spread) in LINES {
-        let rates = Rates::of(rt, asked, spread)?;
-        let (two, four) = (ratio(rates.two, rates.one), ratio(rates.four, rates.one));
-        println!(rt;
-            "{name:<36}{:>10}{:>10}{:>10}{:>5}.{:02}{:>5}.{:02}",
-            rates.one,
-            rates.two,
-            rates.four,
-            two / 100,
-            two % 100,
-            four / 100,
-            four % 100
-        )?;
+        print_rates(rt, name, Rates::of(rt, asked, spread)?)?;
     }
+    Ok(())
+}
+
+fn print_rates(rt: &impl Print, name: &str, rates: Rates) -> Result<()> {
+    let (two, four) = (ratio(rates.two, rates.one), ratio(rates.four, rates.one));
+    println!(rt;
+        "{name:<36}{:>10}{:>10}{:>10}{:>5}.{:02}{:>5}.{:02}",
+        rates.one,
+        rates.two,
+        rates.four,
+        two / 100,
+        two % 100,
+        four / 100,
+        four % 100
+    )?;
     Ok(())
 }
 

@@ -1,6 +1,7 @@
 //! One run: some threads, each with a seat, make their calls.
 use crate::registry::tenants::{Asked, NAMES, opened};
 use anyhow::{Result, bail};
+use etcd_types::Step;
 use std::alloc::Global;
 use std::rt::Clock;
 use std::sync::Wait;
@@ -18,6 +19,16 @@ pub(crate) enum Spread {
     Apart,
     /// All the first.
     Together,
+}
+
+impl Spread {
+    /// The tenant of the thread that may have this one for itself.
+    fn tenant(self, own: &'static [u8]) -> &'static [u8] {
+        match self {
+            Spread::Apart => own,
+            Spread::Together => NAMES[0],
+        }
+    }
 }
 
 /// A thread's seat, and the tenant that it calls.
@@ -72,11 +83,7 @@ fn callers_of<R: Wait + Clock>(
 ) -> Result<Vec<Caller>> {
     let mut callers = Vec::new(alloc);
     for name in NAMES.iter().take(threads) {
-        let tenant = match spread {
-            Spread::Apart => *name,
-            Spread::Together => NAMES[0],
-        };
-        callers.push(caller_of(rt, alloc, registry, tenant)?)?;
+        callers.push(caller_of(rt, alloc, registry, spread.tenant(name))?)?;
     }
     Ok(callers)
 }
@@ -125,7 +132,18 @@ fn is_answered<R: Wait + Clock>(
     let Ok(step) = asked.step(alloc) else {
         return false;
     };
-    match registry.call(rt, &mut caller.seat, &OpenGate, caller.tenant, step) {
+    is_done(rt, registry, &mut caller.seat, caller.tenant, step)
+}
+
+/// Whether the status of a call is 200. It stands by itself, since what a call promises is long.
+fn is_done<R: Wait + Clock>(
+    rt: &R,
+    registry: &Registry,
+    seat: &mut Seat,
+    tenant: &[u8],
+    step: Step,
+) -> bool {
+    match registry.call(rt, seat, &OpenGate, tenant, step) {
         Ok(receipt) => receipt.status() == 200,
         Err(_) => false,
     }

@@ -1,7 +1,6 @@
 //! What is measured, and what is said of it.
 ghost use Rattle.std.specs.Prelude.{◌<◌};
 
-use crate::measure::{print_heading, print_times};
 use crate::store::compacting::time_of_drop;
 use crate::store::filled::Filled;
 use crate::store::getting::Getting;
@@ -9,6 +8,7 @@ use crate::store::keys::Keys;
 use crate::store::putting::Putting;
 use crate::store::ranging::Ranging;
 use anyhow::Result;
+use bench_work::{print_heading, print_times};
 use etcd_types::PutReq;
 use std::alloc::Global;
 use std::time::CpuClock;

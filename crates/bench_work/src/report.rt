@@ -1,14 +1,14 @@
 //! When a program measures, and the lines that it prints.
 ghost use Rattle.std.specs.Prelude.{◌<◌};
 
-use crate::measure::times::Times;
-use crate::measure::work::{Work, measure};
+use crate::times::Times;
+use crate::work::{Work, measure};
 use anyhow::Result;
 use std::alloc::Global;
 use std::time::CpuClock;
 
 /// Prints what stands above the lines: what our way is called, and the other one.
-pub(crate) fn print_heading(rt: &impl Print, ours: &str, other: &str) -> Result<()> {
+pub fn print_heading(rt: &impl Print, ours: &str, other: &str) -> Result<()> {
     println!(rt;
         "{:<40}{:>12}{:>12}{:>10}",
         "nanoseconds", ours, other, "ratio"
@@ -17,7 +17,7 @@ pub(crate) fn print_heading(rt: &impl Print, ours: &str, other: &str) -> Result<
 }
 
 /// Measures some work, and prints its line.
-pub(crate) fn print_times<W: Work>(
+pub fn print_times<W: Work>(
     rt: &(impl Print + CpuClock + Alloc<A = Global>),
     name: &str,
     work: &mut W,

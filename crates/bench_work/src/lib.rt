@@ -1,7 +1,9 @@
 //! The time that a turn of some work takes, in two ways: ours and another.
+#![tactic(auto)]
+
 mod report;
 mod times;
 mod work;
 
-pub(crate) use report::{print_heading, print_times};
-pub(crate) use work::Work;
+pub use report::{print_heading, print_times};
+pub use work::Work;

@@ -1,7 +1,7 @@
 //! Putting keys.
-use crate::measure::Work;
 use crate::store::filled::{Filled, next_of};
 use anyhow::Result;
+use bench_work::Work;
 use etcd_types::PutReq;
 use std::alloc::Global;
 
