@@ -1,5 +1,5 @@
-//! Tests of what a store and a machine are made of, each by itself: lists in chunks, segments that are lent, records
-//! in a region, intervals, the index of keys and the book of leases.
+//! Tests of what a store is made of, each by itself: lists in chunks, segments that are lent, records in a region, and
+//! intervals.
 #![tactic(auto)]
 
 #[cfg(test)]

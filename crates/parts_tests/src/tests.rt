@@ -1,7 +1,5 @@
 //! Worked examples, and steps by chance beside what is plain.
 mod chunks;
 mod interval;
-mod keys;
-mod leases;
 mod records;
 mod segments;

@@ -1,4 +1,4 @@
-use Rattle.parts_tests.proofs.tests.leases.keys.Keyed.new.Goals as goal
+use Rattle.index_tests.proofs.tests.leases.keys.Keyed.new.Goals as goal
 
 pub invariant_of-result : goal.invariant_of-result
 unfolding Rattle.std.specs.List.Sorted.IsStrictlySortedBy

@@ -3,7 +3,7 @@ use Rattle.std.specs.Prelude.{not}
 use Rattle.std.specs.Ordering.{int_eq}
 use Rattle.lease_book.specs.declared.attachments.Attachment.{Attachment}
 use Rattle.lease_book.proofs.Attached.{attached_filter}
-use Rattle.parts_tests.proofs.tests.leases.keys.Keyed.end.Goals as goal
+use Rattle.index_tests.proofs.tests.leases.keys.Keyed.end.Goals as goal
 
 pub invariant_of-self : goal.invariant_of-self
 invariant_of-self c =

@@ -1,7 +1,7 @@
 use Rattle.std.proofs.Common.{◌≡◌, ◌∙◌, ◌+◌, length, arith}
 use Rattle.key_index.specs.declared.record_list.Record.{Record}
 use Rattle.key_index.proofs.Listing.{placed_next, index_next, chained_next}
-use Rattle.parts_tests.proofs.tests.keys.Changes.append.Goals as goal
+use Rattle.index_tests.proofs.tests.keys.Changes.append.Goals as goal
 
 pub add-requires-clause-placed : goal.add-requires-clause-placed
 add-requires-clause-placed g c =

@@ -1,6 +1,6 @@
 use Rattle.std.proofs.Common.{◌≡◌, ◌≤◌}
 use Rattle.key_index.specs.Index.{key_count}
-use Rattle.parts_tests.proofs.tests.keys.append_life.Given as goal
+use Rattle.index_tests.proofs.tests.keys.append_life.Given as goal
 
 abbrev pub invariant-living : goal.invariant-living
 invariant-living g l = record {

@@ -4,7 +4,7 @@ use Rattle.key_index.specs.Listed.{listed_cells}
 use Rattle.key_index.proofs.Links.{at_linked}
 use Rattle.key_index.proofs.Listing.{listed_cut}
 use Rattle.key_index.proofs.Order.{which}
-use Rattle.parts_tests.proofs.tests.keys.Changes.cut_at.Goals as goal
+use Rattle.index_tests.proofs.tests.keys.Changes.cut_at.Goals as goal
 
 pub invariant_of-self : goal.invariant_of-self
 invariant_of-self c =
