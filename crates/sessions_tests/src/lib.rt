@@ -1,12 +1,11 @@
-//! The server's sessions under test: over sockets, over streams that fail, and beside a call that is held.
+//! The server's sessions under test: over streams that fail, and beside a call that is held. What they answer over
+//! sockets is asked of the program, by `scripts/check-server`.
 #![tactic(auto)]
 
 #[cfg(test)]
 mod held;
 #[cfg(test)]
 mod peer;
-#[cfg(test)]
-mod socket;
 #[cfg(test)]
 mod streams;
 #[cfg(test)]

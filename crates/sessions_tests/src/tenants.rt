@@ -14,10 +14,6 @@ pub(crate) const SEATS: usize = 5;
 pub(crate) const PUT_REQUEST: &'static [u8] =
     b"POST /t/one/v3/kv/put HTTP/1.1\r\nhost: h\r\ncontent-length: 29\r\nconnection: close\r\n\r\n{\"key\":\"Zm9v\",\"value\":\"YmFy\"}";
 
-/// What the first put of that tenant is answered.
-pub(crate) const PUT_TEXT: &'static [u8] =
-    b"{\"header\":{\"cluster_id\":\"7\",\"member_id\":\"1\",\"raft_term\":\"1\",\"revision\":\"2\"}}";
-
 /// A tenant whose audit takes no entry.
 fn config(alloc: Global, name: &str, cluster: u64) -> Mem<TenantConfig> {
     Ok(TenantConfig {
