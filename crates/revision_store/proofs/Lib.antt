@@ -1,4 +1,5 @@
 mod Writing
+mod KeysRead
 mod Left
 pub mod RowsLeft
 pub mod Attached

@@ -1,6 +1,7 @@
 -- The rows that are live now, of the heads of the keys that are.
-use Rattle.std.proofs.Common.{◌≡◌, ℕ, ◌++◌, suc, ◌<◌, ◌≤◌, List, [], ◌∷◌, length, get_or, map, Option, Some, None, IsSome, Bool, true, false, refl, sym, ap, ◌∙◌, subst, arith}
-use Rattle.std.specs.Prelude.{not, ◌||◌, filter, is_some, option_and_then, option_map}
+use Rattle.std.proofs.Common.{◌≡◌, ℕ, ◌++◌, suc, ◌<◌, ◌≤◌, List, [], ◌∷◌, length, get_or, map, Option, Some, None, IsSome, IfSome, Bool, true, false, refl, sym, ap, ◌∙◌, subst, arith}
+use Rattle.std.specs.Prelude.{not, ◌||◌, filter, is_some, option_and_then, option_map, MatchOption}
+use Rattle.std.specs.Option.{option_to_list}
 use Rattle.std.specs.Ordering.{nat_cmp}
 use Rattle.std.specs.FinMap.{FinMap}
 use Rattle.std.specs.List.{AllByRecursion, cons_option, list_any}
@@ -13,6 +14,7 @@ use Rattle.cell_arena.specs.Region.{RegionState}
 use Rattle.etcd_types.specs.declared.key_value.KeyValue.{KeyValue}
 use Rattle.etcd_model.specs.Interval.{is_in}
 use Rattle.etcd_model.specs.Changes.{Recorded, OwnRow, last, live, rows}
+use Rattle.model_laws.proofs.PendingLaws.{rows_of_key}
 use Rattle.key_index.specs.Links.{Cells, Linked, IsChained, IsLast, IsNewest}
 use Rattle.key_index.specs.Index.{AreHeadsIn, AreNewest, AreParted, Heads, is_kind, is_put_of}
 use Rattle.key_index.specs.Order.{AreAll, IsInOrder, changes_in}
@@ -144,3 +146,28 @@ log_newest region heads settled recent leases records changes key end r some log
     subst (λ (m : FinMap nat_cmp Record). map (row_at (cells_of m)) some ≡ map Some (rows (is_in key end) r changes)) same
     (subst (λ (xs : List Recorded). map (row_at (cells_of region.records)) some ≡ map Some (rows (is_in key end) r xs)) is
     (live_are_rows (cells_of region.records) (settled.items ++ recent.items) log.chained log.all log.rises r (subst (AllByRecursion (λ x. x.revision ≤ r)) (sym is) up) heads.live heads.dead log.index (own_rows region.records) key end some inside))
+
+-- ---- the newest row of one key
+
+no_row : (l : Option KeyValue) → [] ≡ map Some (option_to_list l) → None ≡ l
+no_row None e = refl
+no_row (Some row) e = let bad : ⊥ = cc in absurd bad
+
+one_row : (o : Option KeyValue) (os : List (Option KeyValue)) (l : Option KeyValue) → o ∷ os ≡ map Some (option_to_list l) → (o ≡ l) × IsSome o
+one_row o os None e = let bad : ⊥ = cc in absurd bad
+one_row o os (Some row) e = let is : o ≡ Some row = cc in (is, subst IsSome (sym is) refl)
+
+-- what a walk over the newest cells of one key gives first is the cell of what the key shows
+module _ (cells : Cells) (xs : List Recorded) (own : AllByRecursion OwnRow xs) (key : List ℕ) (r : ℕ) where
+  row_is : (cs : List ℕ) → ShowRows cells xs key [] r cs → map (row_at cells) cs ≡ map Some (option_to_list (live key r xs))
+  row_is cs show = show ∙ ap (map Some) (rows_of_key key r xs own)
+
+  pub first_shows : (cs left : List ℕ) (o : Option ℕ) → ShowRows cells xs key [] r cs → MatchOption o ((cs ≡ []) × (left ≡ [])) (λ x. cs ≡ x ∷ left)
+      → option_and_then (row_at cells) o ≡ live key r xs
+  first_shows cs left None show gave = no_row _ (sym (ap (map (row_at cells)) gave.0) ∙ row_is cs show)
+  first_shows cs left (Some c) show gave = (one_row _ _ _ (sym (ap (map (row_at cells)) gave) ∙ row_is cs show)).0
+
+  pub first_there : (cs left : List ℕ) (o : Option ℕ) → ShowRows cells xs key [] r cs → MatchOption o ((cs ≡ []) × (left ≡ [])) (λ x. cs ≡ x ∷ left)
+      → IfSome o (λ c. IsSome (row_at cells c))
+  first_there cs left None show gave = tt
+  first_there cs left (Some c) show gave = (one_row _ _ _ (sym (ap (map (row_at cells)) gave) ∙ row_is cs show)).1

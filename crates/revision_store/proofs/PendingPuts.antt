@@ -18,7 +18,6 @@ use Rattle.etcd_model.specs.declared.state.Change.TheVariants.{Put as Set}
 use Rattle.etcd_model.specs.History.{key_of}
 use Rattle.etcd_model.proofs.HistoryLaws.{changes_of as of_key}
 use Rattle.etcd_model.specs.Changes.{next_row, live, version_of}
-use Rattle.etcd_model.specs.Ranges.{without_value}
 use Rattle.etcd_model.specs.Store.{IsStore}
 use Rattle.etcd_model.proofs.RowLaws.{filter-none}
 use Rattle.model_laws.specs.Once.{IsOnce}
@@ -26,7 +25,7 @@ use Rattle.model_laws.proofs.LastLaws.{last_push}
 use Rattle.model_laws.proofs.RecordedLaws.{all_push, all_weaker}
 use Rattle.revision_store.specs.Plans.{change_in}
 use Rattle.revision_store.specs.Stored.{StoreState, Follows, IsPlanFor, cells, changes_of, look}
-use Rattle.revision_store.specs.Pending.{IsPending, PendingState, changes_key, left_by, present, put_at, put_row, row_put_to, rows_at}
+use Rattle.revision_store.specs.Pending.{IsPending, PendingState, changes_key, left_by, numbers_alone, present, put_at, put_row, row_put_to, rows_at}
 use Rattle.revision_store.specs.declared.plan.Write.{Write}
 use Rattle.revision_store.specs.declared.plan.Write.TheVariants.{Put}
 use Rattle.revision_store.proofs.PendingReads.{one_revision, row_more, row_untouched}
@@ -135,9 +134,9 @@ put_changes store ws p row is free e =
     ∙ ap (λ (r : KeyValue). old ++ Set r.key r.value r.lease ∷ []) e
     ∙ ap (λ o. old ++ put_change p o ∷ []) (sym (row_untouched store.kept old p.key is free))
 
--- ---- the present row without its value
+-- ---- the present row's numbers alone
 
--- it makes the same row, where its value isn't asked for
+-- they make the same row, where no more is asked for
 pub row_put_present : (n : ℕ) (p : PutReq) (now : Option KeyValue) → row_put n p (present p now) ≡ row_put n p now
 row_put_present n p now = by p.prev_kv p.ignore_value now refl
   where
@@ -148,7 +147,7 @@ row_put_present n p now = by p.prev_kv p.ignore_value now refl
     own_value true r e = absurd (true≢false e)
     own_value false r e = refl
 
-    by : (a b : Bool) (o : Option KeyValue) → p.ignore_value ≡ b → row_put n p (if a || b then o else option_map without_value o) ≡ row_put n p o
+    by : (a b : Bool) (o : Option KeyValue) → p.ignore_value ≡ b → row_put n p (if a || b then o else option_map numbers_alone o) ≡ row_put n p o
     by true b o e = refl
     by false true o e = refl
     by false false None e = refl
@@ -157,14 +156,14 @@ row_put_present n p now = by p.prev_kv p.ignore_value now refl
 pub asked_present : (p : PutReq) (now : Option KeyValue) → (if p.prev_kv then present p now else None) ≡ (if p.prev_kv then now else None)
 asked_present p now = by p.prev_kv p.ignore_value
   where
-    by : (a b : Bool) → (if a then (if a || b then now else option_map without_value now) else None) ≡ (if a then now else None)
+    by : (a b : Bool) → (if a then (if a || b then now else option_map numbers_alone now) else None) ≡ (if a then now else None)
     by true b = refl
     by false b = refl
 
 pub version_present : (p : PutReq) (now : Option KeyValue) → version_of (present p now) ≡ version_of now
 version_present p now = by (p.prev_kv || p.ignore_value) now
   where
-    by : (b : Bool) (o : Option KeyValue) → version_of (if b then o else option_map without_value o) ≡ version_of o
+    by : (b : Bool) (o : Option KeyValue) → version_of (if b then o else option_map numbers_alone o) ≡ version_of o
     by true o = refl
     by false None = refl
     by false (Some r) = refl

@@ -1,13 +1,9 @@
 -- What a store is, to changes that are pending.
 use Rattle.std.proofs.Common.{◌≡◌, ℕ, ◌≤◌, List, [], ◌∷◌, length, refl, ap, ◌∙◌, sym, subst, arith, map}
-use Rattle.std.specs.Prelude.{◌||◌, filter_map, Result, Ok, Err, IfOk, Option, Some, None, IfSome, IsSome, option_map, option_and_then, unwrap_or}
+use Rattle.std.specs.Prelude.{◌||◌, filter_map, Result, Ok, Err, IfOk, Option, Some, None, IfSome, option_map, option_and_then, unwrap_or}
 use Rattle.std.specs.List.{AllByRecursion, cons_option, list_any}
 use Rattle.std.specs.FinMap.{FinMap, get}
-use Rattle.std.specs.Ordering.{nat_cmp, is_eq, is_ge, is_le, ordering_reverse}
-use Rattle.std.specs.declared.cmp.Ordering.{Ordering}
-use Rattle.std.specs.declared.cmp.Ordering.TheVariants.{Less, Equal, Greater}
-use Rattle.std.specs.Cmp.Lexicographic.{slice_cmp, nat_list_cmp_total}
-use Rattle.std.specs.Str.{bytes_eq}
+use Rattle.std.specs.Ordering.{nat_cmp}
 use Rattle.etcd_types.specs.declared.key_value.KeyValue.{KeyValue}
 use Rattle.etcd_types.specs.declared.kv.DeleteReq.{DeleteReq}
 use Rattle.cell_arena.specs.declared.cell.Kind.{Kind}
@@ -17,8 +13,6 @@ use Rattle.etcd_model.specs.Changes.{Recorded, OwnRow, live, version_of}
 use Rattle.model_laws.specs.Numbers.{HasNumbers}
 use Rattle.model_laws.proofs.NumberLaws.{live_is_within}
 use Rattle.etcd_model.specs.Interval.{is_in}
-use Rattle.etcd_model.specs.Order.{key_cmp, key_le}
-use Rattle.etcd_model.proofs.OrderLaws.{bytes_eq-key_cmp}
 use Rattle.key_index.specs.Links.{Cells, Linked, change_at}
 use Rattle.key_index.specs.Order.{changes_in}
 use Rattle.revision_store.specs.Plans.{key_at}
@@ -64,43 +58,6 @@ pub puts_are : (store : StoreState) (key end : List ℕ) (ws : List Write) → l
 puts_are store key end [] = refl
 puts_are store key end (PutWrite row ∷ ws) = ap (λ b. is_in key end row.key || b) (puts_are store key end ws)
 puts_are store key end (DeleteWrite c ∷ ws) = puts_are store key end ws
-
--- ---- keys under cells
-
--- a cell with a row has a record
-pub held : (records : FinMap nat_cmp Record) (c : ℕ) → IsSome (row_at (cells_of records) c) → IsSome (get records c)
-held records c h = by (get records c) h
-  where
-    by : (o : Option Record) → IsSome (option_and_then (λ (x : Recorded). x.row) (option_map (λ (e : Linked). e.change) (option_and_then linked_of o))) → IsSome o
-    by None e = let bad : ⊥ = cc in absurd bad
-    by (Some r) e = refl
-
--- how its key stands to another one
-pub compared : (records : FinMap nat_cmp Record) (c : ℕ) (key : List ℕ) (o : Ordering) → IsSome (row_at (cells_of records) c) → IfSome (get records c) (λ r. o ≡ slice_cmp nat_cmp r.key key) → o ≡ key_cmp (key_at (cells_of records) c) key
-compared records c key o h e = from (get records c) h e
-  where
-    by : (kind : Kind) (r : Record) → IsSome (option_and_then (λ (x : Recorded). x.row) (option_map (λ (e : Linked). e.change) (linked_by kind r))) → o ≡ slice_cmp nat_cmp r.key key
-        → o ≡ key_cmp (unwrap_or (option_map (λ (x : Recorded). x.key) (option_map (λ (e : Linked). e.change) (linked_by kind r))) []) key
-    by Put r some is = is
-    by Delete r some is = is
-    by Lease r some is = let bad : ⊥ = cc in absurd bad
-
-    from : (p : Option Record) → IsSome (option_and_then (λ (x : Recorded). x.row) (option_map (λ (e : Linked). e.change) (option_and_then linked_of p))) → IfSome p (λ r. o ≡ slice_cmp nat_cmp r.key key)
-        → o ≡ key_cmp (unwrap_or (option_map (λ (x : Recorded). x.key) (option_map (λ (e : Linked). e.change) (option_and_then linked_of p))) []) key
-    from None some is = let bad : ⊥ = cc in absurd bad
-    from (Some r) some is = by r.kind r some is
-
--- the key is another one, or not below it
-pub same_key : (k key : List ℕ) → is_eq (key_cmp k key) ≡ bytes_eq k key
-same_key k key = sym (bytes_eq-key_cmp k key)
-
-pub from_key : (k key : List ℕ) → is_ge (key_cmp k key) ≡ key_le key k
-from_key k key = turned (key_cmp k key) ∙ ap is_le (sym (nat_list_cmp_total.antisymm key k))
-  where
-    turned : (o : Ordering) → is_ge o ≡ is_le (ordering_reverse o)
-    turned Less = refl
-    turned Equal = refl
-    turned Greater = refl
 
 -- where nothing is deleted all cells are left
 pub none_erased : {X : Type 0} (cells : Cells) (as_delete : X → DeleteReq) (deletes : List X) (cs : List ℕ) → length deletes ≡ 0 → left_cells cells (map as_delete deletes) cs ≡ cs

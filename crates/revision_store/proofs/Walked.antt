@@ -4,7 +4,8 @@ use Rattle.std.specs.Prelude.{Bool, true, false, is_some, nat_le, nat_lt, option
 use Rattle.std.specs.List.{All, AllByRecursion, cons_option}
 use Rattle.std.specs.Option.{option_map_or}
 use Rattle.std.proofs.lemmas.Bool.Decides.{nat_tests}
-use Rattle.std.proofs.lemmas.List.{map-append}
+use Rattle.std.proofs.Math.Seq.{drop-length}
+use Rattle.std.proofs.lemmas.List.{get_or-append-add, get_or_append_left, length-append, map-append}
 use Rattle.std.proofs.lemmas.List.Elements.{All-head, All-tail, All-from_get_or, recursion_from_All, filter-append, filter_map-append}
 use Rattle.chunk_list.specs.Chunked.{TurnsAt}
 use Rattle.chunk_list.proofs.Turning.{IsFailing}
@@ -102,6 +103,21 @@ module _ (cells : Cells) where
   shown_from (c ∷ cs) (suc n) there = shown_from cs n (All-tail (λ b. IsSome (cells b)) c cs there)
 
 -- ---- two orders, one behind the other
+
+-- where the second begins below the revision, all of the first are below it
+pub none_before : (cells : Cells) (order later : List ℕ) (r : ℕ) (e : Linked) → All (λ c. IsSome (cells c)) (order ++ later) → IsInOrder cells (order ++ later)
+    → 0 < length later → cells (get_or later 0 0) ≡ Some e → e.change.revision < r → since r (changes_in cells order) ≡ []
+none_before cells order later r e there rises some at below =
+    sym (since_found cells r order (length order) (λ j f lt at_f. less j f lt at_f) (λ j f le lt at_f. absurd (omega (arith, le, lt))))
+    ∙ ap (changes_in cells) (drop-length order)
+  where
+    at_later : cells (get_or (order ++ later) (length order) 0) ≡ Some e
+    at_later = ap cells (ap (λ k. get_or (order ++ later) k 0) (omega arith) ∙ get_or-append-add order later 0 0) ∙ at
+
+    less : (j : ℕ) (f : Linked) → j < length order → cells (get_or order j 0) ≡ Some f → f.change.revision < r
+    less j f lt at_f =
+        let le = rises_along cells (order ++ later) there rises j (length order) f e (omega (arith, lt)) (omega (arith, some, length-append order later)) (ap cells (get_or_append_left order later 0 j lt) ∙ at_f) at_later in
+        omega (arith, le, below)
 
 pub first_of_both : {X : Type 0} (n : ℕ) (xs ys : List X) → take n (xs ++ ys) ≡ take n xs ++ take (n - length (take n xs)) ys
 first_of_both zero [] ys = refl

@@ -1,6 +1,6 @@
 -- Changes that are pending over a store, as reads find them: the last that touches a key says what it is.
 use Rattle.std.specs.Prelude.{◌≡◌, ℕ, ◌+◌, ◌*◌, ◌<◌, ◌^◌, ◌&&◌, ◌||◌, ◌⊎◌, ℤ, Bool, not, List, length}
-use Rattle.std.specs.Prelude.{filter, filter_map, option_and_then, option_map, Option, Some, None, IsSome}
+use Rattle.std.specs.Prelude.{[], filter, filter_map, option_and_then, option_map, Option, Some, None, IsSome}
 use Rattle.std.specs.Prelude.{slice_get, if◌then◌else◌, refl}
 use mathlib.Core.Logic.{inl, inr}
 use Rattle.std.specs.List.{AllByRecursion, list_any}
@@ -17,7 +17,6 @@ use Rattle.etcd_model.specs.History.{key_of, is_put}
 use Rattle.etcd_model.specs.Interval.{is_in}
 use Rattle.etcd_model.specs.Changes.{last_by, live}
 use Rattle.etcd_model.specs.Operations.{changes}
-use Rattle.etcd_model.specs.Ranges.{without_value}
 use Rattle.etcd_model.specs.Reads.{Reads}
 use Rattle.etcd_model.specs.Store.{IsStore, record_cells}
 use Rattle.model_laws.specs.Apart.{AreApart}
@@ -140,9 +139,13 @@ pub record IsPending (store : StoreState) (writes : List Write) (places : List �
 
 -- ---- a put
 
--- the present row, with its value where the put asks for that
+-- a row without its key and its value
+abbrev pub numbers_alone : KeyValue → KeyValue
+numbers_alone row = record row { key = []; value = [] }
+
+-- the present row: its numbers alone, unless the put asks for more
 abbrev pub present : PutReq → Option KeyValue → Option KeyValue
-present p now = if p.prev_kv || p.ignore_value then now else option_map without_value now
+present p now = if p.prev_kv || p.ignore_value then now else option_map numbers_alone now
 
 -- ---- an operation that is decided
 

@@ -1,4 +1,4 @@
-//! How the keys of rows stand to other keys, read where they lie.
+//! How the keys of changes stand to other keys, read where they lie.
 ghost use Rattle.std.specs.Prelude.{◌≡◌, IsSome};
 ghost use Rattle.std.specs.Str.{bytes_eq};
 ghost use Rattle.etcd_model.specs.Interval.{is_in};
@@ -9,45 +9,64 @@ ghost use Rattle.revision_store.specs.Stored.{row_at};
 
 use crate::log::Log;
 use etcd_types::CellNo;
+use key_index::Records;
 use std::cmp::Ordering;
 
-/// How the key of a row stands to another one.
-#[tactic(auto, using(crate::proofs::PendingStores::held, crate::proofs::PendingStores::compared))]
-pub(crate) fn key_cmp(log: &Log, cell: CellNo, key: &[u8]) -> Ordering
-    requires { IsSome (row_at (cells_of log.now.records) cell) }
-    ensures { result ≡ key_cmp (key_at (cells_of log.now.records) cell) key.now }
-{
-    log.region.key_cmp(cell, key)
+impl Log {
+    /// How the key of a row stands to another one.
+    pub(crate) fn key_cmp(&self, cell: CellNo, key: &[u8]) -> Ordering
+        requires { IsSome (row_at (cells_of self.now.records) cell) }
+        ensures { result ≡ key_cmp (key_at (cells_of self.now.records) cell) key.now }
+    {
+        key_cmp(&self.records(), cell, key)
+    }
+
+    /// Whether it lies in an interval.
+    pub(crate) fn lies_in(&self, cell: CellNo, key: &[u8], range_end: &[u8]) -> bool
+        requires { IsSome (row_at (cells_of self.now.records) cell) }
+        ensures { result ≡ is_in key.now range_end.now (key_at (cells_of self.now.records) cell) }
+    {
+        lies_in(&self.records(), cell, key, range_end)
+    }
 }
 
-/// Whether the key of a row is the key.
-#[tactic(auto, using(crate::proofs::PendingStores::same_key))]
-fn is_of(log: &Log, cell: CellNo, key: &[u8]) -> bool
-    requires { IsSome (row_at (cells_of log.now.records) cell) }
-    ensures { result ≡ bytes_eq (key_at (cells_of log.now.records) cell) key.now }
+/// How the key of a change stands to another one.
+#[tactic(auto, using(crate::proofs::KeysRead::read_key))]
+fn key_cmp<R: Records>(records: &R, cell: CellNo, key: &[u8]) -> Ordering
+    requires { IsSome (R.cells records.now cell) }
+    ensures { result ≡ key_cmp (key_at (R.cells records.now) cell) key.now }
 {
-    key_cmp(log, cell, key).is_eq()
+    records.key_cmp(cell, key)
+}
+
+/// Whether the key of a change is the key.
+#[tactic(auto, using(crate::proofs::KeysRead::same_key))]
+fn is_of<R: Records>(records: &R, cell: CellNo, key: &[u8]) -> bool
+    requires { IsSome (R.cells records.now cell) }
+    ensures { result ≡ bytes_eq (key_at (R.cells records.now) cell) key.now }
+{
+    key_cmp(records, cell, key).is_eq()
 }
 
 /// Whether it is the key or a later one.
-#[tactic(auto, using(crate::proofs::PendingStores::from_key))]
-fn is_from(log: &Log, cell: CellNo, key: &[u8]) -> bool
-    requires { IsSome (row_at (cells_of log.now.records) cell) }
-    ensures { result ≡ key_le key.now (key_at (cells_of log.now.records) cell) }
+#[tactic(auto, using(crate::proofs::KeysRead::from_key))]
+fn is_from<R: Records>(records: &R, cell: CellNo, key: &[u8]) -> bool
+    requires { IsSome (R.cells records.now cell) }
+    ensures { result ≡ key_le key.now (key_at (R.cells records.now) cell) }
 {
-    key_cmp(log, cell, key).is_ge()
+    key_cmp(records, cell, key).is_ge()
 }
 
-/// Whether it lies in an interval.
-pub(crate) fn lies_in(log: &Log, cell: CellNo, key: &[u8], range_end: &[u8]) -> bool
-    requires { IsSome (row_at (cells_of log.now.records) cell) }
-    ensures { result ≡ is_in key.now range_end.now (key_at (cells_of log.now.records) cell) }
+/// Whether the key of a change lies in an interval.
+pub fn lies_in<R: Records>(records: &R, cell: CellNo, key: &[u8], range_end: &[u8]) -> bool
+    requires { IsSome (R.cells records.now cell) }
+    ensures { result ≡ is_in key.now range_end.now (key_at (R.cells records.now) cell) }
 {
     match range_end {
-        [] => is_of(log, cell, key),
+        [] => is_of(records, cell, key),
         _ => {
-            is_from(log, cell, key)
-                && (range_end == [0].as_slice() || key_cmp(log, cell, range_end).is_lt())
+            is_from(records, cell, key)
+                && (range_end == [0].as_slice() || key_cmp(records, cell, range_end).is_lt())
         }
     }
 }

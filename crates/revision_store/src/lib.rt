@@ -15,6 +15,7 @@ mod pending_puts;
 mod placing;
 mod plan;
 mod planning;
+mod putting;
 mod ranging;
 mod reading;
 mod records;
@@ -27,6 +28,7 @@ mod taking;
 mod walking;
 
 pub use comparing::holds;
+pub use keys::lies_in;
 pub use pending::Pending;
 pub use plan::Plan;
 pub use planning::PlannedOp;

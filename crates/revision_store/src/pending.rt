@@ -1,25 +1,23 @@
 //! Changes that are pending.
-ghost use Rattle.std.specs.Prelude.{◌≡◌, ◌+◌, ◌<◌, ◌^◌, [], false, map, pos, Some, None, IfOk, IfSome, OnOk, OnErr};
-ghost use Rattle.std.specs.Prelude.{IsSome, if◌then◌else◌, option_and_then};
-ghost use Rattle.etcd_types.specs.declared.reply.OpReply.TheVariants.{Put as PutReply, Delete as DeleteReply};
+ghost use Rattle.std.specs.Prelude.{◌≡◌, ◌+◌, ◌<◌, ◌^◌, [], false, map, pos, Some, None, IfOk, OnOk, OnErr};
+ghost use Rattle.etcd_types.specs.declared.reply.OpReply.TheVariants.{Delete as DeleteReply};
 ghost use Rattle.etcd_types.specs.declared.txn.Op.TheVariants.{Range as RangeOp, Put as PutOp};
 ghost use Rattle.etcd_types.specs.declared.txn.Op.TheVariants.{Delete as DeleteOp};
-ghost use Rattle.etcd_model.specs.Changes.{version_of};
-ghost use Rattle.etcd_model.specs.Operations.{and_changes, op_reply, row_put, value_put};
+ghost use Rattle.etcd_model.specs.Operations.{and_changes, op_reply};
 ghost use Rattle.etcd_model.specs.Ranges.{range_reply};
 ghost use Rattle.etcd_model.specs.Reads.{revision_read, unreadable};
 ghost use Rattle.revision_store.specs.Stored.{IsPlanFor, cells, changes_of, look, reads, row_at};
-ghost use Rattle.revision_store.specs.Pending.{changes_key, pending_reads, present, puts_inside, puts_within};
-ghost use Rattle.std.specs.Option.{option_copied};
+ghost use Rattle.revision_store.specs.Pending.{changes_key, pending_reads, puts_inside, puts_within};
 
 use crate::mixing::mixed_reply;
 use crate::pending_deletes::{left_cells, push_deletes};
 use crate::pending_puts::{puts_in, puts_of, unput_cells};
 use crate::plan::{Plan, Write};
+use crate::putting::DecidedPut;
 use crate::ranging::{range_reply, walked_reply};
 use crate::rows::rows_asked;
 use crate::store::Store;
-use etcd_types::{CellNo, CopyOf, DeleteReq, KeyValue, List, Mem, OpReply, PutReq, RangeReq};
+use etcd_types::{CellNo, DeleteReq, KeyValue, List, Mem, OpReply, PutReq, RangeReq};
 use std::alloc::Global;
 use std::marker::Model;
 
@@ -133,40 +131,13 @@ impl<'a> Pending<'a> {
             ≡ op_reply (pending_reads self.old) (self.old.store.kept.current + 1) (PutOp request.now)) }
         ensures memory { OnErr result (self.new ≡ self.old) }
     {
-        let live = self.store.live(request.key.as_slice());
-        self.add_put_over(alloc, request, live)
-    }
-
-    /// The same where the cell of the store's row of the key, if that is live, is known.
-    pub(crate) fn add_put_over(
-        &mut self,
-        alloc: Global,
-        request: &PutReq,
-        live: Option<CellNo>,
-    ) -> Mem<OpReply>
-        requires row { option_and_then (row_at (cells self.old.store)) live
-            ≡ (reads self.old.store).row request.now.key }
-        requires there { IfSome live (λ c. IsSome (row_at (cells self.old.store) c)) }
-        requires once { changes_key request.now.key self.old.changes ≡ false }
-        requires revisions { self.old.store.kept.current + 1 < 2 ^ 63 }
-        ensures changes { OnOk result (self.new
-            ≡ record {
-              store = self.old.store;
-              changes = and_changes (look self.old.store) self.old.changes (PutOp request.now);
-            }) }
-        ensures reply { IfOk result
-            (λ reply. reply
-            ≡ op_reply (pending_reads self.old) (self.old.store.kept.current + 1) (PutOp request.now)) }
-        ensures memory { OnErr result (self.new ≡ self.old) }
-    {
         self.puts.reserve(1)?;
-        let now = present(alloc, self.store, request, live)?;
-        let revision = self.store.current() + 1;
-        let row = row_put(alloc, revision, request, now.as_ref())?;
+        let live = self.store.live(request.key.as_slice());
+        let DecidedPut { row, reply } = self.store.decide_put(alloc, request, live)?;
         let place = self.writes.len();
         self.writes.push(Write::Put(row))?;
         self.puts.push_reserved(place);
-        Ok(put_reply(revision, row_asked(now, request.prev_kv)))
+        Ok(reply)
     }
 
     /// Deletes the live keys of an interval that nothing pending puts, and answers as if it was
@@ -220,17 +191,6 @@ impl<'a> Pending<'a> {
     }
 }
 
-/// The answer to a put.
-fn put_reply(revision: u64, prev_kv: Option<KeyValue>) -> OpReply
-    requires { revision < 2 ^ 63 }
-    ensures { result ≡ PutReply (pos revision) prev_kv }
-{
-    OpReply::Put {
-        revision: revision as i64,
-        prev_kv,
-    }
-}
-
 /// The answer to a delete.
 fn delete_reply(revision: u64, deleted: u64, prev_kvs: List<KeyValue>) -> OpReply
     requires { revision < 2 ^ 63 }
@@ -241,63 +201,4 @@ fn delete_reply(revision: u64, deleted: u64, prev_kvs: List<KeyValue>) -> OpRepl
         deleted,
         prev_kvs,
     }
-}
-
-/// A row, where it is asked for.
-fn row_asked(row: Option<KeyValue>, asked: bool) -> Option<KeyValue>
-    ensures { result ≡ (if asked then row else None) }
-{
-    if asked { row } else { None }
-}
-
-/// The row under the cell of a put's key, if that is live, with its value where the put asks for that.
-fn present(
-    alloc: Global,
-    store: &Store,
-    request: &PutReq,
-    live: Option<CellNo>,
-) -> Mem<Option<KeyValue>>
-    requires { IfSome live (λ c. IsSome (row_at (cells store.now) c)) }
-    ensures { IfOk result
-        (λ now. now ≡ present request.now (option_and_then (row_at (cells store.now)) live)) }
-{
-    if request.prev_kv || request.ignore_value {
-        store.row_of(alloc, live)
-    } else {
-        store.row_without_value_of(alloc, live)
-    }
-}
-
-/// The value of a put: its own, or the present one where that is to stay.
-fn value_put(alloc: Global, request: &PutReq, now: Option<&KeyValue>) -> Mem<List<u8>>
-    ensures { IfOk result (λ value. value ≡ value_put request.now (option_copied now.entry)) }
-{
-    match now {
-        Some(row) if request.ignore_value => row.value.copy_of(alloc),
-        None if request.ignore_value => Ok(List::new(alloc)),
-        _ => request.value.copy_of(alloc),
-    }
-}
-
-/// The row that a put leaves at a revision, over the present row of its key.
-fn row_put(alloc: Global, revision: u64, request: &PutReq, now: Option<&KeyValue>) -> Mem<KeyValue>
-    requires { version_of (option_copied now) + 1 < 2 ^ 64 }
-    ensures { IfOk result (λ row. row ≡ row_put revision request.now (option_copied now.entry)) }
-{
-    let (create_revision, version, lease) = match now {
-        Some(row) => (row.create_revision, row.version, row.lease),
-        None => (revision, 0, 0),
-    };
-    Ok(KeyValue {
-        key: request.key.copy_of(alloc)?,
-        create_revision,
-        mod_revision: revision,
-        version: version + 1,
-        value: value_put(alloc, request, now)?,
-        lease: if request.ignore_lease {
-            lease
-        } else {
-            request.lease
-        },
-    })
 }

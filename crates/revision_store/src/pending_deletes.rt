@@ -6,7 +6,6 @@ ghost use Rattle.revision_store.specs.Stored.{row_at};
 ghost use Rattle.revision_store.specs.Pending.{AreRows, is_erased, left_cells};
 ghost use Rattle.revision_store.specs.declared.plan.Write.TheVariants.{Delete};
 
-use crate::keys::lies_in;
 use crate::log::Log;
 use crate::plan::Write;
 use etcd_types::{CellNo, DeleteReq, Mem};
@@ -18,12 +17,7 @@ fn is_erased(log: &Log, cell: CellNo, deletes: &[&DeleteReq]) -> bool
     ensures { result ≡ is_erased (map (λ d. d.now) deletes.now) (key_at (cells_of log.now.records) cell) }
 {
     for delete in deletes {
-        if lies_in(
-            log,
-            cell,
-            delete.key.as_slice(),
-            delete.range_end.as_slice(),
-        ) {
+        if log.lies_in(cell, delete.key.as_slice(), delete.range_end.as_slice()) {
             return true;
         }
     }

@@ -7,7 +7,6 @@ ghost use Rattle.revision_store.specs.Mixing.{by_cell, cells_without, unput_cell
 ghost use Rattle.revision_store.specs.Pending.{AreRows, is_row_in, put_at, rows_at};
 ghost use Rattle.revision_store.specs.Recorded.{cells_of};
 
-use crate::keys::key_cmp;
 use crate::log::Log;
 use crate::plan::Write;
 use etcd_types::{CellNo, KeyValue, Mem};
@@ -88,7 +87,7 @@ fn place_of(log: &Log, cells: &[CellNo], key: &[u8]) -> Option<usize>
     let mut high = cells.len();
     while low < high {
         let middle = low + (high - low) / 2;
-        match key_cmp(log, cells[middle], key) {
+        match log.key_cmp(cells[middle], key) {
             Ordering::Less => low = middle + 1,
             Ordering::Equal => return Some(middle),
             Ordering::Greater => high = middle,

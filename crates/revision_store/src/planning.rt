@@ -1,16 +1,16 @@
 //! Plans of one operation.
 ghost use Rattle.std.specs.Prelude.{◌≡◌, ◌+◌, ◌<◌, ◌^◌, true, None, Some, IfOk, IfSome, IsOk, IsSome, MatchResult};
-ghost use Rattle.std.specs.Prelude.{is_some, option_and_then, option_map};
+ghost use Rattle.std.specs.Prelude.{is_some, option_and_then};
 ghost use Rattle.etcd_types.specs.declared.txn.Op.TheVariants.{Put as PutOp, Delete as DeleteOp};
 ghost use Rattle.etcd_model.specs.Operations.{changes, op_reply, put_refusal};
-ghost use Rattle.etcd_model.specs.Ranges.{without_value};
 ghost use Rattle.revision_store.specs.Stored.{cells, look, reads, row_at};
 ghost use Rattle.revision_store.specs.Pending.{IsPlanOf, IsSound};
 
 use crate::pending::Pending;
-use crate::plan::Plan;
+use crate::plan::{Plan, Write};
+use crate::putting::DecidedPut;
 use crate::store::Store;
-use etcd_types::{CellNo, DeleteReq, KeyValue, Mem, OpReply, PutReq, Refusal};
+use etcd_types::{CellNo, DeleteReq, Mem, OpReply, PutReq, Refusal};
 use std::alloc::Global;
 
 /// An operation that is decided, with all memory that its commit needs.
@@ -53,10 +53,11 @@ impl Store {
         if (request.ignore_value || request.ignore_lease) && live.is_none() {
             return Ok(Err(Refusal::KeyNotFound));
         }
-        let mut pending = Pending::new(alloc, self);
-        let reply = pending.add_put_over(alloc, request, live)?;
+        let DecidedPut { row, reply } = self.decide_put(alloc, request, live)?;
+        let mut writes = Vec::with_capacity(alloc, 1)?;
+        writes.push_reserved(Write::Put(row));
         Ok(Ok(PlannedOp {
-            plan: pending.finish(),
+            plan: Plan::new(writes),
             reply,
         }))
     }
@@ -84,7 +85,8 @@ impl Store {
         ensures row { option_and_then (row_at (cells self.now)) result ≡ (reads self.now).row key.now }
         ensures there { IfSome result (λ c. IsSome (row_at (cells self.now) c)) }
     {
-        self.log.live(key, self.current())
+        self.keep_sound();
+        self.log.newest_cells(key, &[]).next()
     }
 
     /// Whether the key is live.
@@ -92,33 +94,6 @@ impl Store {
         ensures { result ≡ is_some ((reads self.now).row key.now) }
     {
         self.live(key).is_some()
-    }
-
-    /// The row under the cell of a key, if that is live.
-    pub(crate) fn row_of(&self, alloc: Global, live: Option<CellNo>) -> Mem<Option<KeyValue>>
-        requires { IfSome live (λ c. IsSome (row_at (cells self.now) c)) }
-        ensures { IfOk result (λ row. row ≡ option_and_then (row_at (cells self.now)) live) }
-    {
-        match live {
-            Some(cell) => Ok(Some(self.log.row(alloc, cell)?)),
-            None => Ok(None),
-        }
-    }
-
-    /// The same without its value, which is not read.
-    pub(crate) fn row_without_value_of(
-        &self,
-        alloc: Global,
-        live: Option<CellNo>,
-    ) -> Mem<Option<KeyValue>>
-        requires { IfSome live (λ c. IsSome (row_at (cells self.now) c)) }
-        ensures { IfOk result
-            (λ row. row ≡ option_map without_value (option_and_then (row_at (cells self.now)) live)) }
-    {
-        match live {
-            Some(cell) => Ok(Some(self.log.row_without_value(alloc, cell)?)),
-            None => Ok(None),
-        }
     }
 
     /// It is one that appends and compactions make. Nothing is done: a caller knows it from here on.

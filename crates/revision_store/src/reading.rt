@@ -1,10 +1,11 @@
 //! Reading the kept changes at a revision.
 ghost use Rattle.std.specs.Prelude.{◌≡◌, ◌≤◌, ℕ, Some, IsSome, IfSome, IfOk, option_map, option_and_then};
 ghost use Rattle.std.specs.List.{AllByRecursion};
-ghost use Rattle.etcd_model.specs.Changes.{Recorded, last, live};
+ghost use Rattle.etcd_model.specs.Changes.{Recorded, live};
 ghost use Rattle.etcd_model.specs.Ranges.{without_value};
 ghost use Rattle.key_index.specs.Links.{IsNewest, change_at};
 ghost use Rattle.revision_store.specs.Recorded.{cells_of};
+ghost use Rattle.revision_store.specs.Pending.{numbers_alone};
 ghost use Rattle.revision_store.specs.Plans.{key_at};
 ghost use Rattle.revision_store.specs.Stored.{ShowRows, row_at};
 
@@ -18,25 +19,8 @@ use key_index::{Records, last_up_to};
 use std::alloc::Global;
 
 impl Log {
-    /// The cell of the last change of the key at a revision at most this one.
-    fn last(&self, key: &[u8], revision: u64) -> Option<CellNo>
-        ensures change { option_and_then (change_at (cells_of self.now.records)) result
-            ≡ last key.now revision self.now.changes }
-        ensures there { IfSome result (λ c. IsSome (cells_of self.now.records c)) }
-    {
-        self.index.at(&Reader::new(&self.region), key, revision)
-    }
-
-    /// The cell of the row that the key shows at the revision, if it is live there.
-    pub(crate) fn live(&self, key: &[u8], revision: u64) -> Option<CellNo>
-        ensures row { option_and_then (row_at (cells_of self.now.records)) result
-            ≡ live key.now revision self.now.changes }
-        ensures there { IfSome result (λ c. IsSome (row_at (cells_of self.now.records) c)) }
-    {
-        self.put_of(self.last(key, revision))
-    }
-
-    /// The same for the key whose newest change is under a cell.
+    /// The cell of the row that a key shows at a revision, if it is live there: the key whose newest change is under
+    /// a cell.
     pub(crate) fn live_of(&self, head: CellNo, revision: u64) -> Option<CellNo>
         requires { IsNewest (cells_of self.now.records) head }
         ensures row { option_and_then (row_at (cells_of self.now.records)) result
@@ -130,15 +114,25 @@ impl Log {
         ensures { IfOk result
             (λ row. option_map without_value (row_at (cells_of self.now.records) cell) ≡ Some row) }
     {
+        let mut row = self.numbers(alloc, cell);
+        row.key = self.key(alloc, cell)?;
+        Ok(row)
+    }
+
+    /// The numbers of the row under a cell, read from its head alone: a row without its key and its value.
+    pub(crate) fn numbers(&self, alloc: Global, cell: CellNo) -> KeyValue
+        requires { IsSome (row_at (cells_of self.now.records) cell) }
+        ensures { option_map numbers_alone (row_at (cells_of self.now.records) cell) ≡ Some result }
+    {
         let fields = self.region.fields(cell);
-        Ok(KeyValue {
-            key: self.key(alloc, cell)?,
+        KeyValue {
+            key: List::new(alloc),
             create_revision: fields.create_revision,
             mod_revision: fields.revision,
             version: fields.version,
             value: List::new(alloc),
             lease: fields.lease,
-        })
+        }
     }
 
     /// The revisions of the first and of the last put of the row under a cell, read from its head alone.

@@ -115,11 +115,18 @@ impl Store {
     pub fn records(&self) -> Reader<'_>
         ensures { ⟦<Reader<'static> as Records>⟧.cells result ≡ cells self.now }
     {
-        Reader::new(&self.log.region)
+        self.log.records()
     }
 }
 
 impl Log {
+    /// The records of the changes, to read under their cells.
+    pub(crate) fn records(&self) -> Reader<'_>
+        ensures { ⟦<Reader<'static> as Records>⟧.cells result ≡ cells_of self.now.records }
+    {
+        Reader::new(&self.region)
+    }
+
     /// The cells of the changes at revisions from this one on, in order.
     fn since(&self, revision: u64) -> Changes<'_>
         ensures { map (change_at (cells_of self.now.records)) result
@@ -127,7 +134,7 @@ impl Log {
     {
         let records = Reader::new(&self.region);
         Changes::of(
-            walk_from(&self.settled, &records, revision),
+            walk_before(&self.settled, &self.recent, &records, revision),
             walk_from(&self.recent, &records, revision),
         )
     }
@@ -168,4 +175,25 @@ fn walk_from<'a, R: Records>(
     let from = order.search(&IsBelow { records, revision });
     let count = order.count_between(from, order.end());
     order.walk(from, count)
+}
+
+/// The same of a list that stands before another. Where that one begins below the revision, there is none, which
+/// its first change tells: so what a write has changed is found among the recent changes alone.
+fn walk_before<'a, R: Records>(
+    order: &'a ChunkList<CellNo>,
+    later: &ChunkList<CellNo>,
+    records: &R,
+    revision: u64,
+) -> Walk<'a, CellNo>
+    requires there { All (λ c. IsSome (R.cells records.now c)) (order.now.items ++ later.now.items) }
+    requires rises { IsInOrder (R.cells records.now) (order.now.items ++ later.now.items) }
+    ensures few { length result ≤ length order.now.items }
+    ensures from { map (change_at (R.cells records.now)) result
+        ≡ map Some (since revision (changes_in (R.cells records.now) order.now.items)) }
+{
+    let first = later.start();
+    if later.has_item(first) && records.revision(later.get(first)) < revision {
+        return Walk::none();
+    }
+    walk_from(order, records, revision)
 }
