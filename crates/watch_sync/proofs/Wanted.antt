@@ -2,12 +2,10 @@
 use Rattle.std.proofs.Common.{◌≡◌, ℕ, List, [], Bool, false, ◌&&◌, refl}
 use Rattle.std.specs.Prelude.{Option, Some, None, IsSome, IfSome, not, is_some, nat_le, option_map, unwrap_or, if◌then◌else◌}
 use Rattle.std.specs.Option.{option_map_or}
-use Rattle.std.specs.declared.cmp.Ordering.{Ordering}
 use Rattle.etcd_types.specs.declared.key_value.KeyValue.{KeyValue}
 use Rattle.etcd_model.specs.declared.state.Watch.{Watch}
 use Rattle.etcd_model.specs.Changes.{Recorded, change_by}
 use Rattle.etcd_model.specs.Interval.{is_in}
-use Rattle.etcd_model.specs.Order.{key_cmp}
 use Rattle.etcd_model.specs.Watches.{is_ahead}
 use Rattle.key_index.specs.Links.{Cells, Linked}
 use Rattle.revision_store.specs.Plans.{key_at}
@@ -25,13 +23,6 @@ module _ (cells : Cells) (c : ℕ) where
   read_put b some is = by (cells c) some is
     where
       by : (o : Option Linked) → IsSome o → IfSome o (λ e. b ≡ is_some e.change.row) → b ≡ option_map_or (λ (x : Recorded). is_some x.row) (option_map (λ (e : Linked). e.change) o) false
-      by None some is = let bad : ⊥ = cc in absurd bad
-      by (Some e) some is = is
-
-  pub read_key : (key : List ℕ) (o : Ordering) → IsSome (cells c) → IfSome (cells c) (λ e. o ≡ key_cmp e.change.key key) → o ≡ key_cmp (key_at cells c) key
-  read_key key o some is = by (cells c) some is
-    where
-      by : (p : Option Linked) → IsSome p → IfSome p (λ e. o ≡ key_cmp e.change.key key) → o ≡ key_cmp (unwrap_or (option_map (λ (x : Recorded). x.key) (option_map (λ (e : Linked). e.change) p)) []) key
       by None some is = let bad : ⊥ = cc in absurd bad
       by (Some e) some is = is
 

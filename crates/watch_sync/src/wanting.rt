@@ -1,9 +1,7 @@
 //! Whether a watch is to be told of a change, which is read where it lies.
 ghost use Rattle.std.specs.Prelude.{◌≡◌, ◌<◌, ℕ, List, IsSome, IsTrue, false, length, take};
 ghost use Rattle.std.specs.List.{AllByRecursion};
-ghost use Rattle.std.specs.Str.{bytes_eq};
 ghost use Rattle.etcd_model.specs.Interval.{is_in};
-ghost use Rattle.etcd_model.specs.Order.{key_cmp, key_le};
 ghost use Rattle.revision_store.specs.Plans.{key_at};
 ghost use Rattle.revision_store.specs.Stored.{cells};
 ghost use Rattle.watch_sync.specs.Agreeing.{front_of};
@@ -14,7 +12,6 @@ use etcd_model::state::Watch;
 use etcd_types::CellNo;
 use key_index::Records;
 use revision_store::{Changes, Store};
-use std::cmp::Ordering;
 
 /// The revision of a change.
 pub(crate) fn revision_at(store: &Store, cell: CellNo) -> u64
@@ -30,14 +27,6 @@ pub(crate) fn is_put_at(store: &Store, cell: CellNo) -> bool
     ensures { result ≡ is_put_at (cells store.now) cell }
 {
     store.records().is_put(cell)
-}
-
-/// How its key stands to another one.
-fn key_cmp(store: &Store, cell: CellNo, key: &[u8]) -> Ordering
-    requires { IsSome (cells store.now cell) }
-    ensures { result ≡ key_cmp (key_at (cells store.now) cell) key.now }
-{
-    store.records().key_cmp(cell, key)
 }
 
 /// Of one change the front of its key, and of more none.
@@ -71,36 +60,12 @@ pub(crate) fn is_other(watch: &Watch, front: &[u8]) -> bool
     }
 }
 
-/// Whether its key is the key.
-#[tactic(auto, using(revision_store::proofs::PendingStores::same_key))]
-fn is_of(store: &Store, cell: CellNo, key: &[u8]) -> bool
-    requires { IsSome (cells store.now cell) }
-    ensures { result ≡ bytes_eq (key_at (cells store.now) cell) key.now }
-{
-    key_cmp(store, cell, key).is_eq()
-}
-
-/// Whether its key is the key or a later one.
-#[tactic(auto, using(revision_store::proofs::PendingStores::from_key))]
-fn is_from(store: &Store, cell: CellNo, key: &[u8]) -> bool
-    requires { IsSome (cells store.now cell) }
-    ensures { result ≡ key_le key.now (key_at (cells store.now) cell) }
-{
-    key_cmp(store, cell, key).is_ge()
-}
-
 /// Whether its key lies in an interval.
 fn lies_in(store: &Store, cell: CellNo, key: &[u8], range_end: &[u8]) -> bool
     requires { IsSome (cells store.now cell) }
     ensures { result ≡ is_in key.now range_end.now (key_at (cells store.now) cell) }
 {
-    match range_end {
-        [] => is_of(store, cell, key),
-        _ => {
-            is_from(store, cell, key)
-                && (range_end == [0].as_slice() || key_cmp(store, cell, range_end).is_lt())
-        }
-    }
+    revision_store::lies_in(&store.records(), cell, key, range_end)
 }
 
 /// Whether a watch is to be told of the change.
