@@ -6,12 +6,12 @@ use Rattle.tenant_registry.specs.declared.audit.Audit.TheInside.{Inside}
 
 abbrev pub log_of : Inside → Log
 log_of a = record {
-  opening = record { cluster = a.cluster; quota = a.quota; first = a.first; cap = a.cap };
+  opening = a.opening;
   entries = a.entries.items;
   quotas = a.quotas.items;
 }
 
 -- it has no more entries than it takes, for which there is room
 pub record IsWithin (a : Inside) : Type 0 where
-  pub count : length a.entries.items ≤ a.cap
-  pub room : a.cap ≤ vec_capacity a.entries
+  pub count : length a.entries.items ≤ a.opening.cap
+  pub room : a.opening.cap ≤ vec_capacity a.entries

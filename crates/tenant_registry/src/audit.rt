@@ -32,12 +32,8 @@ pub struct Entry {
 /// meanwhile. Once it has so many steps, nothing that comes later is kept.
 #[derive(Drop)]
 pub struct Audit {
-    /// How many entries it takes. Their room is there.
-    pub cap: u32,
-    pub cluster: u64,
-    /// The quota that the tenant was opened with.
-    pub quota: u32,
-    pub first: i64,
+    pub opening: Opening,
+    /// There is room for all that it takes.
     pub entries: Vec<Entry>,
     /// The quotas that the tenant was given since, in order, each in cells, after the number of entries that
     /// were there before.
@@ -61,18 +57,9 @@ impl Audit {
     pub(crate) fn new(alloc: Global, opening: Opening) -> Mem<Audit>
         ensures { IfOk result (λ audit. audit ≡ opened_log opening) }
     {
-        let Opening {
-            cluster,
-            quota,
-            first,
-            cap,
-        } = opening;
-        let entries = Vec::with_capacity(alloc, cap as usize)?;
+        let entries = Vec::with_capacity(alloc, opening.cap as usize)?;
         Ok(Audit {
-            cap,
-            cluster,
-            quota,
-            first,
+            opening,
             entries,
             quotas: Vec::new(alloc),
         })
@@ -82,19 +69,15 @@ impl Audit {
     pub(crate) fn opening(&self) -> Opening
         ensures { result ≡ self.now.opening }
     {
-        Opening {
-            cluster: self.cluster,
-            quota: self.quota,
-            first: self.first,
-            cap: self.cap,
-        }
+        self.opening
     }
 
     /// How many entries it has.
     pub(crate) fn len(&self) -> u32
         ensures { result ≡ length self.now.entries }
     {
-        let _cap = self.cap;
+        // What always holds of an audit is known here once a field is read.
+        let _cap = self.opening.cap;
         self.entries.len() as u32
     }
 
@@ -103,7 +86,11 @@ impl Audit {
         ensures { result ≡ turn_of self.now }
     {
         let turn = self.len();
-        if turn < self.cap { Some(turn) } else { None }
+        if turn < self.opening.cap {
+            Some(turn)
+        } else {
+            None
+        }
     }
 
     /// Appends an entry, unless the audit is full.

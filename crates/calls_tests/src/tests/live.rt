@@ -48,8 +48,14 @@ fn opened_as(rt: &impl Abort, alloc: Global, audit: &Audit) -> Mem<Registry> {
 
 /// The tenant with an audit's opening, alone.
 fn config_of(alloc: Global, audit: &Audit) -> Mem<Vec<TenantConfig>> {
-    let quota = u64::from(audit.quota);
-    let config = config(alloc, "again", audit.cluster, quota, audit.cap)?;
+    let quota = u64::from(audit.opening.quota);
+    let config = config(
+        alloc,
+        "again",
+        audit.opening.cluster,
+        quota,
+        audit.opening.cap,
+    )?;
     Ok(vec![in alloc; config]?)
 }
 
@@ -108,7 +114,7 @@ fn audit_of_resizes<R: Wait + Clock + Abort>(rt: &R, alloc: Global, cap: u32) ->
 #[test]
 fn a_resize_is_kept_and_replayed(rt: HostRuntime) {
     let audit = audit_of_resizes(&rt, rt.alloc(), 8);
-    assert_eq!(rt; (audit.quota, audit.entries.len()), (1024, 3));
+    assert_eq!(rt; (audit.opening.quota, audit.entries.len()), (1024, 3));
     assert!(rt; audit.quotas.as_slice() == [(1, 4), (2, 1024)].as_slice());
     assert!(rt; is_replayed(&rt, rt.alloc(), &audit).expect(&rt, "memory"));
 }
