@@ -3,7 +3,7 @@ ghost use Rattle.std.specs.Prelude.{◌≡◌, ◌≢◌, IfErr, IfOk, length};
 
 use crate::fault::HostFault;
 use etcd_types::limits::MAX_CONFIG;
-use host_sessions::{Config, Ended, Sessions, read_config};
+use host_sessions::{Config, Sessions, read_config};
 use std::alloc::{AllocGlobal, Global};
 use std::io::{Input, Read};
 use std::mem;
@@ -68,10 +68,7 @@ where
         return Err(HostFault::Io);
     };
     println!(rt; "listening on {address}")?;
-    let Ended {
-        connections: _,
-        seats,
-    } = Sessions::serve(rt, listening, registry, seats, &OpenGate)?;
+    let seats = Sessions::serve(rt, listening, registry, seats, &OpenGate)?;
     println!(rt; "ended")?;
     Ok(seats)
 }

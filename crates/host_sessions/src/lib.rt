@@ -25,4 +25,4 @@ mod worker;
 
 pub use config::{Config, ConfigFault, read_config};
 pub use doors::Jobs;
-pub use sessions::{End, Ended, ListenFault, Listening, ServeFault, Sessions};
+pub use sessions::{End, ListenFault, Listening, ServeFault, Sessions};

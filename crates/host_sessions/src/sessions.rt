@@ -61,14 +61,6 @@ impl ServeFault {
     }
 }
 
-/// What is left when the last connection has ended.
-#[derive(Drop)]
-pub struct Ended {
-    /// How many connections were served.
-    pub connections: u32,
-    pub seats: Vec<Seat>,
-}
-
 /// How a connection ended.
 #[derive(Clone, Copy, Debug, PartialEq, Eq)]
 pub enum End {
@@ -110,7 +102,7 @@ impl Sessions {
         }
     }
 
-    /// Serves a registry until as many connections as were told have ended. There has to be a seat for the
+    /// Serves a registry until as many connections as were told have ended, and hands the seats back. There has to be a seat for the
     /// clock, the pump, the catch-up worker and each of the four loops; every other one is a worker's. With fewer
     /// than eight, or where a thread can't be made, that is want of memory.
     pub fn serve<'x, R, G>(
@@ -119,7 +111,7 @@ impl Sessions {
         registry: &'x Registry,
         seats: Vec<Seat>,
         gate: &'x G,
-    ) -> Result<Ended, ServeFault>
+    ) -> Result<Vec<Seat>, ServeFault>
     where
         R: Wait
             + Threads
@@ -142,11 +134,7 @@ impl Sessions {
             return Err(ServeFault::Memory);
         };
         let bring = move |_jobs| accept_all(&rt, &listener, entrances.as_slice(), connections);
-        let seats = staff(rt, registry, seats, gate, loops, bring)?;
-        Ok(Ended {
-            connections: connections.unwrap_or(u32::MAX),
-            seats,
-        })
+        staff(rt, registry, seats, gate, loops, bring)
     }
 
     /// Serves what a function brings, over streams of any kind by `serve_one`, until it returns; all connections
