@@ -111,6 +111,7 @@ with_cells cells held = record {
   share = with_reserved (cells / 64) held.share;
 }
 
+-- what always holds of a region: its slots and their order fit, and the cells of each record are linked
 pub record IsRegion (t : Table) : Type 0 where
   pub table : IsTable t
   pub linked : IsLinked (table_at t)

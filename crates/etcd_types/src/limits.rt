@@ -4,17 +4,17 @@
 pub const MAX_TENANTS: usize = 256;
 /// Bytes of a tenant's name.
 pub const MAX_NAME: usize = 64;
-/// Cells of a tenant's quota, at least and at most.
+/// Cells of a tenant's quota, at least.
 pub const MIN_QUOTA: u64 = 4;
-
+/// Cells of a tenant's quota, at most.
 pub const MAX_QUOTA: u64 = 1_048_576;
 /// Bytes of a cell, which status answers count in.
 pub const CELL_BYTES: u64 = 48;
 /// Cells of a segment.
 pub const SEGMENT_CELLS: u32 = 64;
-/// Segments of a pool, at most, and where nothing is said.
+/// Segments of a pool, at most.
 pub const MAX_SEGMENTS: u32 = 4_194_304;
-
+/// Segments of a pool where nothing is said.
 pub const DEFAULT_SEGMENTS: u32 = 1024;
 /// The last revision that may be written after, and the greatest first revision.
 pub const LAST_REVISION: u64 = 4_611_686_018_427_387_904;

@@ -32,12 +32,14 @@ impl Model for Answer {
 }
 
 impl Answer {
+    /// The status of HTTP.
     pub fn status(&self) -> u16
         ensures { result ≡ self.now.status }
     {
         self.status
     }
 
+    /// The body's bytes.
     pub fn body(&self) -> &[u8]
         ensures { result.now ≡ self.now.body }
     {

@@ -22,6 +22,7 @@ pub struct Front {
 }
 
 impl Front {
+    /// Bytes in front of a host.
     pub fn new(host: Host) -> Front
         ensures { result.host ≡ host }
     {

@@ -14,6 +14,7 @@ use Rattle.model_laws.specs.Recording.{IsIn}
 abbrev pub is_same_place : Recorded → Recorded → Bool
 is_same_place x y = bytes_eq y.key x.key && nat_eq y.revision x.revision
 
+-- no two changes are of one key at one revision
 abbrev pub AreApart : List Recorded → Type 0
 AreApart [] = Unit {0}
 AreApart (x ∷ xs) = AllByRecursion (λ y. is_same_place x y ≡ false) xs × AreApart xs

@@ -13,6 +13,7 @@ pub record IsWithin (revision : ℕ) (row : KeyValue) : Type 0 where
   pub created : row.create_revision ≤ revision
   pub changed : row.mod_revision ≤ revision
 
+-- the row of a put has numbers up to the revision that wrote it
 abbrev pub HasNumbers : Recorded → Type 0
 HasNumbers x = IfSome x.row (λ row. IsWithin x.revision row)
 

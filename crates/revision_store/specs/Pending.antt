@@ -103,6 +103,7 @@ abbrev pub left_by : List DeleteReq → StoreState → List ℕ → Option KeyVa
 left_by deletes store key = if is_erased deletes key then None
     else live key store.kept.current store.kept.changes
 
+-- what a key shows: the row of the last put of it that is pending, else what the deletes leave of the store's
 abbrev pub row_seen : StoreState → List KeyValue → List DeleteReq → List ℕ → Option KeyValue
 row_seen store puts deletes key = option_or (row_put_to key puts) (left_by deletes store key)
 

@@ -4,6 +4,7 @@ use Rattle.etcd_types.specs.declared.reply.Reply.{Reply}
 use Rattle.etcd_types.specs.declared.reply.Reply.TheVariants.{Created, Canceled}
 use Rattle.etcd_model.specs.ReplyText.{reply_status, reply_body}
 
+-- a receipt, as contracts see it
 pub record Slip : Type 0 where
   -- its place in the audit, unless that was full
   pub turn : Option ℕ

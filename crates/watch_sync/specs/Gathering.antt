@@ -31,6 +31,7 @@ with_note g count n = record {
 abbrev pub is_last : Gathering → ℕ → Bool
 is_last g r = nat_lt 0 g.revisions && nat_eq r g.last
 
+-- what is gathered with one note more, or with the mark that more is left
 abbrev pub offered : Gathering → Noted → Gathering
 offered g n =
     if g.more then g
