@@ -8,6 +8,7 @@ mod LeaseRuns
 mod WatchRuns
 mod RangeRuns
 pub mod OrderLaws
+pub mod NamedLaws
 pub mod PoolLaws
 pub mod RowLaws
 pub mod HistoryLaws

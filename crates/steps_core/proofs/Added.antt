@@ -3,6 +3,7 @@ use Rattle.std.proofs.Common.{◌≡◌, ◌∙◌, sym, ap, subst, refl, ℕ, �
 use Rattle.std.specs.Str.{bytes_eq}
 use Rattle.std.specs.Map.{lookup, values_of}
 use Rattle.indexmap.specs.IndexMap.{insert_entry}
+use Rattle.indexmap.proofs.MapLemmas.{absent_from_lookup, insert_entry-absent}
 use Rattle.std.specs.List.{AllByRecursion, IsDistinct}
 use Rattle.std.proofs.lemmas.Bool.{ne_eqb, leb-true}
 use Rattle.std.proofs.lemmas.Bool.Decides.{nat_tests}
@@ -19,9 +20,9 @@ use Rattle.steps_core.specs.declared.adding.OperatorFault.TheVariants.{Taken, Sh
 use Rattle.steps_core.specs.Hosts.{HostState, machine_at, reserved_segments}
 use Rattle.steps_core.specs.Sound.{Agrees, IsIdle, IsHost, host_of, ticket_number, drawn_by, reserved_by}
 use Rattle.steps_core.specs.Adding.{first_fault, within_limits, Adds}
-use Rattle.steps_core.proofs.Shown.{test}
+use Rattle.etcd_model.proofs.NamedLaws.{test, lookup_last, lookup_others}
 use Rattle.steps_core.proofs.Served.{reserved_shown}
-use Rattle.steps_core.proofs.Lists.{all-push, lookup_last, lookup_others, values_push, sum_push, distinct_push, held_apart, held_still}
+use Rattle.steps_core.proofs.Lists.{all-push, values_push, sum_push, distinct_push, held_apart, held_still}
 
 -- ---- what holds of the host
 
@@ -51,16 +52,9 @@ all_still rs free now (e ∷ es) none agree held =
 
 -- a key that no test finds goes last
 pub last : {A X : Type 0} (es gs : List (Vec ℕ A × X)) (k : Vec ℕ A) (v : X) (name : List ℕ) → gs ≡ es → k.items ≡ name → lookup (test name) es ≡ None → insert_entry (λ x y. bytes_eq x.items y.items) gs k v ≡ es ++ (k, v) ∷ []
-last {A = A} {X = X} es gs k v name same key none =
-    ap (λ xs. insert_entry (λ x y. bytes_eq x.items y.items) xs k v) same ∙ pushed es (subst (λ (t : List ℕ). lookup (test t) es ≡ None) (sym key) none)
-  where
-    pushed : (xs : List (Vec ℕ A × X)) → lookup (test k.items) xs ≡ None → insert_entry (λ x y. bytes_eq x.items y.items) xs k v ≡ xs ++ (k, v) ∷ []
-    pushed [] none = refl
-    pushed (e ∷ xs) none = by (bytes_eq k.items e.0.items) none (pushed xs)
-      where
-        by : (b : Bool) → cond b (Some e.1) (lookup (test k.items) xs) ≡ None → (lookup (test k.items) xs ≡ None → insert_entry (λ x y. bytes_eq x.items y.items) xs k v ≡ xs ++ (k, v) ∷ []) → cond b ((e.0, v) ∷ xs) (e ∷ insert_entry (λ x y. bytes_eq x.items y.items) xs k v) ≡ e ∷ xs ++ (k, v) ∷ []
-        by true found rest = cc
-        by false none rest = ap (λ ys. e ∷ ys) (rest none)
+last es gs k v name same key none =
+    ap (λ xs. insert_entry (λ x y. bytes_eq x.items y.items) xs k v) same
+    ∙ insert_entry-absent (λ x y. bytes_eq x.items y.items) k v es (absent_from_lookup (test k.items) es (subst (λ (t : List ℕ). lookup (test t) es ≡ None) (sym key) none))
 
 pub added : {A : Type 0} (es fs : List (Vec ℕ A × Tenant)) (d e : Desk) (k : Vec ℕ A) (v : Tenant) (n : ℕ) → IsHost es d → fs ≡ es ++ (k, v) ∷ []
     → v.machine.store.share ≡ undrawn n → 1 ≤ n → IsLeastUnheld d.pool.reservations v.ticket.number → v.ticket ≡ record v.ticket { reserved = n; drawn = 0 } → e.ticket ≡ d.ticket
@@ -154,10 +148,6 @@ pub neither : (a b : Bool) → (not a || b) ≡ false → (a ≡ true) × (b ≡
 neither true false h = (refl, refl)
 neither true true h = absurd (cc)
 neither false b h = absurd (cc)
-
-pub absent : {X : Type 0} (o : Option X) → is_some o ≡ false → o ≡ None
-absent None h = refl
-absent (Some x) h = absurd (true≢false h)
 
 -- ---- numbers
 

@@ -16,24 +16,6 @@ pub all-front : {X : Type 0} (P : X → Type 0) (xs : List X) (x : X) → AllByR
 all-front P [] x h = (tt, h.0)
 all-front P (y ∷ xs) x h = let rest = all-front P xs x h.1 in ((h.0, rest.0), rest.1)
 
--- a name that is not among some goes last
-pub lookup_last : {X : Type 0} (t : List ℕ) (xs : List (List ℕ × X)) (x : X) → lookup (bytes_eq t) xs ≡ None → lookup (bytes_eq t) (xs ++ (t, x) ∷ []) ≡ Some x
-lookup_last t [] x none = rw ((bytes_decides t t).1 refl) refl
-lookup_last t (e ∷ xs) x none = by (bytes_eq t e.0) none (lookup_last t xs x)
-  where
-    by : (b : Bool) → cond b (Some e.1) (lookup (bytes_eq t) xs) ≡ None → (lookup (bytes_eq t) xs ≡ None → lookup (bytes_eq t) (xs ++ (t, x) ∷ []) ≡ Some x) → cond b (Some e.1) (lookup (bytes_eq t) (xs ++ (t, x) ∷ [])) ≡ Some x
-    by true none rest = cc
-    by false none rest = rest none
-
--- and is found by no other name
-pub lookup_others : {X : Type 0} (t u : List ℕ) (xs : List (List ℕ × X)) (x : X) → u ≢ t → lookup (bytes_eq u) (xs ++ (t, x) ∷ []) ≡ lookup (bytes_eq u) xs
-lookup_others t u [] x differ = by (bytes_eq u t) refl
-  where
-    by : (b : Bool) → bytes_eq u t ≡ b → cond b (Some x) None ≡ None
-    by false h = refl
-    by true h = absurd (differ ((bytes_decides u t).0 h))
-lookup_others t u (e ∷ xs) x differ = ap (cond (bytes_eq u e.0) (Some e.1)) (lookup_others t u xs x differ)
-
 pub values_push : {K X : Type 0} (es : List (K × X)) (k : K) (x : X) → values_of (es ++ (k, x) ∷ []) ≡ values_of es ++ x ∷ []
 values_push [] k x = refl
 values_push (e ∷ es) k x = ap (λ xs. e.1 ∷ xs) (values_push es k x)

@@ -14,7 +14,8 @@ use Rattle.steps_core.specs.Hosts.{HostState, machine_at, reserved_segments}
 use Rattle.steps_core.specs.Sound.{Agrees, IsHost, LeavesNone, host_of, ticket_number, drawn_by, reserved_by}
 use Rattle.steps_core.specs.Reserving.{reserved_at}
 use Rattle.steps_core.specs.Removing.{Removes}
-use Rattle.steps_core.proofs.Shown.{test, apart, machine_in, shown, shown_at}
+use Rattle.etcd_model.proofs.NamedLaws.{test, apart}
+use Rattle.steps_core.proofs.Shown.{machine_in, shown, shown_at}
 use Rattle.steps_core.proofs.Served.{all_at, reserved_shown}
 use Rattle.steps_core.proofs.Resized.{others_held, held_before, reserves_at, reserves_none}
 

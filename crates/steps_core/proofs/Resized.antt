@@ -20,8 +20,9 @@ use Rattle.steps_core.specs.Sound.{Agrees, IsIdle, IsHost, CanReserve, Reserves,
 use Rattle.steps_core.specs.Adding.{is_quota}
 use Rattle.steps_core.specs.Reserving.{reserved_at, wanted_at}
 use Rattle.steps_core.specs.Resizing.{resize_fault, lacks_segments, Resizes}
+use Rattle.etcd_model.proofs.NamedLaws.{test, own_set, others_set}
 use Rattle.steps_core.proofs.Lists.{held_still}
-use Rattle.steps_core.proofs.Shown.{test, machine_in, shown, shown_at, own_set, others_set}
+use Rattle.steps_core.proofs.Shown.{machine_in, shown, shown_at}
 use Rattle.steps_core.proofs.Served.{all_at, all_set, numbers_set, promised_at, reserved_shown, names_set}
 use Rattle.steps_core.proofs.Added.{same_host, unreserved}
 

@@ -13,7 +13,7 @@ use Rattle.steps_core.specs.declared.tenant.Tenant.{Tenant}
 use Rattle.tenant_machine.specs.Tenants.{MachineState}
 use Rattle.steps_core.specs.Hosts.{names_of, reserved_segments}
 use Rattle.steps_core.specs.Sound.{host_of, Agrees, IsIdle, IsHost, CanServe, Leaves, ticket_number, drawn_by, reserved_by}
-use Rattle.steps_core.proofs.Shown.{test}
+use Rattle.etcd_model.proofs.NamedLaws.{test}
 
 -- what holds of each tenant holds of one that is found
 pub all_at : {A : Type 0} (P : Tenant → Type 0) (t : List ℕ) (es : List (Vec ℕ A × Tenant)) (v : Tenant) → AllByRecursion (λ e. P e.1) es → lookup (test t) es ≡ Some v → P v

@@ -9,7 +9,7 @@ use Rattle.steps_core.specs.declared.adding.OperatorFault.{OperatorFault}
 use Rattle.steps_core.specs.declared.adding.OperatorFault.TheVariants.{Memory}
 use Rattle.cell_arena.specs.Loan.{segments_for}
 use Rattle.tenant_registry.specs.declared.adding.TenantConfig.{TenantConfig}
-use Rattle.tenant_registry.specs.declared.audit.Opening.{Opening}
+use Rattle.tenant_audit.specs.declared.audit.Opening.{Opening}
 use Rattle.tenant_registry.specs.declared.tenant.Tenant.{Tenant}
 use Rattle.tenant_registry.specs.Adding.{CanAdd, IsUnadded, add_fault, config_fault, configs_fault, fault_beside, or_else, opened, unmade}
 use Rattle.tenant_registry.specs.Registries.{RegistryState, has_tenant, is_among, is_taken, tenants_of, was_removed}

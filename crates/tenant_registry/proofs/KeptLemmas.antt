@@ -18,13 +18,13 @@ use Rattle.steps_core.specs.Resizing.{resized}
 use Rattle.tenant_machine.specs.Tenants.{MachineState, tenant}
 use Rattle.tenant_machine.specs.Reserving.{reservation, roomier, with_quota}
 use Rattle.tenant_machine.specs.Plans.{Plan, Plans, IsAfter, Steps}
-use Rattle.tenant_registry.specs.declared.audit.Entry.{Entry}
-use Rattle.tenant_registry.specs.declared.audit.Opening.{Opening}
+use Rattle.tenant_audit.specs.declared.audit.Entry.{Entry}
+use Rattle.tenant_audit.specs.declared.audit.Opening.{Opening}
 use Rattle.tenant_registry.specs.declared.kept.Served.{Served}
-use Rattle.tenant_registry.specs.Audits.{Act, Asked, Resized, Log, IsOpen, acts_after, acts_of, at_quota, entry, replies_of, replies_to_acts, resized_after, state_after_acts, opened_log, opening_of, first_of, end_of, turn_of, with_entry, with_entry_at, with_change, with_change_at}
+use Rattle.tenant_audit.specs.Audits.{Act, Asked, Resized, Log, IsOpen, acts_after, acts_of, at_quota, entry, replies_of, replies_to_acts, resized_after, state_after_acts, opened_log, opening_of, first_of, end_of, turn_of, with_entry, with_entry_at, with_change, with_change_at}
 use Rattle.tenant_registry.specs.Keeping.{Content, IsKept, loan_of}
-use Rattle.tenant_registry.specs.Receipts.{slip_of}
-use Rattle.tenant_registry.specs.Seats.{call_at}
+use Rattle.tenant_audit.specs.Receipts.{slip_of}
+use Rattle.tenant_audit.specs.Seats.{call_at}
 use Rattle.tenant_registry.specs.Serving.{Serves, IsServed}
 
 -- ---- runs

@@ -1,7 +1,6 @@
 -- Proofs of this crate.
 pub mod AddingLemmas
-pub mod ClosedLemmas
-pub mod ClosingLemmas
+pub mod CloseLemmas
 pub mod KeptLemmas
 pub mod RegistryLemmas
 pub mod ResizingLemmas

@@ -4,8 +4,8 @@ use Rattle.std.specs.Option.{option_map}
 use Rattle.std.proofs.lemmas.Option.{slice_get-map}
 use Rattle.std.specs.Str.{bytes_eq}
 use Rattle.std.specs.Map.{lookup}
-use Rattle.steps_core.proofs.Shown.{test}
-use Rattle.tenant_registry.specs.declared.audit.Opening.{Opening}
+use Rattle.etcd_model.proofs.NamedLaws.{test}
+use Rattle.tenant_audit.specs.declared.audit.Opening.{Opening}
 use Rattle.tenant_registry.specs.declared.tenant.Tenant.{Tenant}
 use Rattle.tenant_registry.specs.Registries.{RegistryState, has_tenant, is_among, names_of, tenants_of}
 

@@ -10,8 +10,8 @@ use Rattle.std.proofs.lemmas.List.{length-map}
 use Rattle.std.proofs.lemmas.Option.{same_Some}
 use Rattle.indexmap.specs.IndexMap.{insert_entry, move_index}
 use Rattle.steps_core.proofs.Added.{last}
-use Rattle.steps_core.proofs.Shown.{test}
-use Rattle.tenant_registry.specs.declared.audit.Opening.{Opening}
+use Rattle.etcd_model.proofs.NamedLaws.{test}
+use Rattle.tenant_audit.specs.declared.audit.Opening.{Opening}
 use Rattle.tenant_registry.specs.declared.tenant.Tenant.{Tenant}
 use Rattle.tenant_registry.specs.Registries.{tenants_of}
 

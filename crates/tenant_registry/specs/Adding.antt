@@ -7,7 +7,7 @@ use Rattle.steps_core.specs.declared.adding.OperatorFault.{OperatorFault}
 use Rattle.steps_core.specs.declared.adding.OperatorFault.TheVariants.{Limits, Memory}
 use Rattle.steps_core.specs.Adding.{first_fault, is_name, within_limits}
 use Rattle.tenant_registry.specs.declared.adding.TenantConfig.{TenantConfig}
-use Rattle.tenant_registry.specs.declared.audit.Opening.{Opening}
+use Rattle.tenant_audit.specs.declared.audit.Opening.{Opening}
 use Rattle.tenant_registry.specs.Registries.{RegistryState, is_among, is_taken}
 
 -- what a tenant is opened with

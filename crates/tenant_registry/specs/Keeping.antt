@@ -5,7 +5,7 @@ use Rattle.cell_arena.specs.Loan.{Loan, IsLent}
 use Rattle.etcd_model.specs.Held.{Holds}
 use Rattle.etcd_model.specs.Pool.{StockState}
 use Rattle.tenant_machine.specs.Tenants.{MachineState, machine_code, tenant}
-use Rattle.tenant_registry.specs.Audits.{Act, Log, IsLawful, IsOpen, end_of, state_after_acts}
+use Rattle.tenant_audit.specs.Audits.{Act, Log, IsLawful, IsOpen, end_of, state_after_acts}
 
 -- the machine, the audit, and the segments that are reserved and not drawn
 pub record Content : Type 0 where

@@ -1,14 +1,8 @@
-pub mod Audits
-pub mod AuditInside
-pub mod Receipts
 pub mod Keeping
 pub mod Serving
 pub mod KeptInside
-pub mod Seats
 pub mod Registries
 pub mod Adding
 pub mod Resizing
 pub mod Removing
-pub mod Closing
-pub mod Closed
 pub mod RegistryInside

@@ -6,7 +6,7 @@ use Rattle.std.specs.Map.{lookup}
 use Rattle.etcd_types.specs.declared.limits.TheConstants.{MAX_SEATS}
 use Rattle.etcd_types.specs.declared.refusal.Refusal.{Refusal}
 use Rattle.etcd_types.specs.declared.refusal.Refusal.TheVariants as refusal
-use Rattle.tenant_registry.specs.declared.audit.Opening.{Opening}
+use Rattle.tenant_audit.specs.declared.audit.Opening.{Opening}
 use Rattle.tenant_registry.specs.declared.registry.SeatFault.{SeatFault}
 use Rattle.tenant_registry.specs.declared.registry.SeatFault.TheVariants as seat
 use Rattle.tenant_registry.specs.declared.tenant.Tenant.{Tenant}

@@ -6,7 +6,7 @@ use Rattle.steps_core.specs.declared.adding.OperatorFault.{OperatorFault}
 use Rattle.steps_core.specs.declared.adding.OperatorFault.TheVariants.{Name, Limits, NoTenant, Short, Memory}
 use Rattle.steps_core.specs.Adding.{is_name, is_quota}
 use Rattle.steps_core.specs.Resizing.{resized}
-use Rattle.tenant_registry.specs.Audits.{turn_of, with_change_at}
+use Rattle.tenant_audit.specs.Audits.{turn_of, with_change_at}
 use Rattle.tenant_registry.specs.Adding.{unmade}
 use Rattle.tenant_registry.specs.Keeping.{Content}
 use Rattle.tenant_registry.specs.Registries.{RegistryState, has_tenant}

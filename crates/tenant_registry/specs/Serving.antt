@@ -6,10 +6,10 @@ use Rattle.etcd_types.specs.declared.reply.Reply.{Reply}
 use Rattle.etcd_types.specs.declared.reply.Reply.TheVariants.{Refused}
 use Rattle.tenant_machine.specs.Plans.{Steps}
 use Rattle.tenant_registry.specs.declared.kept.Served.{Served}
-use Rattle.tenant_registry.specs.Audits.{entry, turn_of, with_entry_at}
+use Rattle.tenant_audit.specs.Audits.{entry, turn_of, with_entry_at}
 use Rattle.tenant_registry.specs.Keeping.{Content}
-use Rattle.tenant_registry.specs.Receipts.{slip_of}
-use Rattle.tenant_registry.specs.Seats.{call_at}
+use Rattle.tenant_audit.specs.Receipts.{slip_of}
+use Rattle.tenant_audit.specs.Seats.{call_at}
 
 -- One step of the machine, with one reply. It is kept with the reply unless the audit is full, and the
 -- receipt is the reply's text.

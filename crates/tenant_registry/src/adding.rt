@@ -6,7 +6,6 @@ ghost use Rattle.steps_core.specs.Adding.{within_limits};
 ghost use Rattle.tenant_registry.specs.Adding.{config_fault, fault_beside, new_fault, opened, opening_for};
 ghost use Rattle.tenant_registry.specs.Registries.{is_among, tenants_of};
 
-use crate::audit::Opening;
 use crate::kept::Kept;
 use crate::tenant::Tenant;
 use etcd_types::Mem;
@@ -16,6 +15,7 @@ use segment_pool::Stock;
 use std::alloc::Global;
 use std::sync::Mutex;
 use steps_core::{OperatorFault, is_name, within_limits};
+use tenant_audit::Opening;
 use tenant_machine::segments_for;
 
 /// What a tenant is to be.

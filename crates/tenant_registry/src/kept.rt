@@ -5,20 +5,19 @@ ghost use Rattle.etcd_model.specs.Held.{Holds};
 ghost use Rattle.etcd_types.specs.Limits.{max_quota};
 ghost use Rattle.tenant_machine.specs.Reserving.{reservation};
 ghost use Rattle.tenant_machine.specs.Tenants.{tenant};
-ghost use Rattle.tenant_registry.specs.Audits.{IsAllowed, IsLawful, opened_log, opening_of};
-ghost use Rattle.tenant_registry.specs.Receipts.{is_cancel, slip_of, slot_of};
+ghost use Rattle.tenant_audit.specs.Audits.{IsAllowed, IsLawful, opened_log, opening_of};
+ghost use Rattle.tenant_audit.specs.Receipts.{is_cancel, slip_of, slot_of};
 ghost use Rattle.tenant_registry.specs.Resizing.{Resizes, Stays, lacks_segments, unresized};
-ghost use Rattle.tenant_registry.specs.Seats.{call_at};
+ghost use Rattle.tenant_audit.specs.Seats.{call_at};
 ghost use Rattle.tenant_registry.specs.Serving.{Serves};
 
-use crate::audit::{Audit, Entry, Opening};
-use crate::tally::MadeCall;
 use etcd_types::{Mem, Reply, Step};
 use gateway_text::write_reply;
 use segment_pool::Stock;
 use std::alloc::Global;
 use std::marker::Model;
 use steps_core::OperatorFault;
+use tenant_audit::{Audit, Entry, MadeCall, Opening};
 use tenant_machine::{Hint, Machine, segments_for};
 
 /// What a call was answered. Only `Kept::serve` makes one.
@@ -32,7 +31,7 @@ pub struct Receipt {
 }
 
 impl Model for Receipt {
-    ghost use Rattle.tenant_registry.specs.Receipts.{Slip};
+    ghost use Rattle.tenant_audit.specs.Receipts.{Slip};
 
     ghost Value = { Slip };
 

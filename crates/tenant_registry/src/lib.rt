@@ -6,22 +6,16 @@
 #![tactic(auto)]
 
 mod adding;
-mod audit;
 mod close;
-mod closed;
 mod gate;
 mod kept;
 mod registry;
 mod removing;
-mod seat;
-mod tally;
 mod tenant;
 
 pub use adding::{TenantConfig, check};
-pub use audit::{Audit, Entry, Opening};
-pub use closed::{CloseFault, Closed};
 pub use gate::{Gate, OpenGate};
 pub use kept::{Kept, Receipt, Served};
 pub use registry::{Registry, SeatFault};
-pub use seat::Seat;
+pub use tenant_audit::{Audit, CloseFault, Closed, Entry, Opening, Seat};
 pub use tenant_machine::Hint;

@@ -4,22 +4,19 @@ ghost use Rattle.std.specs.Prelude.{OnErr, OnOk, Bool, if◌then◌else◌, is_s
 ghost use Rattle.etcd_types.specs.Limits.{max_quota};
 ghost use Rattle.steps_core.specs.declared.adding.OperatorFault.TheVariants.{Memory, Short};
 ghost use Rattle.tenant_registry.specs.Adding.{CanAdd, IsUnadded, new_fault, new_registry, unmade, with_tenant};
-ghost use Rattle.tenant_registry.specs.Audits.{IsLawful};
-ghost use Rattle.tenant_registry.specs.Closed.{AreClosed, HasFault, audits_of};
+ghost use Rattle.tenant_audit.specs.Audits.{IsLawful};
+ghost use Rattle.tenant_audit.specs.Closed.{AreClosed, HasFault, audits_of};
 ghost use Rattle.tenant_registry.specs.Registries.{has_tenant, is_taken, names_of, no_seat, unserved};
 ghost use Rattle.tenant_registry.specs.Removing.{remove_fault, without};
 ghost use Rattle.tenant_registry.specs.Resizing.{CanResize, IsUnresized};
-ghost use Rattle.tenant_registry.specs.Seats.{Keeps, KeepsLists};
+ghost use Rattle.tenant_audit.specs.Seats.{Keeps, KeepsLists};
 ghost use Rattle.tenant_registry.specs.Serving.{IsServed};
 
 use crate::adding::{TenantConfig, admit, check, left_of};
-use crate::audit::Audit;
-use crate::close::Sheet;
-use crate::closed::{CloseFault, Closed, close};
+use crate::close::close;
 use crate::gate::{Gate, pass};
 use crate::kept::{Kept, Receipt, Served};
 use crate::removing::{is_one_of, take_out};
-use crate::seat::Seat;
 use crate::tenant::Tenant;
 use etcd_types::limits::MAX_SEATS;
 use etcd_types::{Mem, Refusal, Step};
@@ -30,6 +27,7 @@ use std::marker::Model;
 use std::rt::Clock;
 use std::sync::{Mutex, Wait};
 use steps_core::{OperatorFault, is_name, is_quota};
+use tenant_audit::{Audit, CloseFault, Closed, Seat, Sheet};
 use tenant_machine::Hint;
 
 /// Why no seat is given.

@@ -4,16 +4,16 @@ ghost use Rattle.std.specs.List.{list_any};
 ghost use Rattle.std.specs.Map.{remove_entry};
 ghost use Rattle.std.specs.Str.{bytes_eq};
 ghost use Rattle.indexmap.specs.IndexMap.{spare};
-ghost use Rattle.tenant_registry.specs.Audits.{IsLawful};
+ghost use Rattle.tenant_audit.specs.Audits.{IsLawful};
 ghost use Rattle.tenant_registry.specs.Registries.{is_among, tenants_of};
 
-use crate::audit::Audit;
 use crate::tenant::Tenant;
 use etcd_types::Mem;
 use indexmap::IndexMap;
 use segment_pool::Stock;
 use std::alloc::AllocError;
 use std::sync::Mutex;
+use tenant_audit::Audit;
 
 /// One of these names is the name.
 pub(crate) fn is_one_of(names: &[Vec<u8>], name: &[u8]) -> bool

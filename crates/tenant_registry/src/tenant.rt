@@ -1,7 +1,7 @@
 //! A tenant of a registry.
-use crate::audit::Opening;
 use crate::kept::Kept;
 use std::sync::Mutex;
+use tenant_audit::Opening;
 
 /// What a tenant was opened with, beside the lock on all else.
 #[derive(Drop)]

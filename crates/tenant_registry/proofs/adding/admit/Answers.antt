@@ -1,6 +1,7 @@
 use Rattle.std.proofs.Common.{◌∙◌, ap, ◌++◌, ◌∷◌, []}
-use Rattle.steps_core.proofs.Added.{absent, last, no_faults}
-use Rattle.tenant_registry.specs.declared.audit.Opening.{Opening}
+use Rattle.etcd_model.proofs.NamedLaws.{absent}
+use Rattle.steps_core.proofs.Added.{last, no_faults}
+use Rattle.tenant_audit.specs.declared.audit.Opening.{Opening}
 use Rattle.tenant_registry.specs.declared.tenant.Tenant.{Tenant}
 use Rattle.tenant_registry.specs.Registries.{tenants_of}
 use Rattle.tenant_registry.proofs.AddingLemmas.{tenants_push}

@@ -3,7 +3,7 @@ use Rattle.std.specs.Option.{IsSome, option_map}
 use Rattle.std.specs.Map.{keys_of, lookup}
 use Rattle.std.proofs.lemmas.List.{length-map}
 use Rattle.std.proofs.lemmas.Map.Made.{lookup_key_passes}
-use Rattle.steps_core.proofs.Shown.{test}
+use Rattle.etcd_model.proofs.NamedLaws.{test}
 use Rattle.tenant_registry.specs.Registries.{tenants_of}
 use Rattle.tenant_registry.proofs.RegistryLemmas.{found_shown}
 use Rattle.tenant_registry.proofs.RemovingLemmas.{place_is, put_back, same_name, shown_without}

@@ -3,10 +3,11 @@ use Rattle.std.specs.Int.{w64}
 use Rattle.std.proofs.lemmas.Int.{to_z_pos}
 use Rattle.cell_arena.specs.Loan.{segments_for, undrawn}
 use Rattle.etcd_model.specs.Pool.{PoolState}
+use Rattle.etcd_model.proofs.NamedLaws.{absent}
 use Rattle.steps_core.specs.declared.tenant.Tenant.{Tenant}
 use Rattle.steps_core.specs.Adding.{within_limits}
 use Rattle.steps_core.proofs.Shown.{shown_there}
-use Rattle.steps_core.proofs.Added.{last, first_fits, some_segments, added, adds, is_short, no_faults, neither, absent}
+use Rattle.steps_core.proofs.Added.{last, first_fits, some_segments, added, adds, is_short, no_faults, neither}
 use Rattle.steps_core.proofs.host.Host.admit.Goals as goal
 
 pub unreachable-requires : goal.unreachable-requires

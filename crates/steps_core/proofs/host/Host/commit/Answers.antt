@@ -4,7 +4,8 @@ use Rattle.std.specs.Map.{lookup}
 use Rattle.tenant_machine.specs.Plans.{Fits, IsAfter}
 use Rattle.steps_core.specs.Hosts.{HostState, machine_at, names_of, reserved_segments}
 use Rattle.steps_core.specs.Sound.{IsHost, host_of}
-use Rattle.steps_core.proofs.Shown.{shown, shown_at, test, machine_in, own_set, others_set}
+use Rattle.etcd_model.proofs.NamedLaws.{test, own_set, others_set}
+use Rattle.steps_core.proofs.Shown.{shown, shown_at, machine_in}
 use Rattle.steps_core.proofs.Served.{can_serve, served, names_set, reserved_set}
 use Rattle.steps_core.proofs.host.Host.commit.Goals as goal
 

@@ -2,7 +2,8 @@ use Rattle.std.proofs.Common.{◌≡◌, ◌∙◌, sym, ap, subst, refl, is_som
 use Rattle.std.specs.Map.{lookup}
 use Rattle.steps_core.specs.Sound.{IsHost, host_of}
 use Rattle.steps_core.specs.Removing.{Removes}
-use Rattle.steps_core.proofs.Shown.{shown_at, test}
+use Rattle.etcd_model.proofs.NamedLaws.{test}
+use Rattle.steps_core.proofs.Shown.{shown_at}
 use Rattle.steps_core.proofs.Served.{can_serve}
 use Rattle.steps_core.proofs.Removed.{removed, removes, by_two}
 use Rattle.steps_core.proofs.host.Host.remove.Goals as goal

@@ -2,7 +2,7 @@ use Rattle.std.proofs.Common.{◌≡◌, ◌∙◌, sym, ap, arith, rules, FitsS
 use Rattle.std.specs.Int.{w64}
 use Rattle.cell_arena.specs.Loan.{Share, undrawn}
 use Rattle.etcd_model.specs.Pool.{StockState}
-use Rattle.tenant_registry.specs.Audits.{first_of}
+use Rattle.tenant_audit.specs.Audits.{first_of}
 use Rattle.tenant_registry.proofs.KeptLemmas.{first_is, opened_kept}
 use Rattle.tenant_registry.proofs.kept.Kept.open.Goals as goal
 

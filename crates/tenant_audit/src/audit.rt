@@ -1,0 +1,117 @@
+//! What was served on a tenant, in order, from its opening on, with the quotas that it was given.
+ghost use Rattle.std.specs.Prelude.{◌≡◌, length, IfOk, OnErr, OnOk};
+ghost use Rattle.tenant_audit.specs.Audits.{opened_log, turn_of, with_change_at, with_entry_at};
+
+use etcd_types::{Mem, Reply, Step};
+use std::alloc::Global;
+use std::marker::Model;
+
+/// What a tenant is opened with.
+#[derive(Clone, Copy, Debug, PartialEq, Eq)]
+pub struct Opening {
+    /// The cluster's ID.
+    pub cluster: u64,
+    /// The cells that the tenant may use.
+    pub quota: u32,
+    /// The revision of the empty store.
+    pub first: i64,
+    /// How many entries the audit takes.
+    pub cap: u32,
+}
+
+/// One step that was served: who asked it, what was asked, and what was answered.
+#[derive(Debug, Drop)]
+pub struct Entry {
+    /// The number of the caller's seat.
+    pub seat: u8,
+    pub step: Step,
+    pub reply: Reply,
+}
+
+/// The steps that were served on a tenant, in order, up to a number of them, and the quotas that it was given
+/// meanwhile. Once it has so many steps, nothing that comes later is kept.
+#[derive(Drop)]
+pub struct Audit {
+    pub opening: Opening,
+    /// There is room for all that it takes.
+    pub entries: Vec<Entry>,
+    /// The quotas that the tenant was given since, in order, each in cells, after the number of entries that
+    /// were there before.
+    pub quotas: Vec<(u32, u32)>,
+}
+
+impl Model for Audit {
+    ghost use Rattle.tenant_audit.specs.Audits.{Log};
+
+    ghost Value = { Log };
+
+    ghost use Rattle.tenant_audit.specs.AuditInside.{IsWithin, log_of};
+
+    ghost view = { log_of };
+
+    ghost invariant = { IsWithin };
+}
+
+impl Audit {
+    /// An audit with no entries, and with room for all that it takes.
+    pub fn new(alloc: Global, opening: Opening) -> Mem<Audit>
+        ensures { IfOk result (λ audit. audit ≡ opened_log opening) }
+    {
+        let entries = Vec::with_capacity(alloc, opening.cap as usize)?;
+        Ok(Audit {
+            opening,
+            entries,
+            quotas: Vec::new(alloc),
+        })
+    }
+
+    /// What its tenant was opened with.
+    pub fn opening(&self) -> Opening
+        ensures { result ≡ self.now.opening }
+    {
+        self.opening
+    }
+
+    /// How many entries it has.
+    pub(crate) fn len(&self) -> u32
+        ensures { result ≡ length self.now.entries }
+    {
+        // What always holds of an audit is known here once a field is read.
+        let _cap = self.opening.cap;
+        self.entries.len() as u32
+    }
+
+    /// The place of the next entry, counted from 0, unless the audit is full.
+    pub fn next_turn(&self) -> Option<u32>
+        ensures { result ≡ turn_of self.now }
+    {
+        let turn = self.len();
+        if turn < self.opening.cap {
+            Some(turn)
+        } else {
+            None
+        }
+    }
+
+    /// Appends an entry, unless the audit is full.
+    pub fn keep(&mut self, entry: Entry)
+        ensures { self.new ≡ with_entry_at (turn_of self.old) self.old entry }
+    {
+        match self.next_turn() {
+            Some(_) => self.entries.push_reserved(entry),
+            None => drop(entry),
+        }
+    }
+
+    /// Appends another quota, after the entries that are there, unless the audit is full. If it finds no
+    /// memory, nothing changes.
+    pub fn keep_quota(&mut self, quota: u32) -> Mem<()>
+        ensures ok { OnOk result (self.new ≡ with_change_at (turn_of self.old) quota self.old) }
+        ensures err { OnErr result (self.new ≡ self.old) }
+    {
+        if let Some(turn) = self.next_turn() {
+            self.quotas.push((turn, quota))?;
+        }
+        Ok(())
+    }
+}

@@ -1,7 +1,0 @@
-use Rattle.std.proofs.Common.{ℕ, ◌<◌, get_or}
-use Rattle.tenant_registry.specs.Closing.{IsInOrder}
-use Rattle.tenant_registry.specs.Seats.{SeatState}
-use Rattle.tenant_registry.proofs.close.differs_at.Given as goal
-
-abbrev pub invariant-loop-seat : goal.invariant-loop-seat
-invariant-loop-seat l = (k : ℕ) (d : SeatState) → k < l.seat-index → IsInOrder l.sheet.name.items l.sheet.audit.entries (get_or l.seats k d)

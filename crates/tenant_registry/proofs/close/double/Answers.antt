@@ -1,6 +1,0 @@
-use Rattle.std.proofs.Common.{arith}
-use Rattle.tenant_registry.proofs.ClosingLemmas.{apart_all}
-use Rattle.tenant_registry.proofs.close.double.Goals as goal
-
-pub returns : goal.returns
-returns c = apart_all c.args.seats.now (λ k d lt. c.loop-seat.invariant k d (omega arith))

@@ -1,7 +1,0 @@
-use Rattle.std.proofs.Common.{ℕ, ◌≤◌, ◌<◌, get_or}
-use Rattle.tenant_registry.specs.Closing.{times}
-use Rattle.tenant_registry.specs.Seats.{SeatState}
-use Rattle.tenant_registry.proofs.close.double.Given as goal
-
-abbrev pub invariant-loop-seat : goal.invariant-loop-seat
-invariant-loop-seat l = (k : ℕ) (d : SeatState) → k < l.seat-index → times (get_or l.seats k d).number l.seats ≤ 1

@@ -1,7 +1,0 @@
-use Rattle.std.proofs.Common.{ℕ, ◌<◌, get_or}
-use Rattle.tenant_registry.specs.declared.close.Sheet.{Sheet}
-use Rattle.tenant_registry.specs.Closing.{IsAsGiven}
-use Rattle.tenant_registry.proofs.close.first_not_as_given.Given as goal
-
-abbrev pub invariant-loop-place : goal.invariant-loop-place
-invariant-loop-place l = (k : ℕ) (d : Sheet) → k < l.place → IsAsGiven (get_or l.sheets k d)

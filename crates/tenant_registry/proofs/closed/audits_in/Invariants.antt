@@ -1,6 +1,0 @@
-use Rattle.std.proofs.Common.{◌≡◌}
-use Rattle.tenant_registry.specs.Closed.{audits_of, sheet_audits}
-use Rattle.tenant_registry.proofs.closed.audits_in.Given as goal
-
-abbrev pub invariant-loop-sheet : goal.invariant-loop-sheet
-invariant-loop-sheet l = audits_of l.audits.items ≡ sheet_audits l.yielded
