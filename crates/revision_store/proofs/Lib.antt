@@ -15,13 +15,7 @@ pub mod Merged
 pub mod ComparingReads
 pub mod Costs
 pub mod Walked
-pub mod SortingRows
-pub mod AnsweringLaws
-pub mod RangingCells
-pub mod RangingAnswers
 pub mod RangingReads
-pub mod TakingRows
-pub mod MixingRows
 pub mod MixingCells
 pub mod PendingStores
 pub mod PendingReads

@@ -16,7 +16,7 @@ use Rattle.revision_store.specs.Mixing.{by_cell, cells_without, is_put_to, unput
 use Rattle.revision_store.specs.Pending.{AreRows}
 use Rattle.revision_store.specs.Plans.{key_at}
 use Rattle.revision_store.specs.Stored.{row_at}
-use Rattle.revision_store.proofs.RangingCells.{all_kept}
+use Rattle.range_rows.proofs.RangingCells.{all_kept}
 
 module _ (cells : Cells) (key : List ℕ) where
   abbrev pub Unlike : ℕ → Type 0

@@ -23,19 +23,20 @@ use Rattle.model_laws.specs.Once.{IsOnce}
 use Rattle.model_laws.proofs.RecordedLaws.{all_append, all_weaker}
 use Rattle.model_laws.proofs.RowLaws.{by_key_total, has_key, rows_by_their_keys, rows_rise}
 use Rattle.model_laws.proofs.SortingLaws.{already_in_order}
-use Rattle.revision_store.specs.Mixing.{HaveOwnKeys, by_cell, is_put_to, unput_cells}
+use Rattle.range_rows.specs.Taking.{HaveOwnKeys}
+use Rattle.revision_store.specs.Mixing.{by_cell, is_put_to, unput_cells}
 use Rattle.revision_store.specs.Pending.{AreRows, IsPending, is_erased, left_cells, put_row, row_put_to, rows_at}
 use Rattle.revision_store.specs.Plans.{change_in, key_at}
 use Rattle.revision_store.specs.Ranging.{rows_of}
 use Rattle.revision_store.specs.Stored.{StoreState, cells, changes_of, look, row_at}
 use Rattle.revision_store.specs.declared.plan.Write.{Write}
 use Rattle.revision_store.specs.declared.plan.Write.TheVariants.{Put, Delete}
-use Rattle.revision_store.proofs.MixingRows.{distinct_kept}
+use Rattle.range_rows.proofs.MixingRows.{distinct_kept}
 use Rattle.revision_store.proofs.PendingDeletes.{Under, uncons, under_kept, under_left, under_rows}
 use Rattle.revision_store.proofs.PendingReads.{find_filtered}
 use Rattle.revision_store.proofs.PendingRows.{find_put_all, inside, left, puts, rows_are, sorted_all}
 use Rattle.revision_store.proofs.PendingStores.{own_cells}
-use Rattle.revision_store.proofs.RangingCells.{all_kept, filter_map-is}
+use Rattle.range_rows.proofs.RangingCells.{all_kept, filter_map-is}
 
 -- ---- a row of a put takes the place of its key's
 

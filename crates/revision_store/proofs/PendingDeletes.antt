@@ -34,7 +34,7 @@ use Rattle.revision_store.specs.declared.plan.Write.TheVariants.{Put, Delete}
 use Rattle.revision_store.proofs.PendingReads.{one_revision, row_more, none_put, none_where_live, after_deletes, find_filtered, found_inside, none_found}
 use Rattle.revision_store.proofs.PendingPuts.{rows_at-more}
 use Rattle.revision_store.proofs.PendingStores.{own_cells}
-use Rattle.revision_store.proofs.RangingCells.{all_kept}
+use Rattle.range_rows.proofs.RangingCells.{all_kept}
 
 -- ---- rows under cells
 

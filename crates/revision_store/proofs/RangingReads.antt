@@ -9,8 +9,8 @@ use Rattle.etcd_model.specs.Changes.{rows}
 use Rattle.etcd_model.specs.Interval.{is_in}
 use Rattle.etcd_model.specs.Reads.{revision_read, rows_read, unreadable}
 use Rattle.etcd_model.specs.Store.{Store, reads_of}
-use Rattle.revision_store.specs.Answering.{SaysWanted}
-use Rattle.revision_store.specs.Ranging.{row_passes}
+use Rattle.range_rows.specs.Answering.{SaysWanted}
+use Rattle.range_rows.specs.Reading.{row_passes}
 
 -- they are those at the revision that is read
 rows_readable : (s : Store) (key end : List ℕ) (revision : ℤ) → unreadable (reads_of s) (revision_read (reads_of s) revision) ≡ None → rows_read (reads_of s) key end revision ≡ rows (is_in key end) (revision_read (reads_of s) revision) s.changes

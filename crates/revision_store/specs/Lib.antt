@@ -5,10 +5,8 @@ pub mod Logged
 pub mod Plans
 pub mod Stored
 pub mod Appending
-pub mod Answering
 pub mod Pending
 pub mod Ranging
-pub mod Taking
 pub mod Mixing
 pub mod Comparing
 pub mod Merging

@@ -1,11 +1,10 @@
 -- The rows of an interval in which puts are pending: those under some cells, and those of the puts.
 use Rattle.std.specs.Prelude.{ℕ, Bool, not, List, filter}
-use Rattle.std.specs.List.{IsDistinct, list_any}
-use Rattle.std.specs.Ordering.{eq_by_cmp}
+use Rattle.std.specs.List.{list_any}
 use Rattle.std.specs.Str.{bytes_eq}
 use Rattle.std.specs.declared.cmp.Ordering.{Ordering}
 use Rattle.etcd_types.specs.declared.key_value.KeyValue.{KeyValue}
-use Rattle.etcd_model.specs.Order.{key_cmp, by_key}
+use Rattle.etcd_model.specs.Order.{key_cmp}
 use Rattle.key_index.specs.Links.{Cells}
 use Rattle.revision_store.specs.Plans.{key_at}
 
@@ -24,7 +23,3 @@ is_put_to puts key = list_any (λ row. bytes_eq row.key key) puts
 -- those of some cells whose keys none of some rows has
 abbrev pub unput_cells : Cells → List KeyValue → List ℕ → List ℕ
 unput_cells cells puts cs = filter (λ c. not (is_put_to puts (key_at cells c))) cs
-
--- no two rows are of one key
-abbrev pub HaveOwnKeys : List KeyValue → Type 0
-HaveOwnKeys rows = IsDistinct (eq_by_cmp by_key) rows

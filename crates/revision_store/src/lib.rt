@@ -1,7 +1,6 @@
 //! The multi-version store of one tenant: the changes that are kept, as records in cells.
 #![tactic(auto)]
 
-mod answering;
 mod changes;
 mod comparing;
 mod cutting;
@@ -21,7 +20,6 @@ mod reading;
 mod records;
 mod reserving;
 mod rows;
-mod sorting;
 mod space;
 mod store;
 mod taking;

@@ -3,18 +3,21 @@ ghost use Rattle.std.specs.Prelude.{◌≡◌, ◌++◌, ◌<◌, ◌^◌, IfOk,
 ghost use Rattle.std.specs.List.Sorted.{IsStrictlySortedBy};
 ghost use Rattle.etcd_model.specs.Order.{by_key, in_order};
 ghost use Rattle.etcd_model.specs.Ranges.{is_wanted, range_reply};
-ghost use Rattle.revision_store.specs.Answering.{given};
-ghost use Rattle.revision_store.specs.Mixing.{HaveOwnKeys};
+ghost use Rattle.range_rows.specs.Answering.{given};
+ghost use Rattle.range_rows.specs.Taking.{HaveOwnKeys};
 ghost use Rattle.revision_store.specs.Pending.{AreRows};
-ghost use Rattle.revision_store.specs.Ranging.{read, rows_of};
+ghost use Rattle.range_rows.specs.Reading.{read};
+ghost use Rattle.revision_store.specs.Ranging.{rows_of};
 ghost use Rattle.revision_store.specs.Recorded.{cells_of};
-ghost use Rattle.revision_store.specs.Taking.{NoneTies, first_of};
+ghost use Rattle.range_rows.specs.Taking.{NoneTies, first_of};
 
-use crate::answering::{is_by_key, is_cut, is_wanted, limit_of, needs_values, shown};
 use crate::log::Log;
 use crate::ranging::{reply_of, wanted};
-use crate::taking::{first_rows, keep_few, keep_first};
+use crate::taking::first_rows;
 use etcd_types::{CellNo, CopyOf, KeyValue, List, Mem, OpReply, RangeReq};
+use range_rows::{
+    is_by_key, is_cut, is_wanted, keep_few, keep_first, limit_of, needs_values, shown,
+};
 use std::alloc::Global;
 
 /// What a range is answered at a revision, where its interval has the rows under some cells, which

@@ -8,20 +8,21 @@ ghost use Rattle.etcd_model.specs.Operations.{op_reply};
 ghost use Rattle.etcd_model.specs.Ranges.{is_wanted, range_reply};
 ghost use Rattle.etcd_model.specs.Reads.{revision_read, unreadable};
 ghost use Rattle.etcd_model.specs.Order.{by_key};
-ghost use Rattle.revision_store.specs.Answering.{given, is_by_key, wants_all};
+ghost use Rattle.range_rows.specs.Answering.{given, is_by_key, wants_all};
 ghost use Rattle.revision_store.specs.Pending.{AreRows};
-ghost use Rattle.revision_store.specs.Ranging.{AllAreGiven, row_passes, read, rows_of};
+ghost use Rattle.range_rows.specs.Reading.{AllAreGiven, row_passes, read};
+ghost use Rattle.revision_store.specs.Ranging.{rows_of};
 ghost use Rattle.revision_store.specs.Ranging.{wanted_cells};
 ghost use Rattle.revision_store.specs.Recorded.{cells_of};
 ghost use Rattle.revision_store.specs.Stored.{reads, row_at};
 
-use crate::answering::{is_by_key, is_cut, is_wanted, limit_of, needs_values, shown, wants_all};
 use crate::log::Log;
 use crate::rows::{first_cells, keys_under, rows_under};
 use crate::store::Store;
 use crate::taking::first_rows;
 use chunk_list::Walk;
 use etcd_types::{CellNo, KeyValue, List, Mem, OpReply, RangeReq, Refusal};
+use range_rows::{is_by_key, is_cut, is_wanted, limit_of, needs_values, shown, wants_all};
 use std::alloc::Global;
 
 impl Store {

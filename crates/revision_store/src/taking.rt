@@ -1,18 +1,18 @@
-//! The first rows of an order. No more than about twice as many are held at a time.
-ghost use Rattle.std.specs.Prelude.{◌≡◌, ◌*◌, ◌≤◌, length, map, true, Some, IsSome, IfOk, option_map};
+//! The first rows of an order, of those under some cells.
+ghost use Rattle.std.specs.Prelude.{◌≡◌, ◌≤◌, length, map, true, Some, IsSome, IfOk, option_map};
 ghost use Rattle.std.specs.List.Sorted.{IsStrictlySortedBy};
 ghost use Rattle.etcd_model.specs.Order.{by_key};
-ghost use Rattle.revision_store.specs.Answering.{is_by_key};
+ghost use Rattle.range_rows.specs.Answering.{is_by_key};
+ghost use Rattle.range_rows.specs.Reading.{read};
+ghost use Rattle.range_rows.specs.Taking.{first_of};
 ghost use Rattle.revision_store.specs.Pending.{AreRows};
-ghost use Rattle.revision_store.specs.Ranging.{read, rows_of};
+ghost use Rattle.revision_store.specs.Ranging.{rows_of};
 ghost use Rattle.revision_store.specs.Recorded.{cells_of};
 ghost use Rattle.revision_store.specs.Stored.{row_at};
-ghost use Rattle.revision_store.specs.Taking.{AreEnough, NoneTies, first_of};
 
-use crate::answering::needs_values;
 use crate::log::Log;
-use crate::sorting::sort_rows;
 use etcd_types::{CellNo, KeyValue, Mem, RangeReq};
+use range_rows::{keep_few, keep_first, needs_values};
 use std::alloc::Global;
 
 /// So many of the rows under some cells, the first ones in the order of a range, with their values
@@ -51,24 +51,4 @@ fn row_read(alloc: Global, log: &Log, request: &RangeReq, cell: CellNo) -> Mem<K
     } else {
         log.row_without_value(alloc, cell)
     }
-}
-
-/// Cuts rows to the first ones, where they are twice as many. Takes no memory.
-pub(crate) fn keep_few(rows: &mut Vec<KeyValue>, request: &RangeReq, limit: usize)
-    requires { NoneTies request.now rows.old.items }
-    ensures enough { AreEnough request.now limit rows.old.items rows.new.items }
-    ensures few { length rows.new.items ≤ 2 * limit }
-{
-    if rows.len() / 2 >= limit {
-        keep_first(rows, request, limit);
-    }
-}
-
-/// Leaves so many rows, the first ones in the order of a range, and in that order. Takes no memory.
-pub(crate) fn keep_first(rows: &mut Vec<KeyValue>, request: &RangeReq, limit: usize)
-    requires { NoneTies request.now rows.old.items }
-    ensures { rows.new.items ≡ first_of request.now limit rows.old.items }
-{
-    sort_rows(rows, request);
-    rows.truncate(limit);
 }

@@ -4,7 +4,7 @@ use Rattle.etcd_model.specs.Compares.{holds_of}
 use Rattle.etcd_model.specs.Interval.{is_in}
 use Rattle.revision_store.specs.Recorded.{cells_of}
 use Rattle.revision_store.specs.Stored.{StoreState, row_at}
-use Rattle.revision_store.proofs.RangingCells.{all_show, filter_map-is}
+use Rattle.range_rows.proofs.RangingCells.{all_show, filter_map-is}
 use Rattle.revision_store.proofs.comparing.holds.Goals as goal
 
 pub holds_of-requires : goal.holds_of-requires

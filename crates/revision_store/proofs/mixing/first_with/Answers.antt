@@ -1,4 +1,4 @@
-use Rattle.revision_store.proofs.TakingRows.{none_ties_before}
+use Rattle.range_rows.proofs.TakingRows.{none_ties_before}
 use Rattle.revision_store.proofs.mixing.first_with.Goals as goal
 
 pub keep_few-requires : goal.keep_few-requires

@@ -1,6 +1,6 @@
 use Rattle.std.proofs.Common.{◌≡◌, ◌++◌, drop, map}
-use Rattle.revision_store.specs.Ranging.{read}
-use Rattle.revision_store.specs.Taking.{NoneTies, first_of}
+use Rattle.range_rows.specs.Reading.{read}
+use Rattle.range_rows.specs.Taking.{NoneTies, first_of}
 use Rattle.revision_store.proofs.mixing.first_with.Given as goal
 
 abbrev pub invariant-loop-put : goal.invariant-loop-put

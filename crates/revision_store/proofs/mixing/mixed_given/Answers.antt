@@ -4,13 +4,14 @@ use Rattle.std.specs.List.Sorted.{IsStrictlySortedBy}
 use Rattle.std.proofs.lemmas.List.{length-map}
 use Rattle.etcd_types.specs.declared.key_value.KeyValue.{KeyValue}
 use Rattle.etcd_model.specs.Order.{by_key}
-use Rattle.revision_store.specs.Answering.{IsLimit, is_by_key, shown}
-use Rattle.revision_store.specs.Ranging.{read, rows_of}
+use Rattle.range_rows.specs.Answering.{IsLimit, is_by_key, shown}
+use Rattle.range_rows.specs.Reading.{read}
+use Rattle.revision_store.specs.Ranging.{rows_of}
 use Rattle.revision_store.specs.Recorded.{cells_of}
 use Rattle.revision_store.specs.Stored.{row_at}
-use Rattle.revision_store.specs.Taking.{NoneTies, first_of}
-use Rattle.revision_store.proofs.MixingRows.{IsCut, cut_by_key, first_apart, given_both, not_cut}
-use Rattle.revision_store.proofs.RangingCells.{length-filter_map}
+use Rattle.range_rows.specs.Taking.{NoneTies, first_of}
+use Rattle.range_rows.proofs.MixingRows.{IsCut, cut_by_key, first_apart, given_both, not_cut}
+use Rattle.range_rows.proofs.RangingCells.{length-filter_map}
 use Rattle.revision_store.proofs.mixing.mixed_given.Goals as goal
 use Rattle.revision_store.proofs.mixing.mixed_given.Goals.{then-is_by_key, else-is_by_key}
 

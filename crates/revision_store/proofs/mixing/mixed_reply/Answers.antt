@@ -7,13 +7,14 @@ use Rattle.std.proofs.lemmas.List.Kept.{IsStrictlySortedBy-filter}
 use Rattle.etcd_types.specs.declared.key_value.KeyValue.{KeyValue}
 use Rattle.etcd_model.specs.Order.{by_key}
 use Rattle.etcd_model.specs.Ranges.{is_wanted}
-use Rattle.revision_store.specs.Answering.{given}
+use Rattle.range_rows.specs.Answering.{given}
 use Rattle.revision_store.specs.Pending.{AreRows}
-use Rattle.revision_store.specs.Ranging.{row_passes, rows_of}
+use Rattle.range_rows.specs.Reading.{row_passes}
+use Rattle.revision_store.specs.Ranging.{rows_of}
 use Rattle.revision_store.specs.Recorded.{cells_of}
 use Rattle.revision_store.specs.Stored.{row_at}
-use Rattle.revision_store.proofs.MixingRows.{both_kept, mixed_answer, mixed_counted, own_kept}
-use Rattle.revision_store.proofs.RangingCells.{all_kept, length-filter_map, wanted_rows}
+use Rattle.range_rows.proofs.MixingRows.{both_kept, mixed_answer, mixed_counted, own_kept}
+use Rattle.range_rows.proofs.RangingCells.{all_kept, length-filter_map, wanted_rows}
 use Rattle.revision_store.proofs.mixing.mixed_reply.Goals as goal
 
 pub returns-then-request : goal.returns-then-request

@@ -5,11 +5,11 @@ use Rattle.etcd_model.specs.Ranges.{is_wanted}
 use Rattle.etcd_model.specs.Order.{by_key}
 use Rattle.revision_store.specs.Recorded.{cells_of}
 use Rattle.revision_store.specs.Stored.{row_at}
-use Rattle.revision_store.specs.Answering.{given}
+use Rattle.range_rows.specs.Answering.{given}
 use Rattle.revision_store.specs.Ranging.{rows_of}
-use Rattle.revision_store.proofs.AnsweringLaws.{given_taken, sorted-take}
-use Rattle.revision_store.proofs.RangingCells.{all_wanted, filter_map-take, length-filter_map}
-use Rattle.revision_store.proofs.RangingAnswers.{answer_given}
+use Rattle.range_rows.proofs.AnsweringLaws.{given_taken, sorted-take}
+use Rattle.range_rows.proofs.RangingCells.{all_wanted, filter_map-take, length-filter_map}
+use Rattle.range_rows.proofs.RangingAnswers.{answer_given}
 use Rattle.revision_store.proofs.ranging.first_reply.Goals as goal
 
 pub rows_given-requires-clause-ascend : goal.rows_given-requires-clause-ascend

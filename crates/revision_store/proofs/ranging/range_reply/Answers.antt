@@ -7,10 +7,11 @@ use Rattle.etcd_model.specs.Order.{by_key}
 use Rattle.revision_store.specs.Recorded.{cells_of}
 use Rattle.revision_store.specs.Stored.{row_at}
 use Rattle.revision_store.specs.Pending.{AreRows}
-use Rattle.revision_store.specs.Answering.{given}
-use Rattle.revision_store.specs.Ranging.{row_passes, rows_of, wanted_cells}
-use Rattle.revision_store.proofs.RangingCells.{all_kept, length-filter_map, wanted_rows}
-use Rattle.revision_store.proofs.RangingAnswers.{answer_counted, answer_given}
+use Rattle.range_rows.specs.Answering.{given}
+use Rattle.range_rows.specs.Reading.{row_passes}
+use Rattle.revision_store.specs.Ranging.{rows_of, wanted_cells}
+use Rattle.range_rows.proofs.RangingCells.{all_kept, length-filter_map, wanted_rows}
+use Rattle.range_rows.proofs.RangingAnswers.{answer_counted, answer_given}
 use Rattle.revision_store.proofs.ranging.range_reply.Goals as goal
 
 pub returns-then-request : goal.returns-then-request

@@ -2,11 +2,12 @@ use Rattle.std.proofs.Common.{◌≡◌, ◌∙◌, length, map, sym, ap, subst,
 use Rattle.std.proofs.lemmas.Bool.{true≢false}
 use Rattle.revision_store.specs.Recorded.{cells_of}
 use Rattle.revision_store.specs.Stored.{row_at}
-use Rattle.revision_store.specs.Answering.{IsLimit, is_by_key, shown}
-use Rattle.revision_store.specs.Ranging.{AllAreGiven, read, rows_of}
-use Rattle.revision_store.specs.Taking.{first_of}
-use Rattle.revision_store.proofs.RangingCells.{first_are_given}
-use Rattle.revision_store.proofs.TakingRows.{given_cut, given_first}
+use Rattle.range_rows.specs.Answering.{IsLimit, is_by_key, shown}
+use Rattle.range_rows.specs.Reading.{AllAreGiven, read}
+use Rattle.revision_store.specs.Ranging.{rows_of}
+use Rattle.range_rows.specs.Taking.{first_of}
+use Rattle.range_rows.proofs.RangingCells.{first_are_given}
+use Rattle.range_rows.proofs.TakingRows.{given_cut, given_first}
 use Rattle.revision_store.proofs.ranging.rows_given.Goals as goal
 
 -- in the order of keys no more than what is given is left to read

@@ -4,9 +4,10 @@ use Rattle.std.proofs.lemmas.Result.{IfOk-weaker}
 use Rattle.etcd_model.specs.Ranges.{without_value}
 use Rattle.revision_store.specs.Recorded.{cells_of}
 use Rattle.revision_store.specs.Stored.{row_at}
-use Rattle.revision_store.specs.Ranging.{read, rows_of}
-use Rattle.revision_store.proofs.RangingCells.{filter_map-is, filter_map-option_map}
-use Rattle.revision_store.proofs.RangingAnswers.{read_whole, read_keys}
+use Rattle.range_rows.specs.Reading.{read}
+use Rattle.revision_store.specs.Ranging.{rows_of}
+use Rattle.range_rows.proofs.RangingCells.{filter_map-is, filter_map-option_map}
+use Rattle.range_rows.proofs.RangingAnswers.{read_whole, read_keys}
 use Rattle.revision_store.proofs.ranging.rows_read.Goals as goal
 
 pub returns-then-needs_values : goal.returns-then-needs_values

@@ -2,8 +2,8 @@ use Rattle.std.proofs.Common.{◌∙◌, sym}
 use Rattle.revision_store.specs.Recorded.{cells_of}
 use Rattle.revision_store.specs.Stored.{row_at}
 use Rattle.revision_store.specs.Ranging.{rows_of}
-use Rattle.revision_store.proofs.RangingCells.{length-filter_map}
-use Rattle.revision_store.proofs.RangingAnswers.{answer_counted}
+use Rattle.range_rows.proofs.RangingCells.{length-filter_map}
+use Rattle.range_rows.proofs.RangingAnswers.{answer_counted}
 use Rattle.revision_store.proofs.ranging.walked_reply.Goals as goal
 
 pub returns-then-request : goal.returns-then-request

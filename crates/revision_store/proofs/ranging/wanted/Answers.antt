@@ -1,7 +1,7 @@
 use Rattle.std.proofs.Common.{◌∙◌, sym}
 use Rattle.revision_store.specs.Recorded.{cells_of}
 use Rattle.revision_store.specs.Stored.{row_at}
-use Rattle.revision_store.proofs.RangingCells.{all_pass}
+use Rattle.range_rows.proofs.RangingCells.{all_pass}
 use Rattle.revision_store.proofs.ranging.wanted.Goals as goal
 
 pub returns-then-wants_all : goal.returns-then-wants_all

@@ -3,7 +3,7 @@ use Rattle.std.proofs.lemmas.List.{drop_all, drop_more}
 use Rattle.etcd_types.specs.declared.key_value.KeyValue.{KeyValue}
 use Rattle.revision_store.specs.Recorded.{cells_of}
 use Rattle.revision_store.specs.Stored.{row_at}
-use Rattle.revision_store.proofs.TakingRows.{IsTaking, taking_all, taking_apart, taking_next, taking_none}
+use Rattle.range_rows.proofs.TakingRows.{IsTaking, taking_all, taking_apart, taking_next, taking_none}
 use Rattle.revision_store.proofs.taking.first_rows.Goals as goal
 
 pub loop-cell-init : goal.loop-cell-init

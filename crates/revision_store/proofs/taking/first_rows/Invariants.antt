@@ -1,7 +1,7 @@
 use Rattle.std.proofs.Common.{drop}
 use Rattle.revision_store.specs.Recorded.{cells_of}
 use Rattle.revision_store.specs.Stored.{row_at}
-use Rattle.revision_store.proofs.TakingRows.{IsTaking}
+use Rattle.range_rows.proofs.TakingRows.{IsTaking}
 use Rattle.revision_store.proofs.taking.first_rows.Given as goal
 
 abbrev pub invariant-loop-cell : goal.invariant-loop-cell

@@ -7,7 +7,8 @@ use Rattle.etcd_model.specs.Changes.{rows}
 use Rattle.etcd_model.specs.Interval.{is_in}
 use Rattle.etcd_model.specs.Order.{by_key, in_order}
 use Rattle.etcd_model.specs.Ranges.{range_reply}
-use Rattle.revision_store.specs.Mixing.{HaveOwnKeys, unput_cells}
+use Rattle.range_rows.specs.Taking.{HaveOwnKeys}
+use Rattle.revision_store.specs.Mixing.{unput_cells}
 use Rattle.revision_store.specs.Pending.{is_row_in, left_cells, rows_at}
 use Rattle.revision_store.specs.Ranging.{rows_of}
 use Rattle.revision_store.specs.Recorded.{cells_of}

@@ -24,7 +24,7 @@ use Rattle.key_index.specs.Links.{Cells}
 use Rattle.revision_store.specs.Ranging.{rows_of}
 use Rattle.revision_store.specs.Recorded.{cells_of}
 use Rattle.revision_store.specs.declared.plan.Write.{Write}
-use Rattle.revision_store.proofs.RangingCells.{all_show, filter_map-is}
+use Rattle.range_rows.proofs.RangingCells.{all_show, filter_map-is}
 use Rattle.revision_store.proofs.PendingDeletes.{read_under}
 use Rattle.revision_store.proofs.PendingStores.{puts_are}
 use Rattle.revision_store.proofs.PendingRanges.{rows_ascend, rows_named, rows_newest}

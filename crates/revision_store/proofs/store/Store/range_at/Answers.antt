@@ -12,7 +12,7 @@ use Rattle.model_laws.proofs.RowLaws.{rows_rise}
 use Rattle.revision_store.specs.Recorded.{cells_of}
 use Rattle.revision_store.specs.Stored.{StoreState, reads, row_at}
 use Rattle.revision_store.specs.Ranging.{rows_of}
-use Rattle.revision_store.proofs.RangingCells.{all_show, filter_map-is}
+use Rattle.range_rows.proofs.RangingCells.{all_show, filter_map-is}
 use Rattle.revision_store.proofs.RangingReads.{rows_live}
 use Rattle.revision_store.proofs.store.Store.range_at.Goals as goal
 

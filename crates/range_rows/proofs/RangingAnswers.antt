@@ -16,9 +16,9 @@ use Rattle.etcd_types.specs.declared.kv.SortTarget.TheVariants.{Key, Version, Cr
 use Rattle.etcd_types.specs.declared.reply.OpReply.TheVariants.{Range}
 use Rattle.etcd_model.specs.Order.{beside, put_in, in_order, key_cmp, by_key}
 use Rattle.etcd_model.specs.Ranges.{Found, is_wanted, row_cmp, target_cmp, limited, without_value, found, range_reply}
-use Rattle.revision_store.specs.Answering.{SaysMore, given}
-use Rattle.revision_store.specs.Ranging.{is_value, needs_values, read}
-use Rattle.revision_store.proofs.AnsweringLaws.{found_counted, found_kvs}
+use Rattle.range_rows.specs.Answering.{SaysMore, given}
+use Rattle.range_rows.specs.Reading.{is_value, needs_values, read}
+use Rattle.range_rows.proofs.AnsweringLaws.{found_counted, found_kvs}
 
 -- ---- a map that changes no order
 

@@ -17,13 +17,13 @@ use Rattle.etcd_types.specs.declared.kv.RangeReq.{RangeReq}
 use Rattle.etcd_model.specs.Order.{beside, by_key, put_in, in_order}
 use Rattle.etcd_model.proofs.OrderLaws.{sorted-in_order}
 use Rattle.model_laws.proofs.SortingLaws.{already_in_order, permuted-in_order}
-use Rattle.revision_store.specs.Answering.{IsLimit, given, is_by_key, shown}
-use Rattle.revision_store.specs.Ranging.{read}
-use Rattle.revision_store.specs.Taking.{AreEnough, NoneTies, first_of, row_order}
-use Rattle.revision_store.proofs.AnsweringLaws.{given_by_key, given_is, sorted-take}
-use Rattle.revision_store.proofs.RangingAnswers.{given_read, sorted-read}
-use Rattle.revision_store.proofs.RangingCells.{filter_map-take, length-filter_map}
-use Rattle.revision_store.proofs.SortingRows.{length_rows, row_total, rows_distinct}
+use Rattle.range_rows.specs.Answering.{IsLimit, given, is_by_key, shown}
+use Rattle.range_rows.specs.Reading.{read}
+use Rattle.range_rows.specs.Taking.{AreEnough, NoneTies, first_of, row_order}
+use Rattle.range_rows.proofs.AnsweringLaws.{given_by_key, given_is, sorted-take}
+use Rattle.range_rows.proofs.RangingAnswers.{given_read, sorted-read}
+use Rattle.range_rows.proofs.RangingCells.{filter_map-take, length-filter_map}
+use Rattle.range_rows.proofs.SortingRows.{length_rows, row_total, rows_distinct}
 
 -- ---- elements that don't tie
 

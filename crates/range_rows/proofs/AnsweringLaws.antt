@@ -12,8 +12,8 @@ use Rattle.etcd_types.specs.declared.key_value.KeyValue.{KeyValue}
 use Rattle.etcd_types.specs.declared.kv.RangeReq.{RangeReq}
 use Rattle.etcd_model.specs.Order.{in_order, by_key}
 use Rattle.etcd_model.specs.Ranges.{is_wanted, row_cmp, limited, without_value, found}
-use Rattle.revision_store.specs.Answering.{IsLimit, SaysMore, given, is_by_key, shown}
-use Rattle.revision_store.proofs.SortingRows.{length_rows, rows_in_order}
+use Rattle.range_rows.specs.Answering.{IsLimit, SaysMore, given, is_by_key, shown}
+use Rattle.range_rows.proofs.SortingRows.{length_rows, rows_in_order}
 
 pub shown_rows : (b : Bool) (rows : List KeyValue) → (if b then map without_value rows else rows) ≡ map (λ row. if b then without_value row else row) rows
 shown_rows true rows = refl

@@ -22,15 +22,15 @@ use Rattle.etcd_model.specs.Ranges.{is_wanted, limited, range_reply}
 use Rattle.etcd_model.proofs.OrderLaws.{sorted-in_order}
 use Rattle.model_laws.proofs.RowLaws.{by_key_total}
 use Rattle.model_laws.proofs.SortingLaws.{length-in_order, permuted-in_order, sorted_is}
-use Rattle.revision_store.specs.Answering.{IsLimit, SaysMore, given, is_by_key, shown}
-use Rattle.revision_store.specs.Mixing.{HaveOwnKeys}
-use Rattle.revision_store.specs.Ranging.{needs_values, read}
-use Rattle.revision_store.specs.Taking.{NoneTies, first_of, row_order}
-use Rattle.revision_store.proofs.AnsweringLaws.{all-take, given_is, sorted-take}
-use Rattle.revision_store.proofs.RangingAnswers.{answer_counted, answer_given, given_read, same_key, sorted-read}
-use Rattle.revision_store.proofs.RangingCells.{all_kept, filter_map-take}
-use Rattle.revision_store.proofs.SortingRows.{apart_by_row, row_total, rows_in_order}
-use Rattle.revision_store.proofs.TakingRows.{distinct_front, first_again, first_enough, none_ties_before}
+use Rattle.range_rows.specs.Answering.{IsLimit, SaysMore, given, is_by_key, shown}
+use Rattle.range_rows.specs.Taking.{HaveOwnKeys}
+use Rattle.range_rows.specs.Reading.{needs_values, read}
+use Rattle.range_rows.specs.Taking.{NoneTies, first_of, row_order}
+use Rattle.range_rows.proofs.AnsweringLaws.{all-take, given_is, sorted-take}
+use Rattle.range_rows.proofs.RangingAnswers.{answer_counted, answer_given, given_read, same_key, sorted-read}
+use Rattle.range_rows.proofs.RangingCells.{all_kept, filter_map-take}
+use Rattle.range_rows.proofs.SortingRows.{apart_by_row, row_total, rows_in_order}
+use Rattle.range_rows.proofs.TakingRows.{distinct_front, first_again, first_enough, none_ties_before}
 
 -- ---- one order of the same elements
 

@@ -1,14 +1,14 @@
 //! What turns the rows of an interval into the answer of a range.
 ghost use Rattle.std.specs.Prelude.{◌≡◌, ◌≤◌, false, map, pos};
 ghost use Rattle.etcd_model.specs.Ranges.{is_within, without_value};
-ghost use Rattle.revision_store.specs.Answering.{is_by_key, IsLimit, SaysMore, SaysWanted, shown, wants_all};
-ghost use Rattle.revision_store.specs.Ranging.{needs_values};
+ghost use Rattle.range_rows.specs.Answering.{is_by_key, IsLimit, SaysMore, SaysWanted, shown, wants_all};
+ghost use Rattle.range_rows.specs.Reading.{needs_values};
 
 use etcd_types::{KeyValue, List, RangeReq, SortOrder, SortTarget};
 use std::alloc::Global;
 
 /// A row that was created and last put at these revisions passes the filters of the range.
-pub(crate) fn is_wanted(request: &RangeReq, create_revision: u64, mod_revision: u64) -> bool
+pub fn is_wanted(request: &RangeReq, create_revision: u64, mod_revision: u64) -> bool
     ensures { SaysWanted request.now create_revision mod_revision result }
 {
     is_within(
@@ -23,7 +23,7 @@ pub(crate) fn is_wanted(request: &RangeReq, create_revision: u64, mod_revision: 
 }
 
 /// The range has no filter.
-pub(crate) fn wants_all(request: &RangeReq) -> bool
+pub fn wants_all(request: &RangeReq) -> bool
     ensures { result ≡ wants_all request.now }
 {
     request.min_mod_revision == 0
@@ -41,7 +41,7 @@ fn is_within(low: i64, high: i64, revision: u64) -> bool
 }
 
 /// The range is in the order of ascending keys.
-pub(crate) fn is_by_key(request: &RangeReq) -> bool
+pub fn is_by_key(request: &RangeReq) -> bool
     ensures { result ≡ is_by_key request.now }
 {
     matches!(
@@ -51,14 +51,14 @@ pub(crate) fn is_by_key(request: &RangeReq) -> bool
 }
 
 /// The range gives values, or sorts by them.
-pub(crate) fn needs_values(request: &RangeReq) -> bool
+pub fn needs_values(request: &RangeReq) -> bool
     ensures { result ≡ needs_values request.now.keys_only request.now.sort_target }
 {
     !request.keys_only || matches!(request.sort_target, SortTarget::Value)
 }
 
 /// How many rows are given, where it wants at most `count`.
-pub(crate) fn limit_of(request: &RangeReq, count: usize) -> usize
+pub fn limit_of(request: &RangeReq, count: usize) -> usize
     ensures limit { IsLimit request.now count result }
     ensures within { result ≤ count }
 {
@@ -69,7 +69,7 @@ pub(crate) fn limit_of(request: &RangeReq, count: usize) -> usize
 }
 
 /// The limit cuts some of the rows that it wants and gives.
-pub(crate) fn is_cut(request: &RangeReq, wanted: usize) -> bool
+pub fn is_cut(request: &RangeReq, wanted: usize) -> bool
     requires { request.now.count_only ≡ false }
     ensures { SaysMore request.now wanted result }
 {
@@ -77,7 +77,7 @@ pub(crate) fn is_cut(request: &RangeReq, wanted: usize) -> bool
 }
 
 /// Rows as they are given: with no values where keys alone are asked for. Takes no memory.
-pub(crate) fn shown(alloc: Global, request: &RangeReq, mut rows: Vec<KeyValue>) -> List<KeyValue>
+pub fn shown(alloc: Global, request: &RangeReq, mut rows: Vec<KeyValue>) -> List<KeyValue>
     ensures { result ≡ map (shown request.now) rows.items }
 {
     if request.keys_only {

@@ -16,7 +16,7 @@ use Rattle.etcd_model.specs.Order.{in_order, by_key}
 use Rattle.etcd_model.specs.Ranges.{row_cmp, target_cmp}
 use Rattle.model_laws.proofs.RecordedLaws.{all_weaker}
 use Rattle.model_laws.proofs.RowLaws.{by_key_total}
-use Rattle.revision_store.specs.Answering.{ascends_by_key}
+use Rattle.range_rows.specs.Answering.{ascends_by_key}
 use Rattle.model_laws.proofs.SortingLaws.{length-in_order, already_in_order}
 
 -- ---- total orders

@@ -1,7 +1,7 @@
 use Rattle.std.proofs.Common.{◌<◌, length, arith}
 use Rattle.std.proofs.lemmas.List.Edits.{map_over_more}
 use Rattle.etcd_model.specs.Ranges.{without_value}
-use Rattle.revision_store.proofs.answering.empty_values.Goals as goal
+use Rattle.range_rows.proofs.answering.empty_values.Goals as goal
 
 pub loop-row-preserved : goal.loop-row-preserved
 loop-row-preserved c =

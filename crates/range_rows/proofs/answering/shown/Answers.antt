@@ -1,9 +1,9 @@
 use Rattle.std.proofs.Common.{◌≡◌, ◌∙◌, map, length, if◌then◌else◌, refl, ap, arith}
 use Rattle.std.proofs.lemmas.List.{with_items_is}
 use Rattle.etcd_model.specs.Ranges.{without_value}
-use Rattle.revision_store.proofs.AnsweringLaws.{shown_rows}
-use Rattle.revision_store.proofs.answering.shown.Goals as goal
-use Rattle.revision_store.proofs.answering.shown.Goals.{then-request, else-request}
+use Rattle.range_rows.proofs.AnsweringLaws.{shown_rows}
+use Rattle.range_rows.proofs.answering.shown.Goals as goal
+use Rattle.range_rows.proofs.answering.shown.Goals.{then-request, else-request}
 
 pub returns : goal.returns
 returns c =

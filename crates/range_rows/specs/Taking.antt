@@ -5,7 +5,7 @@ use Rattle.std.specs.List.{IsDistinct}
 use Rattle.std.specs.Ordering.{eq_by_cmp}
 use Rattle.etcd_types.specs.declared.key_value.KeyValue.{KeyValue}
 use Rattle.etcd_types.specs.declared.kv.RangeReq.{RangeReq}
-use Rattle.etcd_model.specs.Order.{in_order}
+use Rattle.etcd_model.specs.Order.{by_key, in_order}
 use Rattle.etcd_model.specs.Ranges.{row_cmp}
 
 -- how two rows stand to each other in the order of a range
@@ -24,3 +24,7 @@ first_of q limit rows = take limit (in_order (row_order q) rows)
 pub record AreEnough (q : RangeReq) (limit : ℕ) (old new : List KeyValue) : Type 0 where
   pub first : (more : List KeyValue) → first_of q limit (new ++ more) ≡ first_of q limit (old ++ more)
   pub apart : (more : List KeyValue) → NoneTies q (old ++ more) → NoneTies q (new ++ more)
+
+-- no two rows are of one key
+abbrev pub HaveOwnKeys : List KeyValue → Type 0
+HaveOwnKeys rows = IsDistinct (eq_by_cmp by_key) rows

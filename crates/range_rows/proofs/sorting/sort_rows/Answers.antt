@@ -4,9 +4,9 @@ use Rattle.std.proofs.lemmas.List.Sorted.{ranks_by}
 use Rattle.std.proofs.lemmas.Fn.{always_returns_same}
 use Rattle.etcd_types.specs.declared.key_value.KeyValue.{KeyValue}
 use Rattle.model_laws.proofs.SortingLaws.{sorted_is}
-use Rattle.revision_store.specs.Taking.{row_order}
-use Rattle.revision_store.proofs.SortingRows.{row_total}
-use Rattle.revision_store.proofs.sorting.sort_rows.Goals as goal
+use Rattle.range_rows.specs.Taking.{row_order}
+use Rattle.range_rows.proofs.SortingRows.{row_total}
+use Rattle.range_rows.proofs.sorting.sort_rows.Goals as goal
 
 pub returns : goal.returns
 returns c =

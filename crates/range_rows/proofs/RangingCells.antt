@@ -9,9 +9,9 @@ use Rattle.etcd_types.specs.declared.kv.RangeReq.{RangeReq}
 use Rattle.std.specs.List.Sorted.{IsStrictlySortedBy}
 use Rattle.etcd_model.specs.Ranges.{is_wanted}
 use Rattle.etcd_model.specs.Order.{by_key}
-use Rattle.revision_store.specs.Answering.{IsLimit, given, is_by_key, wants_all}
-use Rattle.revision_store.specs.Ranging.{AllAreGiven, row_passes}
-use Rattle.revision_store.proofs.AnsweringLaws.{given_whole}
+use Rattle.range_rows.specs.Answering.{IsLimit, given, is_by_key, wants_all}
+use Rattle.range_rows.specs.Reading.{AllAreGiven, row_passes}
+use Rattle.range_rows.proofs.AnsweringLaws.{given_whole}
 
 -- what holds of all elements holds of those that pass a test
 pub all_kept : {X : Type 0} (P : X → Type 0) (p : X → Bool) (xs : List X) → AllByRecursion P xs → AllByRecursion P (filter p xs)

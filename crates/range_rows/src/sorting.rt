@@ -2,7 +2,7 @@
 ghost use Rattle.std.specs.Prelude.{◌≡◌};
 ghost use Rattle.etcd_model.specs.Order.{in_order};
 ghost use Rattle.etcd_model.specs.Ranges.{row_cmp, target_cmp};
-ghost use Rattle.revision_store.specs.Taking.{NoneTies, row_order};
+ghost use Rattle.range_rows.specs.Taking.{NoneTies, row_order};
 
 use etcd_types::{KeyValue, RangeReq, SortOrder, SortTarget};
 use std::cmp::Ordering;

@@ -1,7 +1,7 @@
 use Rattle.std.proofs.Common.{sym, subst}
-use Rattle.revision_store.specs.Taking.{AreEnough}
-use Rattle.revision_store.proofs.TakingRows.{first_enough}
-use Rattle.revision_store.proofs.taking.keep_few.Goals as goal
+use Rattle.range_rows.specs.Taking.{AreEnough}
+use Rattle.range_rows.proofs.TakingRows.{first_enough}
+use Rattle.range_rows.proofs.taking.keep_few.Goals as goal
 
 pub returns-then-len-limit-clause-enough : goal.returns-then-len-limit-clause-enough
 returns-then-len-limit-clause-enough c =
