@@ -6,22 +6,14 @@
 mod registry;
 
 use anyhow::Result;
-use std::env;
-use std::rt::Env;
+use bench_work::is_asked;
 
 fn main(rt: HostRuntime) -> Result<()> {
-    if is_asked(&rt)? {
+    if is_asked(&rt, "registry")? {
         registry::measure_all(&rt)
     } else {
         print_usage(&rt)
     }
-}
-
-/// Whether the first argument names the part.
-fn is_asked(rt: &(impl Env + Alloc)) -> Result<bool> {
-    let mut words = env::args(rt)?;
-    let _program = words.next();
-    Ok(words.next().is_some_and(|word| word.as_str() == "registry"))
 }
 
 fn print_usage(rt: &impl Print) -> Result<()> {

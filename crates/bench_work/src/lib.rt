@@ -1,9 +1,12 @@
-//! The time that a turn of some work takes, in two ways: ours and another.
+//! What programs that time parts share: which part is asked for, and the time that a turn of some work takes, in
+//! two ways, ours and another.
 #![tactic(auto)]
 
+mod asked;
 mod report;
 mod times;
 mod work;
 
+pub use asked::is_asked;
 pub use report::{print_heading, print_times};
 pub use work::Work;

@@ -1,4 +1,4 @@
-//! When a program measures, and the lines that it prints.
+//! The lines that a program prints.
 ghost use Rattle.std.specs.Prelude.{◌<◌};
 
 use crate::times::Times;
