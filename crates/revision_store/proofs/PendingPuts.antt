@@ -5,14 +5,13 @@ use Rattle.std.specs.List.{AllByRecursion, cons_option}
 use Rattle.std.specs.Option.{option_or}
 use Rattle.std.specs.Str.{bytes_eq}
 use Rattle.std.specs.Cmp.Lexicographic.{bytes_decides}
-use Rattle.std.proofs.lemmas.Bool.{true≢false}
 use Rattle.std.proofs.lemmas.List.{map-append, append-nil}
 use Rattle.std.proofs.lemmas.List.Elements.{filter-append, filter_map-append}
 use Rattle.etcd_types.specs.declared.key_value.KeyValue.{KeyValue}
 use Rattle.etcd_types.specs.declared.kv.DeleteReq.{DeleteReq}
 use Rattle.etcd_types.specs.declared.kv.PutReq.{PutReq}
 use Rattle.etcd_types.specs.declared.txn.Op.TheVariants.{Put as PutOp}
-use Rattle.etcd_model.specs.Operations.{and_changes, lease_put, put_change, row_put}
+use Rattle.etcd_model.specs.Operations.{and_changes, put_change, row_put}
 use Rattle.etcd_model.specs.declared.state.Change.{Change}
 use Rattle.etcd_model.specs.declared.state.Change.TheVariants.{Put as Set}
 use Rattle.etcd_model.specs.History.{key_of}
@@ -136,30 +135,7 @@ put_changes store ws p row is free e =
 
 -- ---- the present row's numbers alone
 
--- they make the same row, where no more is asked for
-pub row_put_present : (n : ℕ) (p : PutReq) (now : Option KeyValue) → row_put n p (present p now) ≡ row_put n p now
-row_put_present n p now = by p.prev_kv p.ignore_value now refl
-  where
-    with_value : KeyValue → List ℕ → KeyValue
-    with_value r v = record { key = p.key; create_revision = r.create_revision; mod_revision = n; version = r.version + 1; value = v; lease = lease_put p (Some r) }
-
-    own_value : (b : Bool) (r : KeyValue) → b ≡ false → (if b then [] else p.value) ≡ (if b then r.value else p.value)
-    own_value true r e = absurd (true≢false e)
-    own_value false r e = refl
-
-    by : (a b : Bool) (o : Option KeyValue) → p.ignore_value ≡ b → row_put n p (if a || b then o else option_map numbers_alone o) ≡ row_put n p o
-    by true b o e = refl
-    by false true o e = refl
-    by false false None e = refl
-    by false false (Some r) e = ap (with_value r) (own_value p.ignore_value r e)
-
-pub asked_present : (p : PutReq) (now : Option KeyValue) → (if p.prev_kv then present p now else None) ≡ (if p.prev_kv then now else None)
-asked_present p now = by p.prev_kv p.ignore_value
-  where
-    by : (a b : Bool) → (if a then (if a || b then now else option_map numbers_alone now) else None) ≡ (if a then now else None)
-    by true b = refl
-    by false b = refl
-
+-- they have its version
 pub version_present : (p : PutReq) (now : Option KeyValue) → version_of (present p now) ≡ version_of now
 version_present p now = by (p.prev_kv || p.ignore_value) now
   where

@@ -1,7 +1,7 @@
 -- Sheets, and the audits that they hand out.
-use Rattle.std.proofs.Common.{◌≡◌, ◌==◌, ◌+◌, ℕ, suc, zero, Bool, true, false, cond, List, [], ◌∷◌, ◌++◌, Vec, Some, map, length, get_or, ap, sym, subst, ◌∙◌, refl, All, append_assoc, arith}
+use Rattle.std.proofs.Common.{◌≡◌, ◌==◌, ◌+◌, ℕ, suc, zero, Bool, true, false, cond, List, [], ◌∷◌, ◌++◌, Some, map, length, get_or, ap, sym, subst, ◌∙◌, refl, All, append_assoc, arith}
 use Rattle.std.specs.List.{AllByRecursion, slice_get}
-use Rattle.std.proofs.lemmas.List.{map-append, length-append}
+use Rattle.std.proofs.lemmas.List.{length-append}
 use Rattle.etcd_types.specs.declared.reply.Reply.{Reply}
 use Rattle.etcd_model.specs.ReplyText.{Answer, text}
 use Rattle.tenant_audit.specs.declared.audit.Entry.{Entry}
@@ -9,7 +9,7 @@ use Rattle.tenant_audit.specs.declared.audit.Opening.{Opening}
 use Rattle.tenant_audit.specs.declared.comparing.Sheet.{Sheet}
 use Rattle.tenant_audit.specs.declared.tally.MadeCall.{MadeCall}
 use Rattle.tenant_audit.specs.Audits.{Log, IsLawful, replies_of}
-use Rattle.tenant_audit.specs.Closed.{AreTold, AreClosed, AreLawful, IsClosed, audits_of, given_of, sheet_audits}
+use Rattle.tenant_audit.specs.Closed.{AreTold, AreClosed, AreLawful, IsClosed, given_of, sheet_audits}
 use Rattle.tenant_audit.specs.Closing.{AreApart, Agrees, IsAsGiven, IsComplete, calls_by}
 use Rattle.tenant_audit.specs.Seats.{SeatState, call, calls_on}
 
@@ -18,21 +18,11 @@ use Rattle.tenant_audit.specs.Seats.{SeatState, call, calls_on}
 abbrev pub given_in : Sheet → List ℕ × Opening
 given_in s = (s.name.items, s.opening)
 
-abbrev pub audit_in : Sheet → List ℕ × Log
-audit_in s = (s.name.items, s.audit)
-
 pub lawful_more : (ss : List Sheet) (s : Sheet) → AreLawful ss → IsLawful s.audit → AreLawful (ss ++ s ∷ [])
 lawful_more [] s all here zero d lt = here
 lawful_more [] s all here (suc k) d lt = absurd (omega arith)
 lawful_more (x ∷ ss) s all here zero d lt = all 0 x (omega arith)
 lawful_more (x ∷ ss) s all here (suc k) d lt = lawful_more ss s (λ j e l. all (suc j) e (omega arith)) here k d (omega arith)
-
-pub audits_more : {A : Type 0} (es : List (Vec ℕ A × Log)) (ss : List Sheet) (name : Vec ℕ A) (a : Log) (s : Sheet)
-    → audits_of es ≡ sheet_audits ss → name.items ≡ s.name.items → a ≡ s.audit → audits_of (es ++ (name, a) ∷ []) ≡ sheet_audits (ss ++ s ∷ [])
-audits_more es ss name a s same named is =
-    map-append (λ e. (e.0.items, e.1)) es ((name, a) ∷ []) ∙ ap (λ xs. xs ++ (name.items, a) ∷ []) same
-    ∙ ap (λ n. sheet_audits ss ++ (n, a) ∷ []) named ∙ ap (λ l. sheet_audits ss ++ (s.name.items, l) ∷ []) is
-    ∙ sym (map-append audit_in ss (s ∷ []))
 
 -- ---- what the callers were told
 
