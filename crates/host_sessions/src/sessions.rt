@@ -102,9 +102,9 @@ impl Sessions {
         }
     }
 
-    /// Serves a registry until as many connections as were told have ended, and hands the seats back. There has to be a seat for the
-    /// clock, the pump, the catch-up worker and each of the four loops; every other one is a worker's. With fewer
-    /// than eight, or where a thread can't be made, that is want of memory.
+    /// Serves a registry until as many connections as were told have ended, and hands the seats back. There has to
+    /// be a seat for the clock, the pump, the catch-up worker and each of the four loops; every other one is a
+    /// worker's. With fewer than eight, or where a thread can't be made, that is want of memory.
     pub fn serve<'x, R, G>(
         rt: R,
         listening: Listening,
