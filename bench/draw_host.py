@@ -80,20 +80,24 @@ def draw_threads(drawing):
     drawing.box(20, 48, 410, 38, PAPER, EDGE, 8)
     drawing.text(34, 72, "a client", NORMAL, weight="bold")
     drawing.text(104, 72, "POST /t/one/v3/kv/put", SMALL, INK, family=CODE)
-    zone = Zone(drawing, "host_sessions")
-    zone.frame(20, 130, 410, 574, THREADS, "connections and threads")
-    zone.stop((64, 166, 322, 96), "1", "A loop, one of four, reads the request", [
-        ("host_sessions", "exchange", "Gateway::call"), ("host_sessions", "doors", "Jobs::route"),
-        ("gateway_json", "call", "read_step")], ["the path names the tenant, the body is the step"])
-    zone.stop((64, 314, 322, 66), "2", "It takes the tenant's turn, if it is free", [
-        ("host_sessions", "rota", "Rota::try_take"), ("host_sessions", "hatch", "Hatch::serve")])
-    zone.stop((64, 446, 322, 52), "2a", "Else it is a job in the tenant's queue", [
-        ("host_sessions", "doors", "Jobs::offer")])
-    zone.stop((64, 550, 322, 66), "2b", "A worker takes the turn, and the job", [
-        ("host_sessions", "worker", "work")], ["and reads the step of a longer body"])
-    passes = code_of("host_sessions", "rota", "Rota::pass_on")
-    tell(drawing, 64, 644, [f"At a turn's end {passes} gives the tenant to what is due",
-                            "there next: a tick of the clock, its watches, a catch-up, or", "more jobs."])
+    sessions = Zone(drawing, "host_sessions")
+    sessions.frame(20, 130, 410, 128, THREADS, "connections")
+    sessions.stop((64, 166, 322, 80), "1", "An event loop, one of four, reads the request", [
+        ("host_sessions", "exchange", "Gateway::call"), ("host_sessions", "routing", "route")],
+        ["the path names the tenant"])
+    scheduler = Zone(drawing, "tenant_scheduler")
+    scheduler.frame(20, 270, 410, 434, THREADS, "turns, queues and threads")
+    scheduler.stop((64, 306, 322, 96), "2", "A brief call takes the turn, if nobody has it", [
+        ("tenant_scheduler", "pending", "PendingCall::begin"), ("gateway_json", "call", "read_step"),
+        ("tenant_scheduler", "scheduler", "Scheduler::try_begin"),
+        ("tenant_scheduler", "inline_calls", "InlineCalls::serve")])
+    scheduler.stop((64, 458, 322, 52), "2a", "Else it is a job in the tenant's queue", [
+        ("tenant_scheduler", "jobs", "Jobs::offer")])
+    scheduler.stop((64, 560, 322, 66), "2b", "A worker takes the turn, and the job", [
+        ("tenant_scheduler", "worker", "work")], ["and reads the step of a long body"])
+    ends = code_of("tenant_scheduler", "scheduler", "Scheduler::finish")
+    tell(drawing, 64, 650, [f"At a turn's end {ends} gives the tenant to the", "work that is due there next: "
+                            "a tick of the clock, its watches, a", "catch-up, or more jobs."])
 
 
 def draw_ways(drawing):
@@ -103,17 +107,15 @@ def draw_ways(drawing):
     tell(drawing, 294, 104, ["the request, by a connection that", f"{deals} dealt to the loop"], PATH, "end")
     drawing.arrow([(332, 166), (332, 86)], BACK)
     tell(drawing, 340, 112, ["the answer"], BACK)
-    drawing.arrow([(225, 262), (225, 314)], PATH)
-    tell(drawing, 234, 292, ["a short body: its step"], PATH)
-    drawing.arrow([(225, 380), (225, 446)], PATH)
-    tell(drawing, 234, 409, ["busy, or long answers lately:", "the step comes back"], PATH)
-    drawing.arrow([(64, 240), (42, 240), (42, 472), (64, 472)], PATH)
-    drawing.text(37, 356, "a longer body, as it is", SMALL, PATH, "middle", turned=True)
-    drawing.arrow([(225, 498), (225, 550)], PATH)
-    calls = code_of("host_sessions", "rota", "Rota::call_for")
-    tell(drawing, 234, 528, [f"{calls} marks the tenant"], PATH)
-    drawing.line([(386, 583), (452, 583), (452, 347)], PATH, 1.5)
-    drawing.arrow([(386, 347), (452, 347), (452, 150), (500, 150)], PATH)
+    drawing.arrow([(350, 246), (350, 306)], PATH)
+    tell(drawing, 358, 267, ["the body"], PATH)
+    drawing.arrow([(225, 402), (225, 458)], PATH)
+    tell(drawing, 234, 426, ["the tenant is busy, or had long answers", "lately; no brief call; a long body"], PATH)
+    drawing.arrow([(225, 510), (225, 560)], PATH)
+    schedules = code_of("tenant_scheduler", "scheduler", "Scheduler::schedule")
+    tell(drawing, 234, 540, [f"{schedules} marks it"], PATH)
+    drawing.line([(386, 593), (452, 593), (452, 354)], PATH, 1.5)
+    drawing.arrow([(386, 354), (452, 354), (452, 150), (500, 150)], PATH)
     drawing.arrow([(500, 122), (414, 122), (414, 200), (386, 200)], BACK)
     tell(drawing, 481, 115, ["7 the receipt"], BACK, "end")
 

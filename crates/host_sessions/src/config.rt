@@ -1,11 +1,11 @@
 //! What the server is told at its start.
 use crate::connections::LOOPS;
-use crate::crew::BESIDE_WORKERS;
 use etcd_types::limits::{DEFAULT_SEGMENTS, MAX_CONFIG, MAX_WORKERS};
 use gateway_json::read_unsigned;
 use serde_json::Value;
 use std::alloc::{AllocError, Global};
 use tenant_registry::{TenantConfig, check};
+use tenant_scheduler::BESIDE_WORKERS;
 
 /// How many workers there are where nothing is said.
 const DEFAULT_WORKERS: u64 = 4;
@@ -17,7 +17,7 @@ pub struct Config {
     pub listen: String,
     /// How many segments the pool has.
     pub segments: u32,
-    /// How many threads serve the calls that the loops leave to them, from 1 to 32.
+    /// How many threads serve the calls that the event loops leave to them, from 1 to 32.
     pub workers: usize,
     /// How many connections are served before the end; without it there is none.
     pub connections: Option<u32>,
@@ -26,7 +26,7 @@ pub struct Config {
 
 impl Config {
     /// How many seats `Sessions::serve` is to be given: one for each worker, for the clock, the pump and the
-    /// catch-up worker, and for each of the four loops that read and write sockets.
+    /// catch-up worker, and for each of the four event loops that read and write sockets.
     pub fn seats(&self) -> usize {
         self.workers.saturating_add(BESIDE_WORKERS + LOOPS)
     }

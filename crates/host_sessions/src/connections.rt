@@ -1,11 +1,9 @@
-//! The loops: each accepts its share of the connections, and serves each as a task.
+//! The event loops: each has its share of the connections, and serves each as a task.
 ghost use Rattle.std.specs.Prelude.{IfSome};
 
-use crate::crew::Station;
-use crate::doors::Jobs;
 use crate::exchange::Gateway;
-use crate::hatch::{Errand, Hatch};
-use crate::sessions::ServeFault;
+use crate::fault::ServeFault;
+use crate::threads::Ended;
 use etcd_types::Mem;
 use futures::task::{Context, Poll};
 use futures::{Future, Stream, ready};
@@ -17,49 +15,50 @@ use std::random::RandomSource;
 use std::sync::Wait;
 use std::time::{Clock, Duration};
 use std::{io, net, thread};
-use tenant_registry::{Gate, Seat};
+use tenant_registry::Gate;
+use tenant_scheduler::{InlineCall, InlineCalls, Jobs, ServingThread};
 use tokio::net::TcpStream;
 use tokio::runtime::LocalRuntime;
 use tokio::sync::mpsc::{UnboundedReceiver, UnboundedSender, unbounded_channel};
 use tokio::{reactor, time};
 
-/// How many loops read and write sockets.
+/// How many event loops read and write sockets.
 pub(crate) const LOOPS: usize = 4;
 
 /// How many milliseconds no connection is accepted after one could not be, for want of a file descriptor most
 /// likely.
 const PAUSE: u64 = 50;
 
-/// A loop, and where its connections come in.
+/// An event loop over sockets, and where its connections come in.
 #[derive(Drop)]
 pub(crate) struct SocketLoop {
     runtime: LocalRuntime,
     sockets: UnboundedReceiver<net::TcpStream>,
 }
 
-/// Where the connections of a loop go in.
-pub(crate) type Entrance = UnboundedSender<net::TcpStream>;
+/// Where a loop's connections go in.
+pub(crate) type SocketSender = UnboundedSender<net::TcpStream>;
 
 /// A loop on each runtime, and where their connections go in.
 pub(crate) fn open_loops(
     alloc: Global,
     runtimes: Vec<LocalRuntime>,
-) -> Mem<(Vec<Entrance>, Vec<SocketLoop>)> {
-    let mut entrances = Vec::new(alloc);
+) -> Mem<(Vec<SocketSender>, Vec<SocketLoop>)> {
+    let mut senders = Vec::new(alloc);
     let mut loops = Vec::new(alloc);
     for runtime in runtimes {
-        let (entrance, sockets) = unbounded_channel(alloc)?;
-        entrances.push(entrance)?;
+        let (sender, sockets) = unbounded_channel(alloc)?;
+        senders.push(sender)?;
         loops.push(SocketLoop { runtime, sockets })?;
     }
-    Ok((entrances, loops))
+    Ok((senders, loops))
 }
 
 /// Accepts connections until as many as were told have come, and gives them to the loops in turn.
 pub(crate) fn accept_all<R: Wait + Clock>(
     rt: &R,
     listener: &net::TcpListener,
-    entrances: &[Entrance],
+    senders: &[SocketSender],
     connections: Option<u32>,
 ) -> Result<(), ServeFault> {
     let mut left = connections;
@@ -73,15 +72,15 @@ pub(crate) fn accept_all<R: Wait + Clock>(
             continue;
         };
         left = left.map(|left| left.saturating_sub(1));
-        let Some(entrance) = entrances.get(at) else {
+        let Some(sender) = senders.get(at) else {
             return Err(ServeFault::Memory);
         };
         // A loop ends early only for want of memory.
-        if entrance.send(socket).is_err() {
+        if sender.send(socket).is_err() {
             return Err(ServeFault::Memory);
         }
         at = at.saturating_add(1);
-        if at >= entrances.len() {
+        if at >= senders.len() {
             at = 0;
         }
     }
@@ -108,17 +107,17 @@ impl<F: Future<Output = hyper::Result<()>>> Future for Served<F> {
     }
 }
 
-/// The connections of a loop, each as a task, and beside them the loop's hatch.
+/// The connections of a loop, each as a task, and beside them their inline calls.
 #[derive(Drop)]
-struct Arrivals<'a, 'x, R: Wait + Drop, G, F> {
-    hatch: &'a mut Hatch<'x, R, G>,
+struct Connections<'a, 'x, R: Wait + Drop, G, F> {
+    inline_calls: &'a mut InlineCalls<'x, R, G>,
     sockets: UnboundedReceiver<net::TcpStream>,
     reactor: reactor::Handle,
     /// None once no more connections come.
     make: Option<F>,
 }
 
-impl<R, G, F, T> Stream for Arrivals<'_, '_, R, G, F>
+impl<R, G, F, T> Stream for Connections<'_, '_, R, G, F>
 where
     R: Wait + Clock + Copy + Drop,
     G: Gate,
@@ -146,7 +145,7 @@ where
                 Poll::Pending => {}
             }
         }
-        ready!(self.hatch.poll_end(cx));
+        ready!(self.inline_calls.poll_end(cx));
         Poll::Ready(None)
     }
 }
@@ -158,52 +157,52 @@ struct Tools<R: Wait + Drop> {
     timers: time::Handle,
     reactor: reactor::Handle,
     jobs: Jobs<R>,
-    errands: UnboundedReceiver<Errand<R>>,
+    inline_calls: UnboundedReceiver<InlineCall<R>>,
 }
 
 impl<R: Wait + RandomSource + Drop> Tools<R> {
     fn new(rt: &R, alloc: Global, runtime: &LocalRuntime, jobs: &Jobs<R>) -> io::Result<Tools<R>> {
-        let (hatch, errands) = unbounded_channel(alloc)?;
+        let (jobs, inline_calls) = jobs.with_inline_calls(alloc)?;
         Ok(Tools {
             keys: RandomState::new(rt)?,
             timers: runtime.handle().time().clone()?,
             reactor: runtime.handle().reactor().clone()?,
-            jobs: jobs.with_hatch(alloc, hatch)?,
-            errands,
+            jobs,
+            inline_calls,
         })
     }
 }
 
-/// Serves the connections that come in, until there are no more and the last has ended.
+/// Serves a loop's connections, until there are no more and the last has ended.
 pub(crate) fn serve_connections<R, G>(
+    rt: R,
     alloc: Global,
     own: SocketLoop,
     jobs: Jobs<R>,
-    station: Station<'_, R, G>,
-) -> (Seat, Result<(), ServeFault>)
+    thread: ServingThread<'_, R, G>,
+) -> Ended
 where
     R: Wait + Clock + RandomSource + AllocGlobal + Copy + Drop,
     G: Gate,
 {
-    let rt = station.rt;
     let SocketLoop {
         mut runtime,
         sockets,
     } = own;
     let Ok(tools) = Tools::new(&rt, alloc, &runtime, &jobs) else {
-        return (station.into_seat(), Err(ServeFault::Memory));
+        return (thread.into_seat(), Err(ServeFault::Memory));
     };
     let Tools {
         keys,
         timers,
         reactor,
         jobs,
-        errands,
+        inline_calls,
     } = tools;
-    let mut hatch = Hatch::new(alloc, station, errands);
+    let mut inline_calls = InlineCalls::new(alloc, thread, inline_calls);
     let http = http1::Builder::new(alloc, keys).timer(TokioTimer::new(rt, timers));
-    let arrivals = Arrivals {
-        hatch: &mut hatch,
+    let connections = Connections {
+        inline_calls: &mut inline_calls,
         sockets,
         reactor,
         make: Some(move |socket| {
@@ -214,9 +213,9 @@ where
             }
         }),
     };
-    let served = match runtime.run_all(&rt, arrivals) {
+    let served = match runtime.run_all(&rt, connections) {
         Ok(()) => Ok(()),
         Err(error) => Err(ServeFault::of(&error)),
     };
-    (hatch.into_seat(), served)
+    (inline_calls.into_seat(), served)
 }

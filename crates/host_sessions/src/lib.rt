@@ -1,28 +1,27 @@
-//! HTTP/1.1 in front of the registry: connections, workers, a clock and a pump.
+//! HTTP/1.1 in front of the registry. Which thread serves which tenant when is `tenant_scheduler`'s.
 //!
-//! A few loops read and write the connections, each on a thread of its own. A brief call on a tenant that is free
-//! is served by the loop that has read it; any other goes into its tenant's queue, for a worker. A tenant is served
-//! by one thread at a time, whose turn it is there; so nobody waits for a lock that another holds for long, and a
-//! tenant that is flooded holds up its own callers alone.
+//! How a request goes through:
+//!
+//! 1. `read_config` reads the configuration, `Sessions::listen` listens, and `Sessions::serve` runs the threads
+//!    (`sessions`,
+//!    `threads`). The main thread accepts connections and deals them out to four event loops, each a thread on
+//!    which its connections stay (`connections`).
+//! 2. Hyper reads a head, and `Gateway::call` begins an `Exchange` (`exchange`). `route` says which call it is, of
+//!    which tenant (`routing`). The body is read, whether the request is to be refused or not.
+//! 3. `PendingCall::begin` hands the call to the scheduler, and the exchange waits for its answer, which `respond`
+//!    makes a response (`response`). The body of a watch's response goes on with the texts of its watch.
 #![tactic(auto)]
 
-mod answer;
-mod caller;
-mod catch_up;
-mod clock;
 mod config;
 mod connections;
-mod crew;
-mod desk;
-mod doors;
 mod exchange;
-mod feed;
-mod hatch;
-mod pump;
-mod rota;
+mod fault;
+mod response;
+mod routing;
 mod sessions;
-mod worker;
+mod threads;
 
 pub use config::{Config, ConfigFault, read_config};
-pub use doors::Jobs;
-pub use sessions::{End, ListenFault, Listening, ServeFault, Sessions};
+pub use fault::ServeFault;
+pub use sessions::{End, ListenFault, Listening, Sessions};
+pub use tenant_scheduler::Jobs;

@@ -1,9 +1,9 @@
 //! Listens, and serves a registry.
 use crate::config::Config;
 use crate::connections::{LOOPS, accept_all, open_loops};
-use crate::crew::staff;
-use crate::doors::Jobs;
 use crate::exchange::Gateway;
+use crate::fault::ServeFault;
+use crate::threads::run_threads;
 use futures::executor::block_on;
 use hyper::server::conn::http1;
 use std::alloc::AllocGlobal;
@@ -15,6 +15,7 @@ use std::sync::Wait;
 use std::thread::Threads;
 use std::time::Clock;
 use tenant_registry::{Gate, Registry, Seat};
+use tenant_scheduler::Jobs;
 use tokio::io::{AsyncRead, AsyncWrite};
 use tokio::runtime::LocalRuntime;
 
@@ -41,22 +42,6 @@ impl ListenFault {
         match error.kind() {
             io::ErrorKind::OutOfMemory => ListenFault::Memory,
             _ => ListenFault::Socket,
-        }
-    }
-}
-
-/// Why nothing was served, or why it ended before its time.
-#[derive(Clone, Copy, Debug, PartialEq, Eq)]
-pub enum ServeFault {
-    Socket,
-    Memory,
-}
-
-impl ServeFault {
-    pub(crate) fn of(error: &io::Error) -> ServeFault {
-        match error.kind() {
-            io::ErrorKind::OutOfMemory => ServeFault::Memory,
-            _ => ServeFault::Socket,
         }
     }
 }
@@ -130,11 +115,11 @@ impl Sessions {
             listener,
             connections,
         } = listening;
-        let Ok((entrances, loops)) = open_loops(rt.alloc(), runtimes) else {
+        let Ok((senders, loops)) = open_loops(rt.alloc(), runtimes) else {
             return Err(ServeFault::Memory);
         };
-        let bring = move |_jobs| accept_all(&rt, &listener, entrances.as_slice(), connections);
-        staff(rt, registry, seats, gate, loops, bring)
+        let bring = move |_jobs| accept_all(&rt, &listener, senders.as_slice(), connections);
+        run_threads(rt, registry, seats, gate, loops, bring)
     }
 
     /// Serves what a function brings, over streams of any kind by `serve_one`, until it returns; all connections
@@ -161,7 +146,7 @@ impl Sessions {
         B: FnOnce(Jobs<R>) -> Result<(), ServeFault> + Drop,
         requires { B.IsAlwaysCallable bring }
     {
-        staff(rt, registry, seats, gate, Vec::new(rt.alloc()), bring)
+        run_threads(rt, registry, seats, gate, Vec::new(rt.alloc()), bring)
     }
 
     /// Serves one connection over any stream, by the jobs that `serve` uses.

@@ -1,30 +1,32 @@
 //! The pump: from a tenant's watches to their clients.
 use crate::caller::Caller;
-use crate::crew::Station;
-use crate::desk::{Desk, WatchStream};
-use crate::feed::NoPlace;
-use crate::rota::{Duty, Rota, Turn};
+use crate::clients::{Clients, OpenWatch};
+use crate::scheduler::{Scheduler, Turn, Work};
+use crate::serving::ServingThread;
+use crate::watch_texts::NoRoom;
 use etcd_types::Step;
 use std::rt::Clock;
 use std::sync::Wait;
 use tenant_registry::{Gate, Hint, Seat};
 
 /// Takes for the open watches of each tenant where that is due, until there are no more turns.
-pub(crate) fn pump<R: Wait + Clock + Copy + Drop, G: Gate>(station: Station<'_, R, G>) -> Seat {
-    let Station {
+pub(crate) fn pump<R: Wait + Clock + Copy + Drop, G: Gate>(
+    thread: ServingThread<'_, R, G>,
+) -> Seat {
+    let ServingThread {
         rt,
         mut caller,
-        floor,
-    } = station;
+        shared,
+    } = thread;
     for _ in rt.forever() {
-        let Ok(Turn::On(place)) = floor.turns.pump.recv(&rt) else {
+        let Ok(Turn::On(tenant)) = shared.turns.pump.recv(&rt) else {
             break;
         };
-        if let Some(desk) = floor.desks.get(place) {
-            let mut desk = desk.lock(&rt);
-            take_turn(&rt, &mut caller, &floor.rota, place, &mut *desk);
+        if let Some(clients) = shared.clients.get(tenant) {
+            let mut clients = clients.lock(&rt);
+            take_turn(&rt, &mut caller, &shared.scheduler, tenant, &mut *clients);
         }
-        floor.rota.pass_on(&rt, place, Duty::Takes);
+        shared.scheduler.finish(&rt, tenant, Work::Takes);
     }
     caller.into_seat()
 }
@@ -34,45 +36,45 @@ pub(crate) fn pump<R: Wait + Clock + Copy + Drop, G: Gate>(station: Station<'_, 
 fn take_turn<R: Wait + Clock + Drop, G: Gate>(
     rt: &R,
     caller: &mut Caller<'_, R, G>,
-    rota: &Rota,
-    place: usize,
-    desk: &mut Desk<R>,
+    scheduler: &Scheduler,
+    tenant: usize,
+    clients: &mut Clients<R>,
 ) {
-    drop_closed(caller, desk);
-    if desk.watches.is_empty() {
+    drop_closed(caller, clients);
+    if clients.watches.is_empty() {
         return;
     }
-    let Some(hint) = caller.hint(desk.name.as_slice()) else {
+    let Some(hint) = caller.hint(clients.name.as_slice()) else {
         return;
     };
-    let all_answered = take_each(caller, desk, Some(&hint));
-    let Some(left) = caller.hint(desk.name.as_slice()) else {
+    let all_answered = take_each(caller, clients, Some(&hint));
+    let Some(left) = caller.hint(clients.name.as_slice()) else {
         return;
     };
     let mut has_more = false;
-    for watch in desk.watches.as_slice() {
+    for watch in clients.watches.as_slice() {
         if left.has(watch.slot) {
             has_more = true;
-            // Where a take found no memory, the clock calls for the next turn.
-            if watch.outlet.owe() && all_answered {
-                rota.call_for(rt, place, Duty::Takes);
+            // Where a take found no memory, the clock schedules the next turn.
+            if watch.texts.promise_more() && all_answered {
+                scheduler.schedule(rt, tenant, Work::Takes);
             }
         }
     }
     if has_more && all_answered {
-        rota.call_for(rt, place, Duty::CatchUp);
+        scheduler.schedule(rt, tenant, Work::CatchUp);
     }
 }
 
 /// Takes once for each watch that a hint tells and whose client waits for a text; without a hint, for each that
-/// has a place for one. It is `false` where a take found no memory.
+/// has room for one. It is `false` where a take found no memory.
 pub(crate) fn take_each<R: Wait + Clock + Drop, G: Gate>(
     caller: &mut Caller<'_, R, G>,
-    desk: &mut Desk<R>,
+    clients: &mut Clients<R>,
     hint: Option<&Hint>,
 ) -> bool {
-    let name = desk.name.as_slice();
-    let watches = &mut desk.watches;
+    let name = clients.name.as_slice();
+    let watches = &mut clients.watches;
     let mut all_answered = true;
     let mut at = 0;
     for _ in 0..watches.len() {
@@ -98,9 +100,9 @@ pub(crate) fn take_each<R: Wait + Clock + Drop, G: Gate>(
     all_answered
 }
 
-fn is_meant(hint: Option<&Hint>, watch: &WatchStream) -> bool {
+fn is_meant(hint: Option<&Hint>, watch: &OpenWatch) -> bool {
     match hint {
-        Some(hint) => hint.has(watch.slot) && watch.outlet.is_awaited(),
+        Some(hint) => hint.has(watch.slot) && watch.texts.is_read(),
         None => true,
     }
 }
@@ -114,16 +116,16 @@ enum TakeOutcome {
     NoMemory,
 }
 
-/// Takes once, if there is a place for a text.
+/// Takes once, if there is room for a text.
 fn take<R: Wait + Clock + Drop, G: Gate>(
     caller: &mut Caller<'_, R, G>,
     tenant: &[u8],
-    watch: &WatchStream,
+    watch: &OpenWatch,
 ) -> TakeOutcome {
-    let permit = match watch.outlet.permit() {
+    let permit = match watch.texts.permit() {
         Ok(permit) => permit,
-        Err(NoPlace::Taken) => return TakeOutcome::Open,
-        Err(NoPlace::Memory) => return TakeOutcome::NoMemory,
+        Err(NoRoom::Unread) => return TakeOutcome::Open,
+        Err(NoRoom::Memory) => return TakeOutcome::NoMemory,
     };
     let Ok(receipt) = caller.call(tenant, Step::Take(watch.slot)) else {
         return TakeOutcome::NoMemory;
@@ -144,17 +146,17 @@ fn take<R: Wait + Clock + Drop, G: Gate>(
 /// turn.
 pub(crate) fn drop_closed<R: Wait + Clock + Drop, G: Gate>(
     caller: &mut Caller<'_, R, G>,
-    desk: &mut Desk<R>,
+    clients: &mut Clients<R>,
 ) {
-    let name = desk.name.as_slice();
-    let watches = &mut desk.watches;
+    let name = clients.name.as_slice();
+    let watches = &mut clients.watches;
     let mut at = 0;
     for _ in 0..watches.len() {
         if at >= watches.len() {
             break;
         }
         let watch = &watches[at];
-        if watch.outlet.is_closed() && caller.call(name, Step::DropWatch(watch.slot)).is_ok() {
+        if watch.texts.is_closed() && caller.call(name, Step::DropWatch(watch.slot)).is_ok() {
             let _ = watches.swap_remove(at);
         } else {
             at += 1;

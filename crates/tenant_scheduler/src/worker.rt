@@ -1,11 +1,11 @@
 //! The workers: the calls of clients.
 use crate::answer::{Answer, AnswerBody, Text};
 use crate::caller::Caller;
-use crate::crew::Station;
-use crate::desk::{Ask, Desk, Job, WatchStream};
-use crate::feed::{Feed, Outlet};
+use crate::clients::{Ask, Clients, Job, OpenWatch};
 use crate::pump::take_each;
-use crate::rota::{Duty, Rota, Turn};
+use crate::scheduler::{Scheduler, Turn, Work};
+use crate::serving::ServingThread;
+use crate::watch_texts::{TextSender, WatchTexts};
 use etcd_types::{Call, Step};
 use gateway_json::read_step;
 use std::alloc::Global;
@@ -22,68 +22,68 @@ const BYTES_A_TURN: usize = 65_536;
 /// Serves a few jobs of each tenant whose turn it is, until there are no more turns.
 pub(crate) fn work<R: Wait + Clock + Copy + Drop, G: Gate>(
     alloc: Global,
-    station: Station<'_, R, G>,
+    thread: ServingThread<'_, R, G>,
 ) -> Seat {
-    let Station {
+    let ServingThread {
         rt,
         mut caller,
-        floor,
-    } = station;
+        shared,
+    } = thread;
     for _ in rt.forever() {
-        let Ok(Turn::On(place)) = floor.turns.workers.recv(&rt) else {
+        let Ok(Turn::On(tenant)) = shared.turns.workers.recv(&rt) else {
             break;
         };
-        if let Some(desk) = floor.desks.get(place) {
-            let mut desk = desk.lock(&rt);
-            let bench = Bench {
+        if let Some(clients) = shared.clients.get(tenant) {
+            let mut clients = clients.lock(&rt);
+            let turn = WorkerTurn {
                 rt,
                 alloc,
-                rota: &floor.rota,
-                place,
+                scheduler: &shared.scheduler,
+                tenant,
             };
-            bench.serve_jobs(&mut caller, &mut *desk);
+            turn.serve_jobs(&mut caller, &mut *clients);
         }
-        floor.rota.pass_on(&rt, place, Duty::Jobs);
+        shared.scheduler.finish(&rt, tenant, Work::Jobs);
     }
     caller.into_seat()
 }
 
-/// Where a worker works at the moment.
+/// A worker's turn on a tenant.
 #[derive(Clone, Copy)]
-struct Bench<'a, R> {
+struct WorkerTurn<'a, R> {
     rt: R,
     alloc: Global,
-    rota: &'a Arc<Rota>,
-    place: usize,
+    scheduler: &'a Arc<Scheduler>,
+    tenant: usize,
 }
 
-impl<R: Wait + Clock + Copy + Drop> Bench<'_, R> {
+impl<R: Wait + Clock + Copy + Drop> WorkerTurn<'_, R> {
     /// Serves a few of a tenant's jobs. If there may be more, the tenant comes again behind the others.
-    fn serve_jobs<G: Gate>(&self, caller: &mut Caller<'_, R, G>, desk: &mut Desk<R>) {
+    fn serve_jobs<G: Gate>(&self, caller: &mut Caller<'_, R, G>, clients: &mut Clients<R>) {
         let mut bytes = 0usize;
         for _ in 0..JOBS_A_TURN {
             if bytes > BYTES_A_TURN {
                 break;
             }
-            let Ok(job) = desk.jobs.try_recv() else {
+            let Ok(job) = clients.jobs.try_recv() else {
                 return;
             };
             let Job { call, ask, reply } = job;
-            let answer = self.answer(caller, desk, call, ask);
+            let answer = self.answer(caller, clients, call, ask);
             bytes = bytes.saturating_add(answer.len());
             // Where the client has gone, the call stays made.
             drop(reply.send(answer));
             if may_give(call) {
-                desk.call_for_takes(&self.rt, self.rota, self.place);
+                clients.schedule_takes(&self.rt, self.scheduler, self.tenant);
             }
         }
-        self.rota.call_for(&self.rt, self.place, Duty::Jobs);
+        self.scheduler.schedule(&self.rt, self.tenant, Work::Jobs);
     }
 
     fn answer<G: Gate>(
         &self,
         caller: &mut Caller<'_, R, G>,
-        desk: &mut Desk<R>,
+        clients: &mut Clients<R>,
         call: Call,
         ask: Ask,
     ) -> Answer<R> {
@@ -95,16 +95,16 @@ impl<R: Wait + Clock + Copy + Drop> Bench<'_, R> {
             },
         };
         match step {
-            Step::Watch(_) => self.open(caller, desk, step),
+            Step::Watch(_) => self.open(caller, clients, step),
             Step::Compact(_) => {
                 // A watch with nothing to tell moves on by being taken; else it would be cancelled for what it
                 // has only not been asked about.
-                if !take_each(caller, desk, None) {
+                if !take_each(caller, clients, None) {
                     return Answer::no_memory();
                 }
-                caller.answer(self.alloc, desk.name.as_slice(), step)
+                caller.answer(self.alloc, clients.name.as_slice(), step)
             }
-            _ => caller.answer(self.alloc, desk.name.as_slice(), step),
+            _ => caller.answer(self.alloc, clients.name.as_slice(), step),
         }
     }
 
@@ -112,43 +112,48 @@ impl<R: Wait + Clock + Copy + Drop> Bench<'_, R> {
     fn open<G: Gate>(
         &self,
         caller: &mut Caller<'_, R, G>,
-        desk: &mut Desk<R>,
+        clients: &mut Clients<R>,
         step: Step,
     ) -> Answer<R> {
-        if desk.watches.reserve(1).is_err() {
+        if clients.watches.reserve(1).is_err() {
             return Answer::no_memory();
         }
-        let Ok((outlet, feed)) = Outlet::new(self.rt, self.alloc, self.rota, self.place) else {
+        let Ok((sender, texts)) = TextSender::new(self.rt, self.alloc, self.scheduler, self.tenant)
+        else {
             return Answer::no_memory();
         };
-        match caller.call(desk.name.as_slice(), step) {
-            Ok(receipt) => opened(caller, desk, receipt, outlet, feed),
+        match caller.call(clients.name.as_slice(), step) {
+            Ok(receipt) => opened(caller, clients, receipt, sender, texts),
             Err(refusal) => Answer::refused(self.alloc, refusal),
         }
     }
 }
 
-/// The answer of a watch that was created, which is kept at its tenant's desk, or of what was told instead.
+/// The answer of a watch that was created, which is kept with its tenant's clients, or of what was told instead.
 fn opened<R: Wait + Clock + Copy + Drop, G: Gate>(
     caller: &mut Caller<'_, R, G>,
-    desk: &mut Desk<R>,
+    clients: &mut Clients<R>,
     receipt: Receipt,
-    outlet: Outlet,
-    feed: Feed<R>,
+    sender: TextSender,
+    texts: WatchTexts<R>,
 ) -> Answer<R> {
     let status = receipt.status();
     let Some(slot) = receipt.slot() else {
         return Answer::text(status, receipt.into_body());
     };
-    if desk.watches.push(WatchStream { slot, outlet }).is_err() {
-        let _ = caller.call(desk.name.as_slice(), Step::DropWatch(slot));
+    let watch = OpenWatch {
+        slot,
+        texts: sender,
+    };
+    if clients.watches.push(watch).is_err() {
+        let _ = caller.call(clients.name.as_slice(), Step::DropWatch(slot));
         return Answer::no_memory();
     }
     Answer {
         status,
         body: AnswerBody::Watch {
-            created: Some(Text::Made(receipt.into_body())),
-            feed,
+            created: Text::Made(receipt.into_body()),
+            texts,
         },
     }
 }

@@ -1,0 +1,18 @@
+//! Why serving ends early.
+use std::io;
+
+/// Why nothing was served, or why serving ended before its time.
+#[derive(Clone, Copy, Debug, PartialEq, Eq)]
+pub enum ServeFault {
+    Socket,
+    Memory,
+}
+
+impl ServeFault {
+    pub(crate) fn of(error: &io::Error) -> ServeFault {
+        match error.kind() {
+            io::ErrorKind::OutOfMemory => ServeFault::Memory,
+            _ => ServeFault::Socket,
+        }
+    }
+}

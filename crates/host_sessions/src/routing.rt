@@ -1,0 +1,26 @@
+//! Which call a request is, and of which tenant.
+use etcd_types::Refusal;
+use gateway_json::{call_of, target_of};
+use std::sync::Wait;
+use tenant_scheduler::{Jobs, Route};
+
+/// The route of a request: the path, the tenant and the method are looked at in this order.
+pub(crate) fn route<R: Wait + Drop>(
+    jobs: &Jobs<R>,
+    method: &[u8],
+    path: &[u8],
+) -> Result<Route, Refusal> {
+    let Some(target) = target_of(path) else {
+        return Err(Refusal::NoPath);
+    };
+    let Some(call) = call_of(target.path) else {
+        return Err(Refusal::NoPath);
+    };
+    let Some(tenant) = jobs.tenant(target.tenant) else {
+        return Err(Refusal::NoTenant);
+    };
+    if method != b"POST".as_slice() {
+        return Err(Refusal::NotPost);
+    }
+    Ok(Route { tenant, call })
+}

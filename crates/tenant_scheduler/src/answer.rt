@@ -1,0 +1,77 @@
+//! What a call is answered.
+use crate::watch_texts::WatchTexts;
+use etcd_types::{Refusal, Reply};
+use gateway_text::{memory_text, write_reply};
+use std::alloc::Global;
+use std::sync::Wait;
+
+/// A status and a body.
+#[derive(Drop)]
+pub struct Answer<R: Wait + Drop> {
+    pub status: u16,
+    pub body: AnswerBody<R>,
+}
+
+/// The text of an answer.
+#[derive(Drop)]
+pub enum Text {
+    /// It was made for this answer.
+    Made(Vec<u8>),
+    /// `memory_text`, which takes no memory.
+    OutOfMemory,
+}
+
+impl Text {
+    /// How many bytes it has.
+    pub fn len(&self) -> usize {
+        match self {
+            Text::Made(text) => text.len(),
+            Text::OutOfMemory => memory_text().len(),
+        }
+    }
+}
+
+/// A text, or the texts of a watch as they come.
+#[derive(Drop)]
+pub enum AnswerBody<R: Wait + Drop> {
+    Text(Text),
+    Watch {
+        /// What its create was answered.
+        created: Text,
+        texts: WatchTexts<R>,
+    },
+}
+
+impl<R: Wait + Drop> Answer<R> {
+    /// A status and a text of its own.
+    pub(crate) fn text(status: u16, text: Vec<u8>) -> Answer<R> {
+        Answer {
+            status,
+            body: AnswerBody::Text(Text::Made(text)),
+        }
+    }
+
+    /// The answer of a refusal, or out of memory where there is none for its text.
+    pub fn refused(alloc: Global, refusal: Refusal) -> Answer<R> {
+        match write_reply(alloc, &Reply::Refused(refusal)) {
+            Ok((status, text)) => Answer::text(status, text),
+            Err(_) => Answer::no_memory(),
+        }
+    }
+
+    /// Out of memory: an answer that takes none.
+    pub fn no_memory() -> Answer<R> {
+        Answer {
+            status: Refusal::Memory.status(),
+            body: AnswerBody::Text(Text::OutOfMemory),
+        }
+    }
+
+    /// How many bytes its text has; a watch has no end.
+    pub(crate) fn len(&self) -> usize {
+        match &self.body {
+            AnswerBody::Text(text) => text.len(),
+            AnswerBody::Watch { .. } => 0,
+        }
+    }
+}

@@ -1,0 +1,51 @@
+//! What the clients of a tenant have under way: jobs that wait, and open watches.
+use crate::answer::Answer;
+use crate::scheduler::{Scheduler, Work};
+use crate::watch_texts::TextSender;
+use etcd_types::{Call, Step};
+use futures::channel::oneshot;
+use std::sync::Wait;
+use tokio::sync::mpsc;
+
+/// What a call asks.
+#[derive(Drop)]
+pub(crate) enum Ask {
+    /// The step that was read from its body.
+    Step(Step),
+    /// The body, which is too long to be read by an event loop.
+    Body(Vec<u8>),
+}
+
+/// A call of a client that waits for a worker, and where its answer goes.
+#[derive(Drop)]
+pub(crate) struct Job<R: Wait + Drop> {
+    pub(crate) call: Call,
+    pub(crate) ask: Ask,
+    pub(crate) reply: oneshot::Sender<Answer<R>>,
+}
+
+/// A watch whose client is there, and where its texts go.
+#[derive(Drop)]
+pub(crate) struct OpenWatch {
+    pub(crate) slot: u8,
+    pub(crate) texts: TextSender,
+}
+
+/// The clients of one tenant, for whoever has the turn there.
+#[derive(Drop)]
+pub(crate) struct Clients<R: Wait + Drop> {
+    pub(crate) name: Vec<u8>,
+    pub(crate) jobs: mpsc::Receiver<Job<R>>,
+    pub(crate) watches: Vec<OpenWatch>,
+    /// How many of its brief calls the event loops leave to the workers, since an answer was long.
+    pub(crate) left_to_workers: u32,
+}
+
+impl<R: Wait + Drop> Clients<R> {
+    /// Has the pump take for the tenant's watches, if there are any.
+    pub(crate) fn schedule_takes(&self, rt: &R, scheduler: &Scheduler, tenant: usize) {
+        if !self.watches.is_empty() {
+            scheduler.schedule(rt, tenant, Work::Takes);
+        }
+    }
+}

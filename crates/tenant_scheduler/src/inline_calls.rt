@@ -1,0 +1,148 @@
+//! Brief calls, which an event loop serves itself.
+//!
+//! A call that goes to a worker wakes two threads, which takes longer than a brief call does. So the connections of
+//! an event loop hand it their brief calls, and it takes the turn on the tenant, if nobody has it, and answers. What
+//! may take long is left to the workers: a loop has many connections, which wait meanwhile.
+ghost use Rattle.futures.specs.Task.{IsArmed, Keeps};
+ghost use Rattle.futures.specs.Poll.{OnPending};
+
+use crate::answer::Answer;
+use crate::caller::Caller;
+use crate::clients::Clients;
+use crate::jobs::Route;
+use crate::scheduler::Work;
+use crate::serving::ServingThread;
+use crate::worker::may_give;
+use etcd_types::Step;
+use futures::channel::oneshot;
+use futures::ready;
+use futures::task::{Context, Poll};
+use std::alloc::Global;
+use std::rt::Clock;
+use std::sync::Wait;
+use tenant_registry::{Gate, Seat};
+use tokio::sync::mpsc::UnboundedReceiver;
+
+/// How many brief calls are served before the loop looks at its connections again.
+const CALLS_A_POLL: usize = 64;
+
+/// The longest answer after which a loop goes on with its tenant.
+const SHORT_ANSWER: usize = 16_384;
+
+/// How many brief calls of a tenant are left to the workers after a longer one.
+const CALLS_LEFT: u32 = 256;
+
+/// A brief call, and where its outcome goes.
+#[derive(Drop)]
+pub struct InlineCall<R: Wait + Drop> {
+    pub(crate) route: Route,
+    pub(crate) step: Step,
+    pub(crate) reply: oneshot::Sender<InlineOutcome<R>>,
+}
+
+/// What became of a brief call.
+#[derive(Drop)]
+pub(crate) enum InlineOutcome<R: Wait + Drop> {
+    Answered(Answer<R>),
+    /// Its tenant is busy, so it is a worker's.
+    Busy(Step),
+}
+
+/// Where an event loop receives the brief calls of its connections, and serves them.
+#[derive(Drop)]
+pub struct InlineCalls<'x, R: Wait + Drop, G> {
+    alloc: Global,
+    thread: ServingThread<'x, R, G>,
+    calls: UnboundedReceiver<InlineCall<R>>,
+}
+
+impl<'x, R: Wait + Clock + Copy + Drop, G: Gate> InlineCalls<'x, R, G> {
+    pub fn new(
+        alloc: Global,
+        thread: ServingThread<'x, R, G>,
+        calls: UnboundedReceiver<InlineCall<R>>,
+    ) -> InlineCalls<'x, R, G> {
+        InlineCalls {
+            alloc,
+            thread,
+            calls,
+        }
+    }
+
+    /// Serves what is there. Ready once no connection is left that could hand something in.
+    pub fn poll_end(&mut self, cx: &mut Context<'_>) -> Poll<()>
+        ensures registered { OnPending result (IsArmed cx.new) }
+        ensures kept { Keeps cx.old cx.new }
+    {
+        for _ in 0..CALLS_A_POLL {
+            match ready!(self.calls.poll_recv(cx)) {
+                Some(call) => self.serve(call),
+                None => return Poll::Ready(()),
+            }
+        }
+        cx.yield_now()
+    }
+
+    /// Serves a call if nobody has the turn on its tenant, and else gives it back.
+    fn serve(&mut self, call: InlineCall<R>) {
+        let InlineCall { route, step, reply } = call;
+        let ServingThread { rt, caller, shared } = &mut self.thread;
+        let tenant = route.tenant;
+        let outcome = if shared.scheduler.try_begin(tenant) {
+            let outcome = match shared.clients.get(tenant) {
+                Some(clients) => {
+                    let mut clients = clients.lock(rt);
+                    let outcome = answer(self.alloc, caller, &mut *clients, step);
+                    if may_give(route.call) {
+                        clients.schedule_takes(rt, &shared.scheduler, tenant);
+                    }
+                    outcome
+                }
+                None => InlineOutcome::Busy(step),
+            };
+            shared.scheduler.finish(rt, tenant, Work::Jobs);
+            outcome
+        } else {
+            InlineOutcome::Busy(step)
+        };
+        // Where the client has gone, the call stays made.
+        drop(reply.send(outcome));
+    }
+
+    pub fn into_seat(self) -> Seat {
+        let InlineCalls {
+            alloc: _,
+            thread,
+            calls: _,
+        } = self;
+        thread.into_seat()
+    }
+}
+
+/// What a tenant answers, unless its answers were long lately.
+fn answer<R: Wait + Clock + Drop, G: Gate>(
+    alloc: Global,
+    caller: &mut Caller<'_, R, G>,
+    clients: &mut Clients<R>,
+    step: Step,
+) -> InlineOutcome<R> {
+    if clients.left_to_workers > 0 {
+        clients.left_to_workers -= 1;
+        return InlineOutcome::Busy(step);
+    }
+    let answer = caller.answer(alloc, clients.name.as_slice(), step);
+    if answer.len() > SHORT_ANSWER {
+        clients.left_to_workers = CALLS_LEFT;
+    }
+    InlineOutcome::Answered(answer)
+}
+
+/// A step that looks at one key at most, and at its present row.
+pub(crate) fn is_brief(step: &Step) -> bool {
+    match step {
+        Step::Range(range) => range.range_end.as_slice().is_empty() && range.revision <= 0,
+        Step::Delete(delete) => delete.range_end.as_slice().is_empty(),
+        Step::Put(_) | Step::KeepAlive(_) | Step::Status => true,
+        _ => false,
+    }
+}

@@ -1,0 +1,231 @@
+//! A call from where its body was read to its answer.
+ghost use Rattle.futures.specs.Task.{IsArmed, Keeps};
+ghost use Rattle.futures.specs.Poll.{OnPending};
+
+use crate::answer::Answer;
+use crate::clients::{Ask, Job};
+use crate::inline_calls::{InlineCall, InlineOutcome, is_brief};
+use crate::jobs::{HeldBack, Jobs, Offered, Route};
+use etcd_types::Step;
+use futures::channel::oneshot;
+use futures::task::{Context, Poll};
+use futures::{Future, ready};
+use gateway_json::read_step;
+use std::alloc::Global;
+use std::mem;
+use std::sync::Wait;
+
+/// The longest body that an event loop reads the step of.
+const SHORT_BODY: usize = 4096;
+
+/// A call that was begun, or its answer where nothing is left to wait for.
+#[derive(Drop)]
+pub enum Begun<R: Wait + Drop> {
+    Pending(PendingCall<R>),
+    Answered(Answer<R>),
+}
+
+/// A call that waits for its answer.
+#[derive(Drop)]
+pub struct PendingCall<R: Wait + Drop> {
+    rt: R,
+    alloc: Global,
+    jobs: Jobs<R>,
+    stage: Stage<R>,
+}
+
+#[derive(Drop)]
+enum Stage<R: Wait + Drop> {
+    Inline(Inline<R>),
+    Queueing(Queueing<R>),
+    Waiting(oneshot::Receiver<Answer<R>>),
+    Over,
+}
+
+/// A brief call that was handed to the event loop.
+#[derive(Drop)]
+struct Inline<R: Wait + Drop> {
+    route: Route,
+    outcome: oneshot::Receiver<InlineOutcome<R>>,
+}
+
+/// A job whose tenant's queue is full.
+#[derive(Drop)]
+struct Queueing<R: Wait + Drop> {
+    held: HeldBack<R>,
+    tenant: usize,
+    answer: oneshot::Receiver<Answer<R>>,
+}
+
+impl<R: Wait + Drop> Queueing<R> {
+    /// Leaves the job in the queue once there is room: the stage that follows, and `false` where there is no memory
+    /// for it.
+    fn poll_left(self, cx: &mut Context<'_>) -> (Stage<R>, Poll<bool>)
+        ensures registered { OnPending result.1 (IsArmed cx.new) }
+        ensures kept { Keeps cx.old cx.new }
+    {
+        let Queueing {
+            held,
+            tenant,
+            answer,
+        } = self;
+        let HeldBack { mut room, job } = held;
+        match room.poll(cx) {
+            Poll::Pending => {
+                let held = HeldBack { room, job };
+                let queueing = Queueing {
+                    held,
+                    tenant,
+                    answer,
+                };
+                (Stage::Queueing(queueing), Poll::Pending)
+            }
+            Poll::Ready(Ok(permit)) => {
+                drop(permit.send(job));
+                (Stage::Waiting(answer), Poll::Ready(true))
+            }
+            Poll::Ready(Err(_)) => (Stage::Over, Poll::Ready(false)),
+        }
+    }
+}
+
+impl<R: Wait + Copy + Drop> PendingCall<R> {
+    /// Begins a call by the body that was read: hands it to the event loop, leaves it in its tenant's queue, or
+    /// refuses it.
+    pub fn begin(rt: R, alloc: Global, jobs: Jobs<R>, route: Route, body: Vec<u8>) -> Begun<R> {
+        let mut pending = PendingCall {
+            rt,
+            alloc,
+            jobs,
+            stage: Stage::Over,
+        };
+        match pending.ask(route, body) {
+            Some(answer) => Begun::Answered(answer),
+            None => Begun::Pending(pending),
+        }
+    }
+
+    /// Reads the step of a short body, and hands the call on; its answer, if there is one already.
+    fn ask(&mut self, route: Route, body: Vec<u8>) -> Option<Answer<R>> {
+        if body.len() > SHORT_BODY {
+            return self.queue(route, Ask::Body(body));
+        }
+        match read_step(self.alloc, route.call, body.as_slice()) {
+            Ok(step) if is_brief(&step) => self.hand(route, step),
+            Ok(step) => self.queue(route, Ask::Step(step)),
+            Err(refusal) => Some(Answer::refused(self.alloc, refusal)),
+        }
+    }
+
+    /// Hands a brief call to the event loop, or leaves it in its tenant's queue where there is no loop.
+    fn hand(&mut self, route: Route, step: Step) -> Option<Answer<R>> {
+        match self.handed(route, step) {
+            Some(Ok(inline)) => self.go_on(Stage::Inline(inline)),
+            Some(Err(step)) => self.queue(route, Ask::Step(step)),
+            None => Some(Answer::no_memory()),
+        }
+    }
+
+    /// There is no answer yet.
+    fn go_on(&mut self, stage: Stage<R>) -> Option<Answer<R>> {
+        self.stage = stage;
+        None
+    }
+
+    /// What waits for the event loop, or the step given back where there is no loop; none where there is no memory.
+    fn handed(&self, route: Route, step: Step) -> Option<Result<Inline<R>, Step>> {
+        let (reply, outcome) = oneshot::channel(self.alloc).ok()?;
+        match self.jobs.hand(InlineCall { route, step, reply }) {
+            Ok(()) => Some(Ok(Inline { route, outcome })),
+            Err(call) => {
+                let InlineCall {
+                    route: _,
+                    step,
+                    reply: _,
+                } = call;
+                Some(Err(step))
+            }
+        }
+    }
+
+    /// Leaves a job in a tenant's queue, or waits for room there.
+    fn queue(&mut self, route: Route, ask: Ask) -> Option<Answer<R>> {
+        match self.queued(route, ask) {
+            Some(stage) => self.go_on(stage),
+            None => Some(Answer::no_memory()),
+        }
+    }
+
+    /// The stage of a job that was left in a tenant's queue, or waits for room there; none where there is no memory.
+    fn queued(&self, route: Route, ask: Ask) -> Option<Stage<R>> {
+        let (reply, answer) = oneshot::channel(self.alloc).ok()?;
+        let Route { tenant, call } = route;
+        match self.jobs.offer(&self.rt, tenant, Job { call, ask, reply }) {
+            Offered::Queued => Some(Stage::Waiting(answer)),
+            Offered::Full(held) => Some(Stage::Queueing(Queueing {
+                held,
+                tenant,
+                answer,
+            })),
+            Offered::Refused => None,
+        }
+    }
+
+    /// The answer; none where the server ended before the call was served.
+    pub fn poll_answer(&mut self, cx: &mut Context<'_>) -> Poll<Option<Answer<R>>>
+        ensures registered { OnPending result (IsArmed cx.new) }
+        ensures kept { Keeps cx.old cx.new }
+    {
+        if let Some(answer) = ready!(self.poll_inline(cx)) {
+            return Poll::Ready(Some(answer));
+        }
+        if let Stage::Queueing(_) = &self.stage
+            && !ready!(self.poll_room(cx))
+        {
+            return Poll::Ready(Some(Answer::no_memory()));
+        }
+        let Stage::Waiting(answer) = &mut self.stage else {
+            return Poll::Ready(None);
+        };
+        match ready!(answer.poll(cx)) {
+            Ok(answer) => Poll::Ready(Some(answer)),
+            Err(_) => Poll::Ready(None),
+        }
+    }
+
+    /// The answer of a call that the event loop has served, if it did. One whose tenant is busy is left in its
+    /// tenant's queue.
+    fn poll_inline(&mut self, cx: &mut Context<'_>) -> Poll<Option<Answer<R>>>
+        ensures registered { OnPending result (IsArmed cx.new) }
+        ensures kept { Keeps cx.old cx.new }
+    {
+        let Stage::Inline(inline) = &mut self.stage else {
+            return Poll::Ready(None);
+        };
+        let outcome = ready!(inline.outcome.poll(cx));
+        let route = inline.route;
+        Poll::Ready(match outcome {
+            Ok(InlineOutcome::Answered(answer)) => Some(answer),
+            Ok(InlineOutcome::Busy(step)) => self.queue(route, Ask::Step(step)),
+            // The loop ended for want of memory.
+            Err(_) => self.go_on(Stage::Over),
+        })
+    }
+
+    /// Leaves the job in the queue once there is room; `false` where there is no memory for it.
+    fn poll_room(&mut self, cx: &mut Context<'_>) -> Poll<bool>
+        ensures registered { OnPending result (IsArmed cx.new) }
+        ensures kept { Keeps cx.old cx.new }
+    {
+        let Stage::Queueing(queueing) = mem::replace(&mut self.stage, Stage::Over) else {
+            return Poll::Ready(false);
+        };
+        let tenant = queueing.tenant;
+        let (stage, is_left) = queueing.poll_left(cx);
+        self.stage = stage;
+        if let Poll::Ready(true) = &is_left {
+            self.jobs.schedule(&self.rt, tenant);
+        }
+        is_left
+    }
+}

@@ -1,0 +1,83 @@
+//! The threads that serve tenants: what each works with, and what it does.
+use crate::caller::Caller;
+use crate::catch_up::catch_up;
+use crate::clock::keep_time;
+use crate::pump::pump;
+use crate::shared::Shared;
+use crate::worker::work;
+use std::alloc::Global;
+use std::rt::Clock;
+use std::sync::{Arc, Wait};
+use tenant_registry::{Gate, Registry, Seat};
+
+/// How many threads serve neither clients nor connections: the clock, the pump, the catch-up worker.
+pub const BESIDE_WORKERS: usize = 3;
+
+/// What a thread serves tenants with: its way into the registry, and what all threads share.
+#[derive(Drop)]
+pub struct ServingThread<'x, R: Wait + Drop, G> {
+    pub(crate) rt: R,
+    pub(crate) caller: Caller<'x, R, G>,
+    pub(crate) shared: Arc<Shared<R>>,
+}
+
+impl<'x, R: Wait + Clock + Copy + Drop, G: Gate> ServingThread<'x, R, G> {
+    /// That of the thread which has a seat.
+    pub fn new(
+        rt: R,
+        registry: &'x Registry,
+        gate: &'x G,
+        seat: Seat,
+        shared: Arc<Shared<R>>,
+    ) -> ServingThread<'x, R, G> {
+        ServingThread {
+            rt,
+            caller: Caller::new(rt, registry, gate, seat),
+            shared,
+        }
+    }
+
+    pub fn into_seat(self) -> Seat {
+        let ServingThread {
+            rt: _,
+            caller,
+            shared: _,
+        } = self;
+        caller.into_seat()
+    }
+}
+
+/// What a thread does that reads no connections.
+#[derive(Clone, Copy, Drop)]
+pub enum Service {
+    Clock,
+    Pump,
+    CatchUp,
+    Work,
+}
+
+impl Service {
+    /// The service of the seat at a place: the first three have one each beside the workers.
+    pub fn at(place: usize) -> Service {
+        match place {
+            0 => Service::Clock,
+            1 => Service::Pump,
+            2 => Service::CatchUp,
+            _ => Service::Work,
+        }
+    }
+
+    /// Serves tenants until there are no more turns, and gives the seat back.
+    pub fn run<R, G>(self, alloc: Global, thread: ServingThread<'_, R, G>) -> Seat
+    where
+        R: Wait + Clock + Copy + Drop,
+        G: Gate,
+    {
+        match self {
+            Service::Clock => keep_time(thread),
+            Service::Pump => pump(thread),
+            Service::CatchUp => catch_up(thread),
+            Service::Work => work(alloc, thread),
+        }
+    }
+}

@@ -1,0 +1,123 @@
+//! From a watch to its client: one text at a time.
+//!
+//! The next text is taken from the registry only when the client has read the last one, so a client that is slow
+//! holds one text, and one that stops reading holds up nobody. A second place is for the text that is taken right
+//! before a compaction.
+ghost use Rattle.futures.specs.Task.{IsArmed, Keeps};
+ghost use Rattle.futures.specs.Poll.{OnPending};
+
+use crate::scheduler::{Scheduler, Work};
+use etcd_types::Mem;
+use futures::ready;
+use futures::task::{Context, Poll};
+use std::alloc::{AllocError, Global};
+use std::sync::atomic::{AtomicBool, Ordering};
+use std::sync::{Arc, Wait};
+use tokio::sync::mpsc;
+use tokio::sync::mpsc::error::TrySendError;
+
+/// How many texts a watch has room for.
+const ROOM: usize = 2;
+
+/// Why no text can be put in.
+#[derive(Clone, Copy)]
+pub(crate) enum NoRoom {
+    /// The client has not read what it was told, or has gone.
+    Unread,
+    Memory,
+}
+
+/// Where the texts of an open watch are put in.
+#[derive(Drop)]
+pub(crate) struct TextSender {
+    texts: mpsc::Sender<Vec<u8>>,
+    may_have_more: Arc<AtomicBool>,
+}
+
+/// The texts of an open watch, for its client. Letting go of them ends the watch.
+pub struct WatchTexts<R: Wait + Drop> {
+    rt: R,
+    texts: mpsc::Receiver<Vec<u8>>,
+    may_have_more: Arc<AtomicBool>,
+    scheduler: Arc<Scheduler>,
+    tenant: usize,
+}
+
+impl TextSender {
+    /// The two ends for a watch of a tenant.
+    pub(crate) fn new<R: Wait + Drop>(
+        rt: R,
+        alloc: Global,
+        scheduler: &Arc<Scheduler>,
+        tenant: usize,
+    ) -> Mem<(TextSender, WatchTexts<R>)> {
+        let (to, texts) = mpsc::channel(alloc, ROOM)?;
+        let may_have_more = Arc::new(alloc, AtomicBool::new(false))?;
+        let sender = TextSender {
+            texts: to,
+            may_have_more: Arc::try_clone(&may_have_more)?,
+        };
+        let texts = WatchTexts {
+            rt,
+            texts,
+            may_have_more,
+            scheduler: Arc::try_clone(scheduler)?,
+            tenant,
+        };
+        Ok((sender, texts))
+    }
+
+    /// The client has read all that it was told.
+    pub(crate) fn is_read(&self) -> bool {
+        self.texts.capacity() >= ROOM
+    }
+
+    /// A right to put one text in.
+    pub(crate) fn permit(&self) -> Result<mpsc::Permit<'_, Vec<u8>>, NoRoom> {
+        match self.texts.try_reserve() {
+            Ok(permit) => Ok(permit),
+            Err(TrySendError::OutOfMemory(())) => Err(NoRoom::Memory),
+            Err(_) => Err(NoRoom::Unread),
+        }
+    }
+
+    /// The client has gone.
+    pub(crate) fn is_closed(&self) -> bool {
+        self.texts.is_closed()
+    }
+
+    /// There may be more: the client asks for it when it has read its text. Whether it has read it already, and so
+    /// did not ask, is told.
+    pub(crate) fn promise_more(&self) -> bool {
+        self.may_have_more.store(true, Ordering::SeqCst);
+        self.is_read()
+    }
+}
+
+impl<R: Wait + Drop> WatchTexts<R> {
+    /// The next text, or the end of the watch.
+    pub fn poll_text(&mut self, cx: &mut Context<'_>) -> Poll<Option<Vec<u8>>>
+        ensures registered { OnPending result (IsArmed cx.new) }
+        ensures kept { Keeps cx.old cx.new }
+    {
+        let text = ready!(self.texts.poll_recv(cx));
+        if self.may_have_more.swap(false, Ordering::SeqCst) {
+            self.scheduler.schedule(&self.rt, self.tenant, Work::Takes);
+        }
+        Poll::Ready(text)
+    }
+}
+
+impl<R: Wait + Drop> Drop for WatchTexts<R> {
+    fn drop(self) {
+        let WatchTexts {
+            rt,
+            texts,
+            may_have_more: _,
+            scheduler,
+            tenant,
+        } = self;
+        drop(texts);
+        scheduler.schedule(&rt, tenant, Work::Takes);
+    }
+}
