@@ -1,30 +1,34 @@
-# make run            proves and builds the server, then serves the two tenants of examples/host.json
-# make try            serves the same without proofs, for a quick look
-# make replay         proves and builds the replay program and answers examples/first.script
+# make run            serves the two tenants of examples/host.json from a checked build, made in a minute or two without
+#                     proofs; CONFIG=mine.json takes another configuration
+# make build          proves and builds the server and the replay program
+# make replay         answers examples/first.script by the proved replay program
 # make test           the gate: every proof, every test, the rows and the fast scripts
 # make wrong-bodies   tries the wrong bodies that the gate leaves out, in a scratch clone
 # make install        the proved server, a unit for systemd, and a configuration if there is none; proves nothing
 # make uninstall      takes the server and the unit away, and leaves the configuration
-.PHONY: run try replay test wrong-bodies install uninstall
+.PHONY: run build replay test wrong-bodies install uninstall
 
-# Where it is installed, below DESTDIR, and which program is.
+CONFIG = examples/host.json
+# Where it is installed, below DESTDIR, and which programs are proved.
 PREFIX = /usr/local
 SYSCONFDIR = /etc
 HOST = crates/etcd_host/out/etcd_host
+REPLAY = crates/etcd_replay/out/etcd_replay
 installed_host = $(DESTDIR)$(PREFIX)/bin/etcd_host
 installed_unit = $(DESTDIR)$(PREFIX)/lib/systemd/system/etcd_host.service
 installed_config = $(DESTDIR)$(SYSCONFDIR)/bikazery/host.json
+# Stops where a program is wanted that is not there yet.
+wanted = [ -x "$(1)" ] || { echo "no program $(1): make build proves and builds it" >&2; exit 1; }
 
 run:
-	@scripts/prove etcd_host
-	@crates/etcd_host/out/etcd_host < examples/host.json
+	@exec scripts/serve-checked "$(CONFIG)"
 
-try:
-	@cd crates/etcd_host && rt try < ../../examples/host.json
+build:
+	@scripts/prove etcd_host etcd_replay
 
 replay:
-	@scripts/prove etcd_replay
-	@crates/etcd_replay/out/etcd_replay < examples/first.script
+	@$(call wanted,$(REPLAY))
+	@"$(REPLAY)" < examples/first.script
 
 test:
 	@scripts/gate
@@ -33,7 +37,7 @@ wrong-bodies:
 	@scripts/wrong-bodies
 
 install:
-	@[ -x "$(HOST)" ] || { echo "no program $(HOST): scripts/prove etcd_host makes it, and so does make run" >&2; exit 1; }
+	@$(call wanted,$(HOST))
 	install -D -m 755 "$(HOST)" "$(installed_host)"
 	install -D -m 644 /dev/null "$(installed_unit)"
 	sed -e 's|@PREFIX@|$(PREFIX)|' -e 's|@SYSCONFDIR@|$(SYSCONFDIR)|' packaging/etcd_host.service.in > "$(installed_unit)"

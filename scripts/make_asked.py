@@ -1,0 +1,27 @@
+"""What the scripts that try targets of the Makefile share.
+
+It is no script by itself.
+"""
+import os
+import subprocess
+
+from server_client import SECONDS, TOP, want
+
+
+def environment():
+    """What make is given, without what a make above it, as that of the gate, would tell it."""
+    return {name: value for name, value in os.environ.items() if not name.startswith(("MAKE", "MFLAGS"))}
+
+
+def make(target, top=TOP, **variables):
+    """Runs make with a mask that would hide what is made from other users."""
+    given = [f"{name}={value}" for name, value in variables.items()]
+    return subprocess.run(["make", "-s", "-C", top, target, *given], capture_output=True, text=True, env=environment(),
+                          timeout=SECONDS, umask=0o077)
+
+
+def make_well(target, **variables):
+    """Runs make, which has to end well; gives what it printed."""
+    ran = make(target, **variables)
+    want(ran.returncode == 0, f"make {target} ends with {ran.returncode}: {ran.stderr}")
+    return ran.stdout
