@@ -6,7 +6,8 @@
 # make wrong-bodies   tries the wrong bodies that the gate leaves out, in a scratch clone
 # make install        the proved server, a unit for systemd, and a configuration if there is none; proves nothing
 # make uninstall      takes the server and the unit away, and leaves the configuration
-.PHONY: run build replay test wrong-bodies install uninstall
+# make package        a Debian package of the proved server, below out/package; proves nothing
+.PHONY: run build replay test wrong-bodies install uninstall package
 
 CONFIG = examples/host.json
 # Where it is installed, below DESTDIR, and which programs are proved.
@@ -14,6 +15,7 @@ PREFIX = /usr/local
 SYSCONFDIR = /etc
 HOST = crates/etcd_host/out/etcd_host
 REPLAY = crates/etcd_replay/out/etcd_replay
+VERSION = $(shell cat VERSION)
 installed_host = $(DESTDIR)$(PREFIX)/bin/etcd_host
 installed_unit = $(DESTDIR)$(PREFIX)/lib/systemd/system/etcd_host.service
 installed_config = $(DESTDIR)$(SYSCONFDIR)/bikazery/host.json
@@ -40,8 +42,12 @@ install:
 	@$(call wanted,$(HOST))
 	install -D -m 755 "$(HOST)" "$(installed_host)"
 	install -D -m 644 /dev/null "$(installed_unit)"
-	sed -e 's|@PREFIX@|$(PREFIX)|' -e 's|@SYSCONFDIR@|$(SYSCONFDIR)|' packaging/etcd_host.service.in > "$(installed_unit)"
+	sed -e 's|@PREFIX@|$(PREFIX)|' -e 's|@SYSCONFDIR@|$(SYSCONFDIR)|' -e 's|@VERSION@|$(VERSION)|' packaging/etcd_host.service.in > "$(installed_unit)"
 	[ -e "$(installed_config)" ] || install -D -m 644 examples/host.json "$(installed_config)"
 
 uninstall:
 	rm -f "$(installed_host)" "$(installed_unit)"
+
+package:
+	@$(call wanted,$(HOST))
+	@scripts/make-package "$(HOST)"
