@@ -13,11 +13,11 @@ def environment():
     return {name: value for name, value in os.environ.items() if not name.startswith(("MAKE", "MFLAGS"))}
 
 
-def make(target, top=TOP, **variables):
+def make(target, **variables):
     """Runs make with a mask that would hide what is made from other users."""
     given = [f"{name}={value}" for name, value in variables.items()]
-    return subprocess.run(["make", "-s", "-C", top, target, *given], capture_output=True, text=True, env=environment(),
-                          timeout=SECONDS, umask=0o077)
+    return subprocess.run(["make", "-s", "-C", TOP, target, *given], capture_output=True, text=True, env=environment(),
+                          timeout=2 * SECONDS, umask=0o077)
 
 
 def make_well(target, **variables):
