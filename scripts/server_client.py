@@ -336,12 +336,12 @@ class Watch(Connection):
 
 
 class Server:
-    """The program, serving."""
+    """The program, serving; it runs under some more variables if there are any."""
 
-    def __init__(self, program, config):
+    def __init__(self, program, config, variables=None):
         self.errors = tempfile.TemporaryFile()
-        pipe = subprocess.PIPE
-        self.child = subprocess.Popen([program], stdin=pipe, stdout=pipe, stderr=self.errors, bufsize=0)
+        pipe, all_variables = subprocess.PIPE, {**os.environ, **(variables or {})}
+        self.child = subprocess.Popen([program], stdin=pipe, stdout=pipe, stderr=self.errors, bufsize=0, env=all_variables)
         self.child.stdin.write(json.dumps(config).encode())
         self.child.stdin.close()
         ready = select.select([self.child.stdout], [], [], SECONDS)[0]
