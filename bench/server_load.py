@@ -102,15 +102,15 @@ def works():
     return {**named, "large": large(), "watched": watched(), "mixed": mixed()}
 
 
-def fill(place, rest=0):
-    """Puts the keys and the rows, with a rest after each transaction, and looks at ranges of them."""
-    names = [key(number) for number in range(KEYS)] + [row(number) for number in range(LARGE_ROWS)]
+def fill(place, rest=0, rows=LARGE_ROWS):
+    """Puts the keys and so many rows, with a rest after each transaction, and looks at ranges of them."""
+    names = [key(number) for number in range(KEYS)] + [row(number) for number in range(rows)]
     with Connection(place) as connection:
         for at in range(0, len(names), TXN_PUTS):
             puts = [{"request_put": put(name)[1]} for name in names[at : at + TXN_PUTS]]
             connection.call("kv/txn", {"success": puts})
             time.sleep(rest)
-        for call, wanted in [(ranges()[-1], RANGE_ROWS), (large()[0], LARGE_ROWS)]:
+        for call, wanted in [(ranges()[-1], RANGE_ROWS), (large()[0], rows)]:
             found = len(connection.call(*call).get("kvs", []))
             if found != wanted:
                 raise Wrong(f"{place.who}: a range of {wanted:,} rows was answered {found:,}")

@@ -1,0 +1,73 @@
+"""One attack against a server of its own: the other tenant alone and beside it, memory, and what is given back."""
+import contextlib
+import multiprocessing
+import time
+from typing import NamedTuple
+
+from replay_calls import Wrong
+from rude_beside import Neighbour, Times
+from rude_host import Held, Host
+
+# What an attack may take beyond its seconds, and when afterwards it is looked at what is left.
+PATIENCE, AFTER = 20, 1
+
+
+class Outcome(NamedTuple):
+    """What came of an attack. `alone` and `beside` are the other tenant's times, `slots` the attacked one's watches."""
+
+    did: str
+    alone: Times
+    beside: Times
+    before: Held
+    peak: int
+    after: Held
+    slots: int
+
+
+def attack_from_here(attack, place, seconds, count, told):
+    """The attacking process: it tells what it did, or what is wrong."""
+    try:
+        told.send((attack.make(place, seconds, count), None))
+    except (Wrong, OSError) as fault:
+        told.send((None, f"{type(fault).__name__}: {fault}"))
+
+
+@contextlib.contextmanager
+def attacked(attack, place, seconds, count):
+    """Attacks by a process of its own, with whose end all of its connections end. It gives a list of what was done."""
+    fork, did = multiprocessing.get_context("fork"), []
+    listening, told = fork.Pipe(duplex=False)
+    words = {"args": (attack, place, seconds, count, told), "daemon": True}
+    process = fork.Process(target=attack_from_here, **words)
+    process.start()
+    try:
+        yield did
+        if not listening.poll(seconds + PATIENCE):
+            raise Wrong(f"the attack did not end within {seconds + PATIENCE} seconds")
+        done, fault = listening.recv()
+        if fault:
+            raise Wrong(f"the attack: {fault}")
+        did.append(done)
+        process.join(PATIENCE)
+    finally:
+        process.kill()
+        process.join()
+
+
+def measured(program, attack, count, seconds, seconds_alone):
+    """The outcome of an attack of so many seconds."""
+    with contextlib.ExitStack() as stack:
+        host = stack.enter_context(Host(program, attack.workers))
+        attack.before(host.attacked, count)
+        neighbour = stack.enter_context(Neighbour(host.other))
+        alone = neighbour.measured(seconds_alone)
+        if attack.descriptors:
+            host.leave_descriptors(attack.descriptors)
+        before = host.held()
+        host.forget_peak()
+        with attacked(attack, host.attacked, seconds, count) as did:
+            beside = neighbour.measured(seconds)
+        time.sleep(AFTER)
+        peak, after = host.peak(), host.held()
+        host.look()
+        return Outcome(did[0], alone, beside, before, peak, after, host.watches_taken())
