@@ -30,7 +30,7 @@ class Neighbour(contextlib.ExitStack):
         self.putting, self.reading = (self.enter_context(Connection(place)) for _ in range(2))
         self.watch = self.enter_context(Watch(place, KEY))
         if self.watch.status != 200:
-            raise Wrong(f"another tenant: its watch is answered {self.watch.status}")
+            raise Wrong(f"another tenant's watch is answered {self.watch.status}")
         self.put, self.range = (place.message(call, body_of(body)) for call, body in [put(KEY), ranges()[0]])
         self.revision, self.rows = self.putting.revision(), None
 
@@ -40,7 +40,7 @@ class Neighbour(contextlib.ExitStack):
         status, body = connection.ask(message)
         took = time.perf_counter() - began
         if status != 200:
-            raise Wrong(f"another tenant: it is answered {status} {body[:200]!r}")
+            raise Wrong(f"it is answered {status} {body[:200]!r}")
         return json.loads(body), took
 
     def event(self):
@@ -58,18 +58,21 @@ class Neighbour(contextlib.ExitStack):
         times.events.append(self.event())
         found = [int(told["header"]["revision"]), self.watch.last]
         if found != [self.revision] * 2:
-            raise Wrong(f"another tenant: a put and its event are of {found}, and not of {self.revision}")
+            raise Wrong(f"a put and its event are of {found}, and not of {self.revision}")
         told, took = self.answer(self.reading, self.range)
         times.ranges.append(took)
         self.rows = self.rows or told["kvs"]
         if told["kvs"] != self.rows:
-            raise Wrong("another tenant: a range has other rows than before")
+            raise Wrong("a range has other rows than before")
 
     def measured(self, seconds):
         """The times of so many seconds of rounds, at an even pace."""
         times = Times([], [], [])
         began = time.monotonic()
-        while (now := time.monotonic()) < began + seconds:
-            self.round(times)
-            time.sleep(max(0, now + 1 / PACE - time.monotonic()))
+        try:
+            while (now := time.monotonic()) < began + seconds:
+                self.round(times)
+                time.sleep(max(0, now + 1 / PACE - time.monotonic()))
+        except (Wrong, OSError) as fault:
+            raise Wrong(f"another tenant, after {time.monotonic() - began:.1f} seconds: {fault}") from None
         return times
