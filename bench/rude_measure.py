@@ -37,8 +37,7 @@ def attacked(attack, place, seconds, count):
     """Attacks by a process of its own, with whose end all of its connections end. It gives a list of what was done."""
     fork, did = multiprocessing.get_context("fork"), []
     listening, told = fork.Pipe(duplex=False)
-    words = {"args": (attack, place, seconds, count, told), "daemon": True}
-    process = fork.Process(target=attack_from_here, **words)
+    process = fork.Process(target=attack_from_here, args=(attack, place, seconds, count, told), daemon=True)
     process.start()
     try:
         yield did
