@@ -134,13 +134,13 @@ def late_watches(crowd, count):
 def new_connections(crowd, count):
     """So many a second, each with a read whose answer nobody waits for."""
     message = range_message(crowd.place, {"key": text_of(b"none")})
-    began, young, made = time.monotonic(), collections.deque(), 0
+    began, young = time.monotonic(), collections.deque()
     while crowd.goes_on():
-        while made < (time.monotonic() - began) * count:
+        while len(crowd.all) < (time.monotonic() - began) * count:
             young.append(crowd.enter(message))
-            made += 1
         for one in young:
-            one.push()
+            if one.left and one.is_open():
+                one.push()
         while len(young) > YOUNG:
             young.popleft().close()
         time.sleep(TURN)
@@ -171,6 +171,7 @@ def unread_pipelines(crowd, count):
     for _ in range(count):
         crowd.enter(messages, NARROW)
     crowd.send_all()
+    crowd.stay()
     return f"{crowd.reached()} connections, {crowd.sent():,} bytes"
 
 

@@ -9,7 +9,7 @@ from rude_beside import Neighbour, Times
 from rude_host import Held, Host
 
 # What an attack may take beyond its seconds, and when afterwards it is looked at what is left.
-PATIENCE, AFTER = 20, 1
+PATIENCE, AFTER, LOOK = 20, 1, 0.05
 
 
 class Outcome(NamedTuple):
@@ -53,8 +53,16 @@ def attacked(attack, place, seconds, count):
         process.join()
 
 
-def measured(program, attack, count, seconds, seconds_alone):
-    """The outcome of an attack of so many seconds."""
+def held_after(host, before, is_given_back):
+    """What the host holds a second after an attack, or sooner where it has given back all."""
+    until = time.monotonic() + AFTER
+    while not is_given_back(before, held := host.held()) and time.monotonic() < until:
+        time.sleep(LOOK)
+    return held
+
+
+def measured(program, attack, count, seconds, seconds_alone=0.0, is_given_back=lambda before, after: False):
+    """The outcome of an attack of so many seconds. It need not be waited for what is given back already."""
     with contextlib.ExitStack() as stack:
         host = stack.enter_context(Host(program, attack.workers))
         attack.before(host.attacked, count)
@@ -66,7 +74,6 @@ def measured(program, attack, count, seconds, seconds_alone):
         host.forget_peak()
         with attacked(attack, host.attacked, seconds, count) as did:
             beside = neighbour.measured(seconds)
-        time.sleep(AFTER)
-        peak, after = host.peak(), host.held()
+        after, peak = held_after(host, before, is_given_back), host.peak()
         host.look()
         return Outcome(did[0], alone, beside, before, peak, after, host.watches_taken())
