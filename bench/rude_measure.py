@@ -61,7 +61,7 @@ def held_after(host, before, is_given_back):
     return held
 
 
-def measured(program, attack, count, seconds, seconds_alone=0.0, is_given_back=lambda before, after: False):
+def measured(program, attack, count, seconds, seconds_alone, is_given_back=lambda before, after: False):
     """The outcome of an attack of so many seconds. It need not be waited for what is given back already."""
     with contextlib.ExitStack() as stack:
         host = stack.enter_context(Host(program, attack.workers))
