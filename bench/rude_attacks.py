@@ -10,11 +10,11 @@ from typing import Callable, NamedTuple
 
 from replay_calls import Wrong, body_of, text_of
 from rude_crowd import NARROW, Crowd
+from rude_host import WATCHES
 from server_http import Connection
-from server_load import KEYS, fill, key, put, ranges
+from server_load import fill, key, put, ranges
 
 LARGEST_BODY = 2_097_152
-WATCHES = 64
 ALL = {"key": text_of(b"\0"), "range_end": text_of(b"\0")}
 # Values whose puts have almost as many bytes as a body may have.
 LARGE_VALUE, LARGE_ROWS, FEW_ROWS = 1_400_000, 10, 2
