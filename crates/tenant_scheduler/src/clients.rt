@@ -1,5 +1,6 @@
 //! What the clients of a tenant have under way: jobs that wait, and open watches.
 use crate::answer::Answer;
+use crate::clock::Running;
 use crate::scheduler::{Scheduler, Work};
 use crate::watch_texts::TextSender;
 use etcd_types::{Call, Step};
@@ -14,6 +15,16 @@ pub(crate) enum Ask {
     Step(Step),
     /// The body, which is too long to be read by an event loop.
     Body(Vec<u8>),
+}
+
+impl Ask {
+    /// How many bytes a worker has to read.
+    pub(crate) fn len(&self) -> usize {
+        match self {
+            Ask::Step(_) => 0,
+            Ask::Body(body) => body.len(),
+        }
+    }
 }
 
 /// A call of a client that waits for a worker, and where its answer goes.
@@ -37,6 +48,9 @@ pub(crate) struct Clients<R: Wait + Drop> {
     pub(crate) name: Vec<u8>,
     pub(crate) jobs: mpsc::Receiver<Job<R>>,
     pub(crate) watches: Vec<OpenWatch>,
+    /// At which place of the watches the pump goes on.
+    pub(crate) next_take: usize,
+    pub(crate) running: Running,
     /// How many of its brief calls the event loops leave to the workers, since an answer was long.
     pub(crate) left_to_workers: u32,
 }

@@ -10,9 +10,44 @@ use std::sync::Wait;
 use std::time::{Duration, Instant};
 use tenant_registry::{Gate, Seat};
 
+/// How many seconds lie between two ticks of a tenant that is not busy.
+const SECONDS_A_TICK: u64 = 1;
+
+/// How many seconds one tick moves a tenant's moment by, at the most.
+const MAX_SECONDS_A_TICK: u64 = 2;
+
+/// How long a tenant's time has run, as its ticks count it.
+///
+/// A tick that comes late counts two seconds at the most. So after a pause of the machine, or behind a long job, the
+/// keepalives that wait are served before the next tick could end their leases.
+#[derive(Clone, Copy, Drop)]
+pub(crate) struct Running {
+    /// When the last tick came, on the server's clock.
+    ticked: Duration,
+    ran: Duration,
+}
+
+impl Running {
+    /// It begins with the server's clock.
+    pub(crate) fn new() -> Running {
+        Running {
+            ticked: Duration::from_secs(0),
+            ran: Duration::from_secs(0),
+        }
+    }
+
+    /// The moment of a tick that comes now, in whole seconds.
+    fn tick(&mut self, now: Duration) -> u64 {
+        let passed = now.saturating_sub(self.ticked);
+        let counted = passed.min(Duration::from_secs(MAX_SECONDS_A_TICK));
+        self.ticked = now;
+        self.ran = self.ran.saturating_add(counted);
+        self.ran.as_secs()
+    }
+}
+
 /// Schedules each tenant's tick every second, and steps those whose turn it is, until there are no more turns.
-/// A tenant that is busy gets its tick when its turn comes, with the seconds that have passed by then; the
-/// others don't wait for it.
+/// A tenant that is busy gets its tick when its turn comes; the others don't wait for it.
 pub(crate) fn keep_time<R: Wait + Clock + Copy + Drop, G: Gate>(
     thread: ServingThread<'_, R, G>,
 ) -> Seat {
@@ -24,41 +59,53 @@ pub(crate) fn keep_time<R: Wait + Clock + Copy + Drop, G: Gate>(
     let Ok(start) = Instant::now(&rt) else {
         return caller.into_seat();
     };
-    let mut ticks = 0;
+    let mut now = Duration::from_secs(0);
+    let mut due = Duration::from_secs(SECONDS_A_TICK);
     for _ in rt.forever() {
-        let passed = start.elapsed(&rt).unwrap_or(Duration::from_secs(ticks));
-        let next = Duration::from_secs(ticks.saturating_add(1));
-        match shared
+        let turn = shared
             .turns
             .clock
-            .recv_timeout(&rt, next.saturating_sub(passed))
-        {
+            .recv_timeout(&rt, due.saturating_sub(now));
+        now = start.elapsed(&rt).unwrap_or(due);
+        match turn {
             Ok(Turn::On(tenant)) => {
-                tick(&rt, &mut caller, &shared, tenant, passed.as_secs());
+                tick(&rt, &mut caller, &shared, tenant, now);
                 shared.scheduler.finish(&rt, tenant, Work::Tick);
             }
             Ok(Turn::Over) | Err(RecvTimeoutError::Disconnected) => break,
             Err(RecvTimeoutError::Timeout) => {
-                ticks = ticks.saturating_add(1);
                 for tenant in 0..shared.clients.len() {
                     shared.scheduler.schedule(&rt, tenant, Work::Tick);
                 }
+                due = next_due(due, now);
             }
         }
     }
     caller.into_seat()
 }
 
-/// Steps a tenant's tick at a moment, and has the pump take for its watches.
+/// When the ticks after those of now are due. What was missed in a pause is not made up for.
+fn next_due(due: Duration, now: Duration) -> Duration {
+    let second = Duration::from_secs(SECONDS_A_TICK);
+    let next = due.saturating_add(second);
+    if next > now {
+        next
+    } else {
+        now.saturating_add(second)
+    }
+}
+
+/// Steps a tenant's tick, and has the pump take for its watches.
 fn tick<R: Wait + Clock + Drop, G: Gate>(
     rt: &R,
     caller: &mut Caller<'_, R, G>,
     shared: &Shared<R>,
     tenant: usize,
-    moment: u64,
+    now: Duration,
 ) {
     if let Some(clients) = shared.clients.get(tenant) {
-        let clients = clients.lock(rt);
+        let mut clients = clients.lock(rt);
+        let moment = clients.running.tick(now);
         let _ = caller.call(clients.name.as_slice(), Step::Tick(moment));
         clients.schedule_takes(rt, &shared.scheduler, tenant);
     }

@@ -28,6 +28,7 @@ mod pump;
 mod scheduler;
 mod serving;
 mod shared;
+mod stopwatch;
 mod watch_texts;
 mod worker;
 

@@ -3,11 +3,15 @@ use crate::caller::Caller;
 use crate::clients::{Clients, OpenWatch};
 use crate::scheduler::{Scheduler, Turn, Work};
 use crate::serving::ServingThread;
+use crate::stopwatch::Stopwatch;
 use crate::watch_texts::NoRoom;
 use etcd_types::Step;
 use std::rt::Clock;
 use std::sync::Wait;
 use tenant_registry::{Gate, Hint, Seat};
+
+/// After how many milliseconds a turn ends, once the take at hand is served.
+const MILLIS_A_TURN: u64 = 1;
 
 /// Takes for the open watches of each tenant where that is due, until there are no more turns.
 pub(crate) fn pump<R: Wait + Clock + Copy + Drop, G: Gate>(
@@ -47,7 +51,7 @@ fn take_turn<R: Wait + Clock + Drop, G: Gate>(
     let Some(hint) = caller.hint(clients.name.as_slice()) else {
         return;
     };
-    let all_answered = take_each(caller, clients, Some(&hint));
+    let all_answered = take_hinted(rt, caller, clients, &hint);
     let Some(left) = caller.hint(clients.name.as_slice()) else {
         return;
     };
@@ -66,38 +70,67 @@ fn take_turn<R: Wait + Clock + Drop, G: Gate>(
     }
 }
 
-/// Takes once for each watch that a hint tells and whose client waits for a text; without a hint, for each that
-/// has room for one. It is `false` where a take found no memory.
-pub(crate) fn take_each<R: Wait + Clock + Drop, G: Gate>(
+/// Takes once for each watch that a hint tells and whose client waits for a text, as far as a turn's time goes. The
+/// next turn goes on behind the last one that this turn came to. It is `false` where a take found no memory.
+fn take_hinted<R: Wait + Clock + Drop, G: Gate>(
+    rt: &R,
     caller: &mut Caller<'_, R, G>,
     clients: &mut Clients<R>,
-    hint: Option<&Hint>,
+    hint: &Hint,
 ) -> bool {
-    let name = clients.name.as_slice();
-    let watches = &mut clients.watches;
+    let stopwatch = Stopwatch::start(rt);
     let mut all_answered = true;
-    let mut at = 0;
-    for _ in 0..watches.len() {
-        if at >= watches.len() {
+    let mut at = clients.next_take;
+    for _ in 0..clients.watches.len() {
+        if stopwatch.is_past(rt, MILLIS_A_TURN) {
             break;
         }
-        let taken = if is_meant(hint, &watches[at]) {
-            take(caller, name, &watches[at])
-        } else {
-            TakeOutcome::Open
-        };
-        match taken {
-            TakeOutcome::Open => at += 1,
-            TakeOutcome::NoMemory => {
-                all_answered = false;
-                at += 1;
-            }
-            TakeOutcome::Ended => {
-                let _ = watches.swap_remove(at);
-            }
+        if at >= clients.watches.len() {
+            at = 0;
         }
+        all_answered &= take_at(caller, clients, &mut at, Some(hint));
+    }
+    clients.next_take = at;
+    all_answered
+}
+
+/// Takes once for each watch that has room for a text. It is `false` where a take found no memory.
+pub(crate) fn take_all<R: Wait + Clock + Drop, G: Gate>(
+    caller: &mut Caller<'_, R, G>,
+    clients: &mut Clients<R>,
+) -> bool {
+    let mut all_answered = true;
+    let mut at = 0;
+    for _ in 0..clients.watches.len() {
+        all_answered &= take_at(caller, clients, &mut at, None);
     }
     all_answered
+}
+
+/// Takes for the watch at a place, if it is meant, and goes on to the next one. One that was cancelled leaves its
+/// place to the last. It is `false` where the take found no memory.
+fn take_at<R: Wait + Clock + Drop, G: Gate>(
+    caller: &mut Caller<'_, R, G>,
+    clients: &mut Clients<R>,
+    at: &mut usize,
+    hint: Option<&Hint>,
+) -> bool {
+    let Some(watch) = clients.watches.get(*at) else {
+        return true;
+    };
+    let taken = if is_meant(hint, watch) {
+        take(caller, clients.name.as_slice(), watch)
+    } else {
+        TakeOutcome::Open
+    };
+    if let TakeOutcome::Ended = taken {
+        if *at < clients.watches.len() {
+            let _ = clients.watches.swap_remove(*at);
+        }
+    } else {
+        *at = at.saturating_add(1);
+    }
+    !matches!(taken, TakeOutcome::NoMemory)
 }
 
 fn is_meant(hint: Option<&Hint>, watch: &OpenWatch) -> bool {

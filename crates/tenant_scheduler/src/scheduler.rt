@@ -5,6 +5,7 @@
 //! channel is ever full. A turn ends by handing the tenant to the work that is due next, in a fixed round, behind all
 //! other tenants there. An event loop takes a turn only where nobody has it, and waits for none.
 use crossbeam_channel::{Receiver, Sender, bounded};
+use crossbeam_utils::CachePadded;
 use etcd_types::Mem;
 use std::alloc::Global;
 use std::hint;
@@ -70,8 +71,9 @@ pub(crate) enum Turn {
 }
 
 /// The marks of a tenant's due work, and `RUNNING` while somebody has the turn there or is about to. Only who has the
-/// turn takes a mark off, and an idle tenant has none.
-type Marks = AtomicU64;
+/// turn takes a mark off, and an idle tenant has none. They lie on cache lines of their own, since tenants have nothing
+/// to do with each other.
+type Marks = CachePadded<AtomicU64>;
 
 /// Nobody has the turn, and nothing is due.
 const IDLE: u64 = 0;
@@ -103,7 +105,7 @@ impl Scheduler {
     pub(crate) fn new(alloc: Global, tenants: usize, threads: usize) -> Mem<(Scheduler, Turns)> {
         let mut marks = Vec::with_capacity(alloc, tenants)?;
         for _ in 0..tenants {
-            marks.push(AtomicU64::new(IDLE))?;
+            marks.push(CachePadded::new(AtomicU64::new(IDLE)))?;
         }
         // A tenant is in one channel at most, and each thread is told once that there are no more turns.
         let room = tenants.saturating_add(threads);

@@ -1,6 +1,7 @@
 //! What the threads that serve tenants share.
 use crate::caller::Caller;
 use crate::clients::Clients;
+use crate::clock::Running;
 use crate::jobs::{Directory, Jobs};
 use crate::pump::drop_closed;
 use crate::scheduler::{Scheduler, Turns};
@@ -61,6 +62,8 @@ pub fn open<R: Wait + Drop>(
             name: Vec::from_slice(alloc, name)?,
             jobs,
             watches: Vec::new(alloc),
+            next_take: 0,
+            running: Running::new(),
             left_to_workers: 0,
         }))?;
     }

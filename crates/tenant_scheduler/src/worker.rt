@@ -2,9 +2,10 @@
 use crate::answer::{Answer, AnswerBody, Text};
 use crate::caller::Caller;
 use crate::clients::{Ask, Clients, Job, OpenWatch};
-use crate::pump::take_each;
+use crate::pump::take_all;
 use crate::scheduler::{Scheduler, Turn, Work};
 use crate::serving::ServingThread;
+use crate::stopwatch::Stopwatch;
 use crate::watch_texts::{TextSender, WatchTexts};
 use etcd_types::{Call, Step};
 use gateway_json::read_step;
@@ -16,8 +17,12 @@ use tenant_registry::{Gate, Receipt, Seat};
 /// How many jobs of a tenant are served in one turn.
 const JOBS_A_TURN: usize = 8;
 
-/// How many bytes of answers end a turn: a few large answers take as long as many small ones.
+/// How many bytes end a turn, of bodies that a worker reads and of answers: a few large ones take as long as many
+/// small ones.
 const BYTES_A_TURN: usize = 65_536;
+
+/// After how many milliseconds a turn ends, once the job at hand is served.
+const MILLIS_A_TURN: u64 = 2;
 
 /// Serves a few jobs of each tenant whose turn it is, until there are no more turns.
 pub(crate) fn work<R: Wait + Clock + Copy + Drop, G: Gate>(
@@ -60,15 +65,17 @@ struct WorkerTurn<'a, R> {
 impl<R: Wait + Clock + Copy + Drop> WorkerTurn<'_, R> {
     /// Serves a few of a tenant's jobs. If there may be more, the tenant comes again behind the others.
     fn serve_jobs<G: Gate>(&self, caller: &mut Caller<'_, R, G>, clients: &mut Clients<R>) {
+        let stopwatch = Stopwatch::start(&self.rt);
         let mut bytes = 0usize;
         for _ in 0..JOBS_A_TURN {
-            if bytes > BYTES_A_TURN {
+            if bytes > BYTES_A_TURN || stopwatch.is_past(&self.rt, MILLIS_A_TURN) {
                 break;
             }
             let Ok(job) = clients.jobs.try_recv() else {
                 return;
             };
             let Job { call, ask, reply } = job;
+            bytes = bytes.saturating_add(ask.len());
             let answer = self.answer(caller, clients, call, ask);
             bytes = bytes.saturating_add(answer.len());
             // Where the client has gone, the call stays made.
@@ -99,7 +106,7 @@ impl<R: Wait + Clock + Copy + Drop> WorkerTurn<'_, R> {
             Step::Compact(_) => {
                 // A watch with nothing to tell moves on by being taken; else it would be cancelled for what it
                 // has only not been asked about.
-                if !take_each(caller, clients, None) {
+                if !take_all(caller, clients) {
                     return Answer::no_memory();
                 }
                 caller.answer(self.alloc, clients.name.as_slice(), step)
