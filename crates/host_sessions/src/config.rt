@@ -1,5 +1,6 @@
 //! What the server is told at its start.
 use crate::connections::LOOPS;
+use crate::peers::{MAX_PATIENCE, Patience};
 use etcd_types::limits::{DEFAULT_SEGMENTS, MAX_CONFIG, MAX_WORKERS};
 use gateway_json::read_unsigned;
 use serde_json::Value;
@@ -21,6 +22,7 @@ pub struct Config {
     pub workers: usize,
     /// How many connections are served before the end; without it there is none.
     pub connections: Option<u32>,
+    pub patience: Patience,
     pub tenants: Vec<TenantConfig>,
 }
 
@@ -61,6 +63,7 @@ fn config_of(alloc: Global, object: &Value) -> Result<Config, ConfigFault> {
     let segments = segments_of(object)?;
     let workers = workers_of(object)?;
     let connections = connections_of(object)?;
+    let patience = patience_of(object)?;
     let tenants = tenants_of(alloc, object)?;
     if check(segments, tenants.as_slice()).is_err() {
         return Err(ConfigFault::Unreadable);
@@ -70,6 +73,7 @@ fn config_of(alloc: Global, object: &Value) -> Result<Config, ConfigFault> {
         segments,
         workers,
         connections,
+        patience,
         tenants,
     })
 }
@@ -124,6 +128,24 @@ fn connections_of(object: &Value) -> Result<Option<u32>, ConfigFault> {
             Ok(Ok(connections)) => Ok(Some(connections)),
             _ => Err(ConfigFault::Unreadable),
         },
+    }
+}
+
+fn patience_of(object: &Value) -> Result<Patience, ConfigFault> {
+    let default = Patience::DEFAULT;
+    Ok(Patience {
+        head: seconds_of(object, "head_seconds", default.head)?,
+        body: seconds_of(object, "body_seconds", default.body)?,
+        answer: seconds_of(object, "answer_seconds", default.answer)?,
+        silence: seconds_of(object, "silence_seconds", default.silence)?,
+    })
+}
+
+/// A number of seconds, from one to those of a day.
+fn seconds_of(object: &Value, name: &str, absent: u32) -> Result<u32, ConfigFault> {
+    match u32::try_from(number(object, name, absent.into())?) {
+        Ok(seconds) if seconds >= 1 && seconds <= MAX_PATIENCE => Ok(seconds),
+        _ => Err(ConfigFault::Unreadable),
     }
 }
 

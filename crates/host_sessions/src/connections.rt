@@ -3,10 +3,13 @@ ghost use Rattle.std.specs.Prelude.{IfSome};
 
 use crate::exchange::Gateway;
 use crate::fault::ServeFault;
+use crate::peers::Patience;
 use crate::threads::Ended;
+use crossbeam_channel::{Receiver, Sender, bounded};
 use etcd_types::Mem;
+use futures::executor::TaskSet;
 use futures::task::{Context, Poll};
-use futures::{Future, Stream, ready};
+use futures::{Future, ready};
 use hyper::rt::TokioTimer;
 use hyper::server::conn::http1;
 use std::alloc::{AllocGlobal, Global};
@@ -19,6 +22,7 @@ use tenant_registry::Gate;
 use tenant_scheduler::{InlineCall, InlineCalls, Jobs, ServingThread};
 use tokio::net::TcpStream;
 use tokio::runtime::LocalRuntime;
+use tokio::sync::mpsc::error::SendError;
 use tokio::sync::mpsc::{UnboundedReceiver, UnboundedSender, unbounded_channel};
 use tokio::{reactor, time};
 
@@ -34,33 +38,56 @@ const PAUSE: u64 = 50;
 pub(crate) struct SocketLoop {
     runtime: LocalRuntime,
     sockets: UnboundedReceiver<net::TcpStream>,
+    patience: Patience,
+    ready: Sender<()>,
 }
 
 /// Where a loop's connections go in.
 pub(crate) type SocketSender = UnboundedSender<net::TcpStream>;
 
+/// Where connections are dealt out.
+#[derive(Drop)]
+pub(crate) struct Acceptor {
+    senders: Vec<SocketSender>,
+    /// Each loop says once that it has all that it needs of the system.
+    ready: Receiver<()>,
+}
+
 /// A loop on each runtime, and where their connections go in.
 pub(crate) fn open_loops(
     alloc: Global,
     runtimes: Vec<LocalRuntime>,
-) -> Mem<(Vec<SocketSender>, Vec<SocketLoop>)> {
+    patience: Patience,
+) -> Mem<(Acceptor, Vec<SocketLoop>)> {
     let mut senders = Vec::new(alloc);
+    let (is_ready, ready) = bounded(alloc, LOOPS)?;
     let mut loops = Vec::new(alloc);
     for runtime in runtimes {
         let (sender, sockets) = unbounded_channel(alloc)?;
         senders.push(sender)?;
-        loops.push(SocketLoop { runtime, sockets })?;
+        loops.push(SocketLoop {
+            runtime,
+            sockets,
+            patience,
+            ready: is_ready.clone()?,
+        })?;
     }
-    Ok((senders, loops))
+    Ok((Acceptor { senders, ready }, loops))
 }
 
-/// Accepts connections until as many as were told have come, and gives them to the loops in turn.
+/// Accepts connections until as many as were told have come, and gives them to the loops in turn. The first is accepted
+/// once each loop is ready, so that no connection takes a file descriptor that a loop still needs.
 pub(crate) fn accept_all<R: Wait + Clock>(
     rt: &R,
     listener: &net::TcpListener,
-    senders: &[SocketSender],
+    acceptor: &Acceptor,
     connections: Option<u32>,
 ) -> Result<(), ServeFault> {
+    let senders = acceptor.senders.as_slice();
+    for _ in senders {
+        // A loop that could not begin is told by its end.
+        let _ = acceptor.ready.recv(rt);
+    }
     let mut left = connections;
     let mut at = 0usize;
     for _ in rt.forever() {
@@ -75,9 +102,9 @@ pub(crate) fn accept_all<R: Wait + Clock>(
         let Some(sender) = senders.get(at) else {
             return Err(ServeFault::Memory);
         };
-        // A loop ends early only for want of memory.
-        if sender.send(socket).is_err() {
-            return Err(ServeFault::Memory);
+        // A connection for which there is no memory is closed. A loop ends early only where the system fails it.
+        if let Err(SendError::Closed(_)) = sender.send(socket) {
+            return Err(ServeFault::Socket);
         }
         at = at.saturating_add(1);
         if at >= senders.len() {
@@ -107,65 +134,76 @@ impl<F: Future<Output = hyper::Result<()>>> Future for Served<F> {
     }
 }
 
-/// The connections of a loop, each as a task, and beside them their inline calls.
+/// Takes a loop's connections in, each as a task of a set, and serves their inline calls. Ready once no more come.
+///
+/// A connection for which there is no memory is closed, and nothing else happens: what is short may be there again
+/// for the next one.
 #[derive(Drop)]
-struct Connections<'a, 'x, R: Wait + Drop, G, F> {
+struct Connections<'a, 'x, R: Wait + Drop, G, F, T: Future> {
     inline_calls: &'a mut InlineCalls<'x, R, G>,
     sockets: UnboundedReceiver<net::TcpStream>,
     reactor: reactor::Handle,
+    tasks: &'a TaskSet<T>,
     /// None once no more connections come.
     make: Option<F>,
 }
 
-impl<R, G, F, T> Stream for Connections<'_, '_, R, G, F>
+impl<R, G, F, T> Future for Connections<'_, '_, R, G, F, T>
 where
     R: Wait + Clock + Copy + Drop,
     G: Gate,
     F: Fn(TcpStream) -> T + Drop,
     T: Future<Output = ()>,
 {
-    type Item = T;
+    type Output = ();
 
     ghost can_poll = { λ a. IfSome a.make (λ make. F.IsAlwaysCallable make
         × ((socket : _) (task : _) → F.post make socket task → T.can_poll task)) };
 
-    ghost yields = { λ _ _ last. IfSome last T.can_poll };
-
-    fn poll_next(&mut self, cx: &mut Context<'_>) -> Poll<Option<T>> {
+    fn poll(&mut self, cx: &mut Context<'_>) -> Poll<()> {
         if let Some(make) = &self.make {
             match self.sockets.poll_recv(cx) {
                 Poll::Ready(Some(socket)) => {
-                    let Ok(socket) = TcpStream::from_std(socket, &self.reactor) else {
-                        return cx.yield_now();
-                    };
-                    let _ = socket.set_nodelay(true);
-                    return Poll::Ready(Some(make(socket)));
+                    if let Ok(socket) = TcpStream::from_std(socket, &self.reactor) {
+                        let _ = socket.set_nodelay(true);
+                        drop(self.tasks.spawn(make(socket)));
+                    }
+                    return cx.yield_now();
                 }
                 Poll::Ready(None) => self.make = None,
                 Poll::Pending => {}
             }
         }
-        ready!(self.inline_calls.poll_end(cx));
-        Poll::Ready(None)
+        self.inline_calls.poll_end(cx)
     }
 }
 
 /// What a loop works with, beside its sockets.
 #[derive(Drop)]
 struct Tools<R: Wait + Drop> {
-    keys: RandomState,
+    http: http1::Builder<TokioTimer<R>>,
     timers: time::Handle,
     reactor: reactor::Handle,
     jobs: Jobs<R>,
     inline_calls: UnboundedReceiver<InlineCall<R>>,
 }
 
-impl<R: Wait + RandomSource + Drop> Tools<R> {
-    fn new(rt: &R, alloc: Global, runtime: &LocalRuntime, jobs: &Jobs<R>) -> io::Result<Tools<R>> {
+impl<R: Wait + Clock + RandomSource + Copy + Drop> Tools<R> {
+    fn new(
+        rt: R,
+        alloc: Global,
+        runtime: &LocalRuntime,
+        jobs: &Jobs<R>,
+        patience: Patience,
+    ) -> io::Result<Tools<R>> {
         let (jobs, inline_calls) = jobs.with_inline_calls(alloc)?;
+        let keys = RandomState::new(&rt)?;
+        let timers = runtime.handle().time();
+        let mut http = http1::Builder::new(alloc, keys).timer(TokioTimer::new(rt, timers.clone()?));
+        http.header_read_timeout(Some(patience.for_head()));
         Ok(Tools {
-            keys: RandomState::new(rt)?,
-            timers: runtime.handle().time().clone()?,
+            http,
+            timers: timers.clone()?,
             reactor: runtime.handle().reactor().clone()?,
             jobs,
             inline_calls,
@@ -188,34 +226,80 @@ where
     let SocketLoop {
         mut runtime,
         sockets,
+        patience,
+        ready,
     } = own;
-    let Ok(tools) = Tools::new(&rt, alloc, &runtime, &jobs) else {
+    let Ok(tools) = Tools::new(rt, alloc, &runtime, &jobs, patience) else {
         return (thread.into_seat(), Err(ServeFault::Memory));
     };
     let Tools {
-        keys,
+        http,
         timers,
         reactor,
         jobs,
         inline_calls,
     } = tools;
     let mut inline_calls = InlineCalls::new(alloc, thread, inline_calls);
-    let http = http1::Builder::new(alloc, keys).timer(TokioTimer::new(rt, timers));
-    let connections = Connections {
-        inline_calls: &mut inline_calls,
+    let make = move |socket| {
+        let gateway = Gateway {
+            rt,
+            alloc,
+            jobs: jobs.share(),
+            timers: timers.clone().ok(),
+            body_patience: patience.for_body(),
+        };
+        Served {
+            connection: Some(http.serve_connection(socket, gateway)),
+        }
+    };
+    let arriving = Arriving {
         sockets,
         reactor,
-        make: Some(move |socket| {
-            let jobs = jobs.share();
-            let connection = http.serve_connection(socket, Gateway { rt, alloc, jobs });
-            Served {
-                connection: Some(connection),
-            }
-        }),
+        ready,
     };
-    let served = match runtime.run_all(&rt, connections) {
-        Ok(()) => Ok(()),
-        Err(error) => Err(ServeFault::of(&error)),
-    };
+    let served = run_tasks(&rt, &mut runtime, &mut inline_calls, arriving, make);
+    let served = served.map_err(|error| ServeFault::of(&error));
     (inline_calls.into_seat(), served)
+}
+
+/// What a loop's connections come by.
+#[derive(Drop)]
+struct Arriving {
+    sockets: UnboundedReceiver<net::TcpStream>,
+    reactor: reactor::Handle,
+    ready: Sender<()>,
+}
+
+/// Runs a loop's connections as tasks that a function makes.
+fn run_tasks<R, G, F, T>(
+    rt: &R,
+    runtime: &mut LocalRuntime,
+    inline_calls: &mut InlineCalls<'_, R, G>,
+    arriving: Arriving,
+    make: F,
+) -> io::Result<()>
+where
+    R: Wait + Clock + RandomSource + AllocGlobal + Copy + Drop,
+    G: Gate,
+    F: Fn(TcpStream) -> T + Drop,
+    T: Future<Output = ()>,
+    requires callable { F.IsAlwaysCallable make }
+    requires pollable { (socket : _) (task : _) → F.post make socket task → T.can_poll task }
+{
+    let Arriving {
+        sockets,
+        reactor,
+        ready,
+    } = arriving;
+    let tasks = runtime.task_set(rt)?;
+    let _ = ready.send(rt, ());
+    drop(ready);
+    let connections = Connections {
+        inline_calls,
+        sockets,
+        reactor,
+        tasks: &tasks,
+        make: Some(make),
+    };
+    runtime.block_on_with(rt, &tasks, connections)
 }

@@ -4,6 +4,7 @@ ghost use Rattle.futures.specs.Poll.{OnPending};
 
 use crate::response::{ResponseBody, respond};
 use crate::routing::route;
+use crate::stall::{BodyTimer, Stall};
 use etcd_types::Refusal;
 use etcd_types::limits::MAX_BODY;
 use futures::task::{Context, Poll};
@@ -15,8 +16,11 @@ use hyper::service::Service;
 use hyper::{Request, Response};
 use std::alloc::{AllocError, Global};
 use std::mem;
+use std::rt::Clock;
 use std::sync::Wait;
+use std::time::Duration;
 use tenant_scheduler::{Answer, Begun, Jobs, PendingCall, Route};
+use tokio::time;
 
 /// How many pieces of a body are read in one poll.
 const PIECES_A_POLL: usize = 128;
@@ -31,6 +35,10 @@ pub(crate) struct Gateway<R: Wait + Drop> {
     pub(crate) rt: R,
     pub(crate) alloc: Global,
     pub(crate) jobs: Option<Jobs<R>>,
+    /// None where a body is waited for however long it takes.
+    pub(crate) timers: Option<time::Handle>,
+    /// How long the next piece of a body is waited for.
+    pub(crate) body_patience: Duration,
 }
 
 /// The exchange of one request.
@@ -55,12 +63,13 @@ struct Reading<I, R: Wait + Drop> {
     route: Result<Route, Refusal>,
     body: Limited<Incoming<I>>,
     read: Vec<u8>,
+    stall: Stall<R>,
     /// Why the body is read on and thrown away.
     lost: Option<Refusal>,
     passed: u32,
 }
 
-impl<I: Drop, R: Wait + Copy + Drop> Service<Request<Incoming<I>>> for Gateway<R> {
+impl<I: Drop, R: Wait + Clock + Copy + Drop> Service<Request<Incoming<I>>> for Gateway<R> {
     type Response = Response<ResponseBody<R>>;
 
     type Error = hyper::Error;
@@ -93,10 +102,22 @@ impl<I: Drop, R: Wait + Copy + Drop> Service<Request<Incoming<I>>> for Gateway<R
                 route,
                 body: Limited::new(req.into_body(), MAX_BODY),
                 read: Vec::new(self.alloc),
+                stall: Stall::new(self.rt, self.body_timer()),
                 lost,
                 passed: 0,
             }),
         }
+    }
+}
+
+impl<R: Wait + Drop> Gateway<R> {
+    /// The timer of a body; none where there is no memory to share it.
+    fn body_timer(&self) -> Option<BodyTimer> {
+        let timers = self.timers.as_ref()?.clone().ok()?;
+        Some(BodyTimer {
+            timers,
+            patience: self.body_patience,
+        })
     }
 }
 
@@ -108,14 +129,20 @@ fn is_coded(headers: &HeaderMap) -> bool {
     }
 }
 
-impl<I: Drop, R: Wait + Copy + Drop> Reading<I, R> {
-    /// Ready once the body is read, or once enough of it was passed over.
+impl<I: Drop, R: Wait + Clock + Copy + Drop> Reading<I, R> {
+    /// Ready once the body is read, or once enough of it was passed over. It fails where the peer breaks off, or takes
+    /// too long for the next piece.
     fn poll_whole(&mut self, cx: &mut Context<'_>) -> Poll<Result<(), hyper::Error>>
         ensures registered { OnPending result (IsArmed cx.new) }
         ensures kept { Keeps cx.old cx.new }
     {
         for _ in 0..PIECES_A_POLL {
-            match ready!(self.body.poll_frame(cx)) {
+            let Poll::Ready(frame) = self.body.poll_frame(cx) else {
+                ready!(self.stall.poll_over(cx));
+                return Poll::Ready(Err(hyper::Error::from(AllocError)));
+            };
+            self.stall.relent();
+            match frame {
                 Some(Ok(frame)) => {
                     if let Ok(data) = frame.into_data() {
                         self.keep(data.as_slice());
@@ -152,6 +179,7 @@ impl<I: Drop, R: Wait + Copy + Drop> Reading<I, R> {
             route,
             body: _,
             read,
+            stall: _,
             lost,
             passed: _,
         } = self;
@@ -165,7 +193,7 @@ impl<I: Drop, R: Wait + Copy + Drop> Reading<I, R> {
     }
 }
 
-impl<I: Drop, R: Wait + Copy + Drop> Future for Exchange<I, R> {
+impl<I: Drop, R: Wait + Clock + Copy + Drop> Future for Exchange<I, R> {
     type Output = Result<Response<ResponseBody<R>>, hyper::Error>;
 
     fn poll(
@@ -190,7 +218,7 @@ impl<I: Drop, R: Wait + Copy + Drop> Future for Exchange<I, R> {
     }
 }
 
-impl<I: Drop, R: Wait + Copy + Drop> Exchange<I, R> {
+impl<I: Drop, R: Wait + Clock + Copy + Drop> Exchange<I, R> {
     /// Begins the call of a request that was read; its answer, if there is one already.
     fn begin(&mut self) -> Option<Answer<R>> {
         let Stage::Reading(reading) = mem::replace(&mut self.stage, Stage::Over) else {

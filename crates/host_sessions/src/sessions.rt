@@ -3,6 +3,7 @@ use crate::config::Config;
 use crate::connections::{LOOPS, accept_all, open_loops};
 use crate::exchange::Gateway;
 use crate::fault::ServeFault;
+use crate::peers::{Patience, give_up};
 use crate::threads::run_threads;
 use futures::executor::block_on;
 use hyper::server::conn::http1;
@@ -25,6 +26,7 @@ pub struct Listening {
     runtimes: Vec<LocalRuntime>,
     listener: TcpListener,
     connections: Option<u32>,
+    patience: Patience,
 }
 
 /// Why nothing listens.
@@ -77,11 +79,12 @@ impl Sessions {
             Ok(runtimes) => runtimes,
             Err(error) => return Err(ListenFault::of(&error)),
         };
-        match bind(rt, address) {
+        match bind(rt, address, config.patience) {
             Ok(listener) => Ok(Listening {
                 runtimes,
                 listener,
                 connections: config.connections,
+                patience: config.patience,
             }),
             Err(error) => Err(ListenFault::of(&error)),
         }
@@ -114,11 +117,12 @@ impl Sessions {
             runtimes,
             listener,
             connections,
+            patience,
         } = listening;
-        let Ok((senders, loops)) = open_loops(rt.alloc(), runtimes) else {
+        let Ok((acceptor, loops)) = open_loops(rt.alloc(), runtimes, patience) else {
             return Err(ServeFault::Memory);
         };
-        let bring = move |_jobs| accept_all(&rt, &listener, senders.as_slice(), connections);
+        let bring = move |_jobs| accept_all(&rt, &listener, &acceptor, connections);
         run_threads(rt, registry, seats, gate, loops, bring)
     }
 
@@ -149,10 +153,11 @@ impl Sessions {
         run_threads(rt, registry, seats, gate, Vec::new(rt.alloc()), bring)
     }
 
-    /// Serves one connection over any stream, by the jobs that `serve` uses.
+    /// Serves one connection over any stream, by the jobs that `serve` uses. It waits for its peer however long that
+    /// takes.
     pub fn serve_one<R, I>(rt: R, jobs: &Jobs<R>, io: I) -> End
     where
-        R: Wait + RandomSource + AllocGlobal + Copy + Drop,
+        R: Wait + Clock + RandomSource + AllocGlobal + Copy + Drop,
         I: AsyncRead + AsyncWrite + Drop,
     {
         let alloc = rt.alloc();
@@ -161,7 +166,14 @@ impl Sessions {
         };
         let http = http1::Builder::new(alloc, keys);
         let jobs = jobs.share();
-        let connection = http.serve_connection(io, Gateway { rt, alloc, jobs });
+        let gateway = Gateway {
+            rt,
+            alloc,
+            jobs,
+            timers: None,
+            body_patience: Patience::DEFAULT.for_body(),
+        };
+        let connection = http.serve_connection(io, gateway);
         match block_on(&rt, connection) {
             Ok(Ok(())) => End::Finished,
             _ => End::Fault,
@@ -181,9 +193,11 @@ where
     Ok(runtimes)
 }
 
-/// A socket that waits in `accept`, with the longest queue of connections that the system allows.
-fn bind<R: Net>(rt: &R, address: SocketAddr) -> io::Result<TcpListener> {
+/// A socket that waits in `accept`, with the longest queue of connections that the system allows, whose peers the
+/// system gives up.
+fn bind<R: Net>(rt: &R, address: SocketAddr, patience: Patience) -> io::Result<TcpListener> {
     let listener = TcpListener::from(mio::net::TcpListener::bind(rt, address)?);
     listener.set_nonblocking(false)?;
+    give_up(&listener, patience)?;
     Ok(listener)
 }
