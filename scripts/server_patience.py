@@ -118,5 +118,6 @@ def a_pause_ends_no_lease(program):
         client.expect("two", "lease/keepalive", '{"ID":"1"}', kept_alive(1, 5, 1))
 
 
-TESTS = [a_head_that_stops_coming_is_given_up, a_body_that_stops_coming_is_given_up, a_body_that_comes_slowly_is_read, an_answer_that_nobody_takes_is_given_up,
-         watches_that_nobody_reads_are_given_up, a_silent_client_is_asked_for, a_pause_ends_no_lease]
+TESTS = [a_head_that_stops_coming_is_given_up, a_body_that_stops_coming_is_given_up, a_body_that_comes_slowly_is_read,
+         an_answer_that_nobody_takes_is_given_up, watches_that_nobody_reads_are_given_up, a_silent_client_is_asked_for,
+         a_pause_ends_no_lease]
