@@ -84,12 +84,17 @@ def one_large_answer(crowd, count):
     return f"{crowd.sent():,} bytes sent, {crowd.got():,} read"
 
 
-def unread_answers(crowd, count):
+def leave_unread(crowd, message, count):
+    """A message over each of so many connections, of whose answers nothing is read; gives how many were sent."""
     for _ in range(count):
-        crowd.enter(range_message(crowd.place, ALL), NARROW)
+        crowd.enter(message, NARROW)
     crowd.send_all()
     crowd.stay()
-    return f"{crowd.reached()} sent a range"
+    return crowd.reached()
+
+
+def unread_answers(crowd, count):
+    return f"{leave_unread(crowd, range_message(crowd.place, ALL), count)} sent a range"
 
 
 def endless_bodies(crowd, count):
@@ -106,11 +111,7 @@ def endless_bodies(crowd, count):
 
 
 def unread_watches(crowd, count):
-    for _ in range(count):
-        crowd.enter(watch_message(crowd.place, ALL), NARROW)
-    crowd.send_all()
-    crowd.stay()
-    return f"{crowd.reached()} watches were asked for"
+    return f"{leave_unread(crowd, watch_message(crowd.place, ALL), count)} watches were asked for"
 
 
 def costly_bodies(crowd, count):
