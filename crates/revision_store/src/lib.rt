@@ -24,6 +24,7 @@ mod space;
 mod store;
 mod taking;
 mod walking;
+mod weighing;
 
 pub use comparing::holds;
 pub use keys::lies_in;
@@ -33,3 +34,4 @@ pub use planning::PlannedOp;
 pub use records::Reader;
 pub use store::Store;
 pub use walking::Changes;
+pub use weighing::weight_for;

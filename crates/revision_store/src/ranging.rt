@@ -82,7 +82,7 @@ impl Store {
     }
 
     /// The revision that is read: for one of 0 or below, the newest.
-    fn revision_read(&self, revision: i64) -> u64
+    pub(crate) fn revision_read(&self, revision: i64) -> u64
         ensures { result ≡ revision_read (reads self.now) revision }
     {
         match u64::try_from(revision) {

@@ -14,6 +14,7 @@ mod operations;
 mod planned;
 mod reserving;
 mod watching;
+mod weighing;
 
 pub use machine::{Machine, segments_for};
 pub use planned::Planned;

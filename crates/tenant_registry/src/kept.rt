@@ -212,6 +212,11 @@ impl Kept {
         self.machine.hint()
     }
 
+    /// How many bytes a step may take until its answer is sent, as far as is enough to know.
+    pub(crate) fn weight(&self, step: &Step, enough: u64) -> Mem<u64> {
+        self.machine.weight(self.alloc, step, enough)
+    }
+
     /// Gives the tenant another quota of so many cells, also one below what it uses, and reserves the segments
     /// that it takes with it: they come from the free ones, or go there. Nothing else of the tenant changes.
     /// Unless the audit is full, it keeps the quota. After a fault nothing changed but for rooms.

@@ -251,6 +251,28 @@ impl Registry {
         }
     }
 
+    /// How many bytes a step of a tenant may take until its answer is sent, read under its lock: a bound that need not
+    /// be more exact than to be no more than `enough`. It promises nothing beyond its refusals, which are those of
+    /// `call`: a call that comes between may change it.
+    pub fn weight<R: Wait + Clock>(
+        &self,
+        rt: &R,
+        tenant: &[u8],
+        step: &Step,
+        enough: u64,
+    ) -> Result<u64, Refusal>
+        ensures there { OnOk result (has_tenant self.now tenant.now ≡ true) }
+        ensures refused { IfErr result (λ r. r ≡ unserved self.now tenant.now) }
+    {
+        match self.tenants.get(tenant) {
+            Some(held) => match held.kept.lock(rt).weight(step, enough) {
+                Ok(weight) => Ok(weight),
+                Err(_) => Err(Refusal::Memory),
+            },
+            None => Err(Refusal::NoTenant),
+        }
+    }
+
     /// Ends the registry. It hands out the audits if they are the seats' lists and nothing else. Else it tells
     /// what differs first, which takes no memory.
     pub fn close(self, seats: Vec<Seat>) -> Result<Closed, CloseFault>
