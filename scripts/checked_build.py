@@ -10,6 +10,7 @@ import contextlib
 import glob
 import os
 import shutil
+import signal
 import subprocess
 import tempfile
 import time
@@ -22,8 +23,10 @@ KEPT = os.path.join(TOP, "out", "checked")
 LASTING = b'{"listen":"127.0.0.1:0"}'
 # For how long rt try leaves a program that has not been copied yet.
 SECONDS = 60
-PAUSE = 0.5
+PAUSE = 0.2
 SHOWN = 60
+# Words of the check that rt try runs beside.
+CHECK_BESIDE = b"\0--start\0no function\0"
 
 
 class NotBuilt(Exception):
@@ -46,9 +49,20 @@ def run_below(folder):
     return None
 
 
+def end_check_beside(session):
+    """Ends the check that rt try runs in its session beside the build: it has a hint at most, which nobody sees, and it
+    takes memory and time from the build."""
+    for place in glob.glob("/proc/[0-9]*/cmdline"):
+        with contextlib.suppress(OSError), open(place, "rb") as file:
+            process = int(place.split("/")[2])
+            if CHECK_BESIDE in file.read() and os.getsid(process) == session:
+                os.kill(process, signal.SIGKILL)
+
+
 def copy_once_it_runs(trying, folder, copy):
     """Copies the program that rt try runs below a folder; gives whether there was one before rt ended."""
     while trying.poll() is None:
+        end_check_beside(trying.pid)
         program = run_below(folder)
         if program:
             shutil.copy(program, copy)

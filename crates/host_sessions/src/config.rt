@@ -1,15 +1,24 @@
 //! What the server is told at its start.
 use crate::connections::LOOPS;
 use crate::peers::{MAX_PATIENCE, Patience};
-use etcd_types::limits::{DEFAULT_SEGMENTS, MAX_CONFIG, MAX_WORKERS};
+use etcd_types::limits::{CELL_BYTES, DEFAULT_SEGMENTS, MAX_CONFIG, MAX_WORKERS};
 use gateway_json::read_unsigned;
 use serde_json::Value;
 use std::alloc::{AllocError, Global};
 use tenant_registry::{TenantConfig, check};
-use tenant_scheduler::BESIDE_WORKERS;
+use tenant_scheduler::{BESIDE_WORKERS, DEFAULT_BUDGET};
 
 /// How many workers there are where nothing is said.
 const DEFAULT_WORKERS: u64 = 4;
+
+/// The least bytes that a budget may be told to have: twice those of the longest body.
+const MIN_BUDGET: u64 = 4_194_304;
+
+/// The most bytes that a budget may be told to have: a tebibyte.
+const MAX_BUDGET: u64 = 1_099_511_627_776;
+
+/// How many times the bytes of its quota a tenant's budget has beside `DEFAULT_BUDGET`, where none is told.
+const QUOTAS_A_BUDGET: u64 = 4;
 
 /// Where to listen, with how many workers, and which tenants there are.
 #[derive(Debug, Drop)]
@@ -23,7 +32,20 @@ pub struct Config {
     /// How many connections are served before the end; without it there is none.
     pub connections: Option<u32>,
     pub patience: Patience,
+    /// How many connections may be open at once; without it as many as the system allows descriptors, less 64.
+    pub open_connections: Option<usize>,
     pub tenants: Vec<TenantConfig>,
+    /// What the clients of each tenant may take, in the order of the tenants.
+    pub allowances: Vec<Allowance>,
+}
+
+/// What the clients of a tenant may take.
+#[derive(Clone, Copy, Debug)]
+pub struct Allowance {
+    /// How many bytes of bodies and answers may be under way.
+    pub budget: usize,
+    /// How many connections may be open; without it a quarter of those of all.
+    pub open_connections: Option<usize>,
 }
 
 impl Config {
@@ -64,7 +86,9 @@ fn config_of(alloc: Global, object: &Value) -> Result<Config, ConfigFault> {
     let workers = workers_of(object)?;
     let connections = connections_of(object)?;
     let patience = patience_of(object)?;
-    let tenants = tenants_of(alloc, object)?;
+    let open_connections = open_connections_of(object)?;
+    let mut allowances = Vec::new(alloc);
+    let tenants = tenants_of(alloc, object, &mut allowances)?;
     if check(segments, tenants.as_slice()).is_err() {
         return Err(ConfigFault::Unreadable);
     }
@@ -74,7 +98,9 @@ fn config_of(alloc: Global, object: &Value) -> Result<Config, ConfigFault> {
         workers,
         connections,
         patience,
+        open_connections,
         tenants,
+        allowances,
     })
 }
 
@@ -149,13 +175,20 @@ fn seconds_of(object: &Value, name: &str, absent: u32) -> Result<u32, ConfigFaul
     }
 }
 
-fn tenants_of(alloc: Global, object: &Value) -> Result<Vec<TenantConfig>, ConfigFault> {
+/// The tenants, with what the clients of each may take.
+fn tenants_of(
+    alloc: Global,
+    object: &Value,
+    allowances: &mut Vec<Allowance>,
+) -> Result<Vec<TenantConfig>, ConfigFault> {
     let mut tenants = Vec::new(alloc);
     match member(object, "tenants") {
         None => {}
         Some(Value::Array(values)) => {
             for value in values.as_slice() {
-                if tenants.push(tenant_of(alloc, value)?).is_err() {
+                let tenant = tenant_of(alloc, value)?;
+                let allowance = allowance_of(value, tenant.quota)?;
+                if allowances.push(allowance).is_err() || tenants.push(tenant).is_err() {
                     return Err(ConfigFault::Memory);
                 }
             }
@@ -176,4 +209,34 @@ fn tenant_of(alloc: Global, object: &Value) -> Result<TenantConfig, ConfigFault>
         first: number(object, "first", 1)?,
         audit,
     })
+}
+
+fn allowance_of(object: &Value, quota: u64) -> Result<Allowance, ConfigFault> {
+    Ok(Allowance {
+        budget: budget_of(object, quota)?,
+        open_connections: open_connections_of(object)?,
+    })
+}
+
+/// A number of connections, from one to those that numbers of 32 bits have.
+fn open_connections_of(object: &Value) -> Result<Option<usize>, ConfigFault> {
+    match member(object, "open_connections") {
+        None => Ok(None),
+        member => match read_unsigned(member).map(u32::try_from) {
+            Ok(Ok(connections)) if connections >= 1 => Ok(Some(connections as usize)),
+            _ => Err(ConfigFault::Unreadable),
+        },
+    }
+}
+
+fn budget_of(object: &Value, quota: u64) -> Result<usize, ConfigFault> {
+    let of_quota = quota.saturating_mul(CELL_BYTES * QUOTAS_A_BUDGET);
+    let absent = of_quota
+        .saturating_add(DEFAULT_BUDGET as u64)
+        .min(MAX_BUDGET);
+    let budget = number(object, "budget", absent)?;
+    if budget < MIN_BUDGET || budget > MAX_BUDGET {
+        return Err(ConfigFault::Unreadable);
+    }
+    Ok(budget as usize)
 }

@@ -5,6 +5,7 @@ use crate::exchange::Gateway;
 use crate::fault::ServeFault;
 use crate::peers::Patience;
 use crate::threads::Ended;
+use connection_table::{ConnectionTable, OpenConnection};
 use crossbeam_channel::{Receiver, Sender, bounded};
 use etcd_types::Mem;
 use futures::executor::TaskSet;
@@ -14,9 +15,10 @@ use hyper::rt::TokioTimer;
 use hyper::server::conn::http1;
 use std::alloc::{AllocGlobal, Global};
 use std::hash::RandomState;
+use std::os::fd::AsRawFd;
 use std::random::RandomSource;
 use std::sync::Wait;
-use std::time::{Clock, Duration};
+use std::time::{Clock, Duration, Instant};
 use std::{io, net, thread};
 use tenant_registry::Gate;
 use tenant_scheduler::{InlineCall, InlineCalls, Jobs, ServingThread};
@@ -29,21 +31,33 @@ use tokio::{reactor, time};
 /// How many event loops read and write sockets.
 pub(crate) const LOOPS: usize = 4;
 
+/// How many bytes wait at a connection to be sent, before no more of an answer is handed to it.
+const MAX_UNSENT: usize = 65_536;
+
 /// How many milliseconds no connection is accepted after one could not be, for want of a file descriptor most
 /// likely.
 const PAUSE: u64 = 50;
+
+/// A connection that was accepted. It leaves the table before its socket is closed.
+#[derive(Drop)]
+pub(crate) struct Accepted {
+    open: OpenConnection,
+    socket: net::TcpStream,
+}
 
 /// An event loop over sockets, and where its connections come in.
 #[derive(Drop)]
 pub(crate) struct SocketLoop {
     runtime: LocalRuntime,
-    sockets: UnboundedReceiver<net::TcpStream>,
+    sockets: UnboundedReceiver<Accepted>,
     patience: Patience,
+    /// When the table of connections began.
+    start: Instant,
     ready: Sender<()>,
 }
 
 /// Where a loop's connections go in.
-pub(crate) type SocketSender = UnboundedSender<net::TcpStream>;
+pub(crate) type SocketSender = UnboundedSender<Accepted>;
 
 /// Where connections are dealt out.
 #[derive(Drop)]
@@ -58,6 +72,7 @@ pub(crate) fn open_loops(
     alloc: Global,
     runtimes: Vec<LocalRuntime>,
     patience: Patience,
+    start: Instant,
 ) -> Mem<(Acceptor, Vec<SocketLoop>)> {
     let mut senders = Vec::new(alloc);
     let (is_ready, ready) = bounded(alloc, LOOPS)?;
@@ -69,18 +84,20 @@ pub(crate) fn open_loops(
             runtime,
             sockets,
             patience,
+            start,
             ready: is_ready.clone()?,
         })?;
     }
     Ok((Acceptor { senders, ready }, loops))
 }
 
-/// Accepts connections until as many as were told have come, and gives them to the loops in turn. The first is accepted
-/// once each loop is ready, so that no connection takes a file descriptor that a loop still needs.
-pub(crate) fn accept_all<R: Wait + Clock>(
+/// Accepts connections until as many as were told have come, and gives those that the table admits to the loops in turn.
+/// The first is accepted once each loop is ready, so that no connection takes a file descriptor that a loop still needs.
+pub(crate) fn accept_all<R: Wait + Clock + Drop>(
     rt: &R,
     listener: &net::TcpListener,
-    acceptor: &Acceptor,
+    acceptor: Acceptor,
+    mut table: ConnectionTable<R>,
     connections: Option<u32>,
 ) -> Result<(), ServeFault> {
     let senders = acceptor.senders.as_slice();
@@ -99,11 +116,14 @@ pub(crate) fn accept_all<R: Wait + Clock>(
             continue;
         };
         left = left.map(|left| left.saturating_sub(1));
+        let Some(open) = table.admit(socket.as_raw_fd()) else {
+            continue;
+        };
         let Some(sender) = senders.get(at) else {
             return Err(ServeFault::Memory);
         };
         // A connection for which there is no memory is closed. A loop ends early only where the system fails it.
-        if let Err(SendError::Closed(_)) = sender.send(socket) {
+        if let Err(SendError::Closed(_)) = sender.send(Accepted { open, socket }) {
             return Err(ServeFault::Socket);
         }
         at = at.saturating_add(1);
@@ -117,6 +137,7 @@ pub(crate) fn accept_all<R: Wait + Clock>(
 /// A connection as a task: its end, whatever it is, is the end of the task and of nothing else.
 #[derive(Drop)]
 struct Served<F> {
+    open: Option<OpenConnection>,
     connection: Option<F>,
 }
 
@@ -128,10 +149,18 @@ impl<F: Future<Output = hyper::Result<()>>> Future for Served<F> {
     fn poll(&mut self, cx: &mut Context<'_>) -> Poll<()> {
         if let Some(connection) = &mut self.connection {
             let _ = ready!(connection.poll(cx));
+            self.open = None;
             self.connection = None;
         }
         Poll::Ready(())
     }
+}
+
+/// A connection of a loop.
+#[derive(Drop)]
+struct Arrived {
+    open: OpenConnection,
+    stream: TcpStream,
 }
 
 /// Takes a loop's connections in, each as a task of a set, and serves their inline calls. Ready once no more come.
@@ -141,7 +170,7 @@ impl<F: Future<Output = hyper::Result<()>>> Future for Served<F> {
 #[derive(Drop)]
 struct Connections<'a, 'x, R: Wait + Drop, G, F, T: Future> {
     inline_calls: &'a mut InlineCalls<'x, R, G>,
-    sockets: UnboundedReceiver<net::TcpStream>,
+    sockets: UnboundedReceiver<Accepted>,
     reactor: reactor::Handle,
     tasks: &'a TaskSet<T>,
     /// None once no more connections come.
@@ -152,21 +181,21 @@ impl<R, G, F, T> Future for Connections<'_, '_, R, G, F, T>
 where
     R: Wait + Clock + Copy + Drop,
     G: Gate,
-    F: Fn(TcpStream) -> T + Drop,
+    F: Fn(Arrived) -> T + Drop,
     T: Future<Output = ()>,
 {
     type Output = ();
 
     ghost can_poll = { λ a. IfSome a.make (λ make. F.IsAlwaysCallable make
-        × ((socket : _) (task : _) → F.post make socket task → T.can_poll task)) };
+        × ((arrived : _) (task : _) → F.post make arrived task → T.can_poll task)) };
 
     fn poll(&mut self, cx: &mut Context<'_>) -> Poll<()> {
         if let Some(make) = &self.make {
             match self.sockets.poll_recv(cx) {
-                Poll::Ready(Some(socket)) => {
-                    if let Ok(socket) = TcpStream::from_std(socket, &self.reactor) {
-                        let _ = socket.set_nodelay(true);
-                        drop(self.tasks.spawn(make(socket)));
+                Poll::Ready(Some(Accepted { open, socket })) => {
+                    if let Ok(stream) = TcpStream::from_std(socket, &self.reactor) {
+                        let _ = stream.set_nodelay(true);
+                        drop(self.tasks.spawn(make(Arrived { open, stream })));
                     }
                     return cx.yield_now();
                 }
@@ -201,6 +230,7 @@ impl<R: Wait + Clock + RandomSource + Copy + Drop> Tools<R> {
         let timers = runtime.handle().time();
         let mut http = http1::Builder::new(alloc, keys).timer(TokioTimer::new(rt, timers.clone()?));
         http.header_read_timeout(Some(patience.for_head()));
+        http.max_buf_size(MAX_UNSENT);
         Ok(Tools {
             http,
             timers: timers.clone()?,
@@ -227,6 +257,7 @@ where
         mut runtime,
         sockets,
         patience,
+        start,
         ready,
     } = own;
     let Ok(tools) = Tools::new(rt, alloc, &runtime, &jobs, patience) else {
@@ -240,16 +271,19 @@ where
         inline_calls,
     } = tools;
     let mut inline_calls = InlineCalls::new(alloc, thread, inline_calls);
-    let make = move |socket| {
+    let make = move |arrived| {
+        let Arrived { open, stream } = arrived;
         let gateway = Gateway {
             rt,
             alloc,
             jobs: jobs.share(),
+            requests: open.requests(rt, start),
             timers: timers.clone().ok(),
             body_patience: patience.for_body(),
         };
         Served {
-            connection: Some(http.serve_connection(socket, gateway)),
+            open: Some(open),
+            connection: Some(http.serve_connection(stream, gateway)),
         }
     };
     let arriving = Arriving {
@@ -265,7 +299,7 @@ where
 /// What a loop's connections come by.
 #[derive(Drop)]
 struct Arriving {
-    sockets: UnboundedReceiver<net::TcpStream>,
+    sockets: UnboundedReceiver<Accepted>,
     reactor: reactor::Handle,
     ready: Sender<()>,
 }
@@ -281,10 +315,10 @@ fn run_tasks<R, G, F, T>(
 where
     R: Wait + Clock + RandomSource + AllocGlobal + Copy + Drop,
     G: Gate,
-    F: Fn(TcpStream) -> T + Drop,
+    F: Fn(Arrived) -> T + Drop,
     T: Future<Output = ()>,
     requires callable { F.IsAlwaysCallable make }
-    requires pollable { (socket : _) (task : _) → F.post make socket task → T.can_poll task }
+    requires pollable { (arrived : _) (task : _) → F.post make arrived task → T.can_poll task }
 {
     let Arriving {
         sockets,

@@ -5,6 +5,7 @@ ghost use Rattle.futures.specs.Poll.{OnPending};
 use crate::response::{ResponseBody, respond};
 use crate::routing::route;
 use crate::stall::{BodyTimer, Stall};
+use connection_table::{Requests, UnderWay};
 use etcd_types::Refusal;
 use etcd_types::limits::MAX_BODY;
 use futures::task::{Context, Poll};
@@ -19,7 +20,7 @@ use std::mem;
 use std::rt::Clock;
 use std::sync::Wait;
 use std::time::Duration;
-use tenant_scheduler::{Answer, Begun, Jobs, PendingCall, Route};
+use tenant_scheduler::{Answer, Begun, BodyShare, Jobs, PendingCall, RequestBody, Route};
 use tokio::time;
 
 /// How many pieces of a body are read in one poll.
@@ -31,10 +32,12 @@ const MAX_PASSED: u32 = 4096;
 
 /// Begins an exchange for each request of a connection.
 #[derive(Drop)]
-pub(crate) struct Gateway<R: Wait + Drop> {
+pub(crate) struct Gateway<R: Wait + Clock + Drop> {
     pub(crate) rt: R,
     pub(crate) alloc: Global,
     pub(crate) jobs: Option<Jobs<R>>,
+    /// None where the connection is in no table.
+    pub(crate) requests: Option<Requests<R>>,
     /// None where a body is waited for however long it takes.
     pub(crate) timers: Option<time::Handle>,
     /// How long the next piece of a body is waited for.
@@ -43,10 +46,22 @@ pub(crate) struct Gateway<R: Wait + Drop> {
 
 /// The exchange of one request.
 #[derive(Drop)]
-pub(crate) struct Exchange<I, R: Wait + Drop> {
+pub(crate) struct Exchange<I, R: Wait + Clock + Drop> {
     rt: R,
     alloc: Global,
+    standing: Standing<R>,
     stage: Stage<I, R>,
+}
+
+/// How a request's connection stands to its tenant.
+#[derive(Drop)]
+pub(crate) enum Standing<R: Clock + Drop> {
+    /// It is in no table, or the request names no tenant.
+    Free,
+    /// It is one of the tenant's.
+    Owned(UnderWay<R>),
+    /// The tenant has as many as it may. The request is refused, and the connection ends with its answer.
+    OneTooMany,
 }
 
 #[derive(Drop)]
@@ -63,6 +78,9 @@ struct Reading<I, R: Wait + Drop> {
     route: Result<Route, Refusal>,
     body: Limited<Incoming<I>>,
     read: Vec<u8>,
+    /// The most bytes that it may come to have.
+    bound: usize,
+    share: BodyShare,
     stall: Stall<R>,
     /// Why the body is read on and thrown away.
     lost: Option<Refusal>,
@@ -81,27 +99,24 @@ impl<I: Drop, R: Wait + Clock + Copy + Drop> Service<Request<Incoming<I>>> for G
             Some(jobs) => jobs.share(),
             None => None,
         };
-        let route = match &jobs {
-            Some(jobs) => route(
-                jobs,
-                req.method().as_str().as_bytes(),
-                req.uri().path().as_bytes(),
-            ),
-            None => Err(Refusal::Memory),
-        };
-        let lost = if is_coded(req.headers()) {
-            Some(Refusal::NotOffered)
-        } else {
-            None
+        let (route, standing) = self.route(&jobs, &req);
+        let bound = bound_of(req.body());
+        let lost = refusal_of(req.headers(), bound);
+        let share = match (&jobs, &route, lost) {
+            (Some(jobs), Ok(route), None) => jobs.body_share(route.tenant, bound),
+            _ => BodyShare::None,
         };
         Exchange {
             rt: self.rt,
             alloc: self.alloc,
+            standing,
             stage: Stage::Reading(Reading {
                 jobs,
                 route,
                 body: Limited::new(req.into_body(), MAX_BODY),
                 read: Vec::new(self.alloc),
+                bound,
+                share,
                 stall: Stall::new(self.rt, self.body_timer()),
                 lost,
                 passed: 0,
@@ -110,7 +125,30 @@ impl<I: Drop, R: Wait + Clock + Copy + Drop> Service<Request<Incoming<I>>> for G
     }
 }
 
-impl<R: Wait + Drop> Gateway<R> {
+impl<R: Wait + Clock + Copy + Drop> Gateway<R> {
+    /// The route of a request, and how the connection stands to its tenant.
+    fn route<B>(
+        &self,
+        jobs: &Option<Jobs<R>>,
+        req: &Request<B>,
+    ) -> (Result<Route, Refusal>, Standing<R>) {
+        let Some(jobs) = jobs else {
+            return (Err(Refusal::Memory), Standing::Free);
+        };
+        let method = req.method().as_str().as_bytes();
+        let route = match route(jobs, method, req.uri().path().as_bytes()) {
+            Ok(route) => route,
+            Err(refusal) => return (Err(refusal), Standing::Free),
+        };
+        let Some(requests) = &self.requests else {
+            return (Ok(route), Standing::Free);
+        };
+        match requests.begin(route.tenant) {
+            Some(under_way) => (Ok(route), Standing::Owned(under_way)),
+            None => (Err(Refusal::Memory), Standing::OneTooMany),
+        }
+    }
+
     /// The timer of a body; none where there is no memory to share it.
     fn body_timer(&self) -> Option<BodyTimer> {
         let timers = self.timers.as_ref()?.clone().ok()?;
@@ -118,6 +156,25 @@ impl<R: Wait + Drop> Gateway<R> {
             timers,
             patience: self.body_patience,
         })
+    }
+}
+
+/// The most bytes that a body may come to have: those that were announced, or those of the longest one.
+fn bound_of<B: Body>(body: &B) -> usize {
+    match body.size_hint().upper() {
+        Some(length) => usize::try_from(length).unwrap_or(usize::MAX),
+        None => MAX_BODY,
+    }
+}
+
+/// Why a body is not kept, by its head.
+fn refusal_of(headers: &HeaderMap, bound: usize) -> Option<Refusal> {
+    if is_coded(headers) {
+        Some(Refusal::NotOffered)
+    } else if bound > MAX_BODY {
+        Some(Refusal::TooLarge)
+    } else {
+        None
     }
 }
 
@@ -136,6 +193,7 @@ impl<I: Drop, R: Wait + Clock + Copy + Drop> Reading<I, R> {
         ensures registered { OnPending result (IsArmed cx.new) }
         ensures kept { Keeps cx.old cx.new }
     {
+        ready!(self.poll_share(cx));
         for _ in 0..PIECES_A_POLL {
             let Poll::Ready(frame) = self.body.poll_frame(cx) else {
                 ready!(self.stall.poll_over(cx));
@@ -162,13 +220,46 @@ impl<I: Drop, R: Wait + Clock + Copy + Drop> Reading<I, R> {
         cx.yield_now()
     }
 
+    /// Ready once the body has its share of its tenant's budget, or was refused since it waited as long for it as for a
+    /// piece. Nothing is read before.
+    fn poll_share(&mut self, cx: &mut Context<'_>) -> Poll<()>
+        ensures registered { OnPending result (IsArmed cx.new) }
+        ensures kept { Keeps cx.old cx.new }
+    {
+        let BodyShare::Awaited(_) = &self.share else {
+            return Poll::Ready(());
+        };
+        let (share, held) = mem::replace(&mut self.share, BodyShare::None).poll_held(cx);
+        self.share = share;
+        match held {
+            Poll::Ready(true) => {
+                if self.read.reserve_exact(self.bound).is_err() {
+                    self.refuse(Refusal::Memory);
+                }
+            }
+            Poll::Ready(false) => self.refuse(Refusal::Memory),
+            Poll::Pending => {
+                ready!(self.stall.poll_over(cx));
+                self.refuse(Refusal::Memory);
+            }
+        }
+        self.stall.relent();
+        Poll::Ready(())
+    }
+
+    /// The body is read on and thrown away.
+    fn refuse(&mut self, refusal: Refusal) {
+        self.lost = Some(refusal);
+        self.share = BodyShare::None;
+    }
+
     /// Keeps a piece of the body of a request that is not refused yet.
     fn keep(&mut self, data: &[u8]) {
         if self.route.is_err() || self.lost.is_some() {
             return;
         }
         if self.read.extend_from_slice(data).is_err() {
-            self.lost = Some(Refusal::Memory);
+            self.refuse(Refusal::Memory);
         }
     }
 
@@ -179,12 +270,17 @@ impl<I: Drop, R: Wait + Clock + Copy + Drop> Reading<I, R> {
             route,
             body: _,
             read,
+            bound: _,
+            share,
             stall: _,
             lost,
             passed: _,
         } = self;
         match (route, lost, jobs) {
-            (Ok(route), None, Some(jobs)) => PendingCall::begin(rt, alloc, jobs, route, read),
+            (Ok(route), None, Some(jobs)) => {
+                let share = share.for_body(read.len());
+                PendingCall::begin(rt, alloc, jobs, route, RequestBody { bytes: read, share })
+            }
             (Err(refusal), _, _) | (Ok(_), Some(refusal), _) => {
                 Begun::Answered(Answer::refused(alloc, refusal))
             }
@@ -205,20 +301,28 @@ impl<I: Drop, R: Wait + Clock + Copy + Drop> Future for Exchange<I, R> {
                 return Poll::Ready(Err(e));
             }
             if let Some(answer) = self.begin() {
-                return Poll::Ready(respond(self.alloc, answer));
+                return Poll::Ready(self.respond(answer));
             }
         }
         let Stage::Pending(call) = &mut self.stage else {
             return Poll::Ready(Err(hyper::Error::from(AllocError)));
         };
         match ready!(call.poll_answer(cx)) {
-            Some(answer) => Poll::Ready(respond(self.alloc, answer)),
+            Some(answer) => Poll::Ready(self.respond(answer)),
             None => Poll::Ready(Err(hyper::Error::from(AllocError))),
         }
     }
 }
 
 impl<I: Drop, R: Wait + Clock + Copy + Drop> Exchange<I, R> {
+    fn respond(&mut self, answer: Answer<R>) -> Result<Response<ResponseBody<R>>, hyper::Error> {
+        respond(
+            self.alloc,
+            answer,
+            mem::replace(&mut self.standing, Standing::Free),
+        )
+    }
+
     /// Begins the call of a request that was read; its answer, if there is one already.
     fn begin(&mut self) -> Option<Answer<R>> {
         let Stage::Reading(reading) = mem::replace(&mut self.stage, Stage::Over) else {

@@ -1,4 +1,5 @@
 //! Why serving ends early.
+use std::alloc::AllocError;
 use std::io;
 
 /// Why nothing was served, or why serving ended before its time.
@@ -6,6 +7,12 @@ use std::io;
 pub enum ServeFault {
     Socket,
     Memory,
+}
+
+impl From<AllocError> for ServeFault {
+    fn from(_: AllocError) -> ServeFault {
+        ServeFault::Memory
+    }
 }
 
 impl ServeFault {

@@ -3,16 +3,17 @@
 //! How a request goes through:
 //!
 //! 1. `read_config` reads the configuration, `Sessions::listen` listens, and `Sessions::serve` runs the threads
-//!    (`sessions`, `threads`). The main thread accepts connections and deals them out to four event loops, each a
-//!    thread on which its connections stay (`connections`). How long a peer may keep its connection waiting is the
+//!    (`sessions`, `threads`). The main thread accepts connections, as many as there may be (`admission`), and deals them
+//!    out to four event loops, each a thread on which its connections stay (`connections`). How long a peer may keep its connection waiting is the
 //!    configuration's (`peers`).
 //! 2. Hyper reads a head, and `Gateway::call` begins an `Exchange` (`exchange`). `route` says which call it is, of
-//!    which tenant (`routing`). The body is read, whether the request is to be refused or not; one that stops coming
+//!    which tenant (`routing`), whose the connection is from then on. The body is read, whether the request is to be refused or not; one that stops coming
 //!    ends its connection (`stall`).
 //! 3. `PendingCall::begin` hands the call to the scheduler, and the exchange waits for its answer, which `respond`
 //!    makes a response (`response`). The body of a watch's response goes on with the texts of its watch.
 #![tactic(auto)]
 
+mod admission;
 mod config;
 mod connections;
 mod exchange;
@@ -24,7 +25,7 @@ mod sessions;
 mod stall;
 mod threads;
 
-pub use config::{Config, ConfigFault, read_config};
+pub use config::{Allowance, Config, ConfigFault, read_config};
 pub use fault::ServeFault;
 pub use peers::Patience;
 pub use sessions::{End, ListenFault, Listening, Sessions};

@@ -1,5 +1,6 @@
 //! Listens, and serves a registry.
-use crate::config::Config;
+use crate::admission::{budgets, connections, most_connections};
+use crate::config::{Allowance, Config};
 use crate::connections::{LOOPS, accept_all, open_loops};
 use crate::exchange::Gateway;
 use crate::fault::ServeFault;
@@ -14,19 +15,21 @@ use std::net::{Net, SocketAddr, TcpListener};
 use std::random::RandomSource;
 use std::sync::Wait;
 use std::thread::Threads;
-use std::time::Clock;
+use std::time::{Clock, Instant};
 use tenant_registry::{Gate, Registry, Seat};
 use tenant_scheduler::Jobs;
 use tokio::io::{AsyncRead, AsyncWrite};
 use tokio::runtime::LocalRuntime;
 
-/// A socket that listens, and how many connections it takes.
+/// A socket that listens, and what its connections may take.
 #[derive(Drop)]
 pub struct Listening {
     runtimes: Vec<LocalRuntime>,
     listener: TcpListener,
     connections: Option<u32>,
     patience: Patience,
+    open_connections: usize,
+    allowances: Vec<Allowance>,
 }
 
 /// Why nothing listens.
@@ -75,6 +78,9 @@ impl Sessions {
         let Ok(address) = config.listen.parse::<SocketAddr>() else {
             return Err(ListenFault::Address);
         };
+        let Ok(allowances) = Vec::from_slice(rt.alloc(), config.allowances.as_slice()) else {
+            return Err(ListenFault::Memory);
+        };
         let runtimes = match make_runtimes(rt) {
             Ok(runtimes) => runtimes,
             Err(error) => return Err(ListenFault::of(&error)),
@@ -85,6 +91,8 @@ impl Sessions {
                 listener,
                 connections: config.connections,
                 patience: config.patience,
+                open_connections: config.open_connections.unwrap_or(most_connections()),
+                allowances,
             }),
             Err(error) => Err(ListenFault::of(&error)),
         }
@@ -116,18 +124,23 @@ impl Sessions {
         let Listening {
             runtimes,
             listener,
-            connections,
+            connections: served,
             patience,
+            open_connections,
+            allowances,
         } = listening;
-        let Ok((acceptor, loops)) = open_loops(rt.alloc(), runtimes, patience) else {
-            return Err(ServeFault::Memory);
-        };
-        let bring = move |_jobs| accept_all(&rt, &listener, &acceptor, connections);
-        run_threads(rt, registry, seats, gate, loops, bring)
+        let alloc = rt.alloc();
+        let start = Instant::now(&rt).map_err(|error| ServeFault::of(&error))?;
+        let budgets = budgets(alloc, allowances.as_slice())?;
+        let table = connections(rt, alloc, start, open_connections, allowances.as_slice())?;
+        let (acceptor, loops) = open_loops(alloc, runtimes, patience, start)?;
+        let bring = move |_jobs| accept_all(&rt, &listener, acceptor, table, served);
+        run_threads(rt, registry, seats, gate, budgets.as_slice(), loops, bring)
     }
 
     /// Serves what a function brings, over streams of any kind by `serve_one`, until it returns; all connections
     /// have to have ended by then. The seats are as for `serve`, but for those of the loops, of which there is none.
+    /// Each tenant has the budget that it has where nothing is told.
     pub fn serve_with<'x, R, G, B>(
         rt: R,
         registry: &'x Registry,
@@ -150,7 +163,7 @@ impl Sessions {
         B: FnOnce(Jobs<R>) -> Result<(), ServeFault> + Drop,
         requires { B.IsAlwaysCallable bring }
     {
-        run_threads(rt, registry, seats, gate, Vec::new(rt.alloc()), bring)
+        run_threads(rt, registry, seats, gate, &[], Vec::new(rt.alloc()), bring)
     }
 
     /// Serves one connection over any stream, by the jobs that `serve` uses. It waits for its peer however long that
@@ -170,6 +183,7 @@ impl Sessions {
             rt,
             alloc,
             jobs,
+            requests: None,
             timers: None,
             body_patience: Patience::DEFAULT.for_body(),
         };

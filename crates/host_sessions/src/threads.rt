@@ -17,6 +17,7 @@ pub(crate) fn run_threads<'x, R, G, B>(
     registry: &'x Registry,
     seats: Vec<Seat>,
     gate: &'x G,
+    budgets: &[usize],
     loops: Vec<SocketLoop>,
     bring: B,
 ) -> Result<Vec<Seat>, ServeFault>
@@ -28,8 +29,9 @@ where
 {
     let alloc = rt.alloc();
     let roles = seats.len();
+    let workers = roles.saturating_sub(BESIDE_WORKERS + loops.len());
     let mut loops = loops;
-    let Ok((jobs, shared)) = open(alloc, registry, roles) else {
+    let Ok((jobs, shared)) = open(alloc, registry, budgets, roles, workers) else {
         return Err(ServeFault::Memory);
     };
     thread::scope(thread::scope_env(), &rt, |scope| {

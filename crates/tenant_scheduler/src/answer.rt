@@ -1,4 +1,5 @@
 //! What a call is answered.
+use crate::budget::MadeText;
 use crate::watch_texts::WatchTexts;
 use etcd_types::{Refusal, Reply};
 use gateway_text::{memory_text, write_reply};
@@ -16,7 +17,7 @@ pub struct Answer<R: Wait + Drop> {
 #[derive(Drop)]
 pub enum Text {
     /// It was made for this answer.
-    Made(Vec<u8>),
+    Made(MadeText),
     /// `memory_text`, which takes no memory.
     OutOfMemory,
 }
@@ -25,7 +26,7 @@ impl Text {
     /// How many bytes it has.
     pub fn len(&self) -> usize {
         match self {
-            Text::Made(text) => text.len(),
+            Text::Made(text) => text.bytes.len(),
             Text::OutOfMemory => memory_text().len(),
         }
     }
@@ -44,7 +45,7 @@ pub enum AnswerBody<R: Wait + Drop> {
 
 impl<R: Wait + Drop> Answer<R> {
     /// A status and a text of its own.
-    pub(crate) fn text(status: u16, text: Vec<u8>) -> Answer<R> {
+    pub(crate) fn text(status: u16, text: MadeText) -> Answer<R> {
         Answer {
             status,
             body: AnswerBody::Text(Text::Made(text)),
@@ -54,7 +55,7 @@ impl<R: Wait + Drop> Answer<R> {
     /// The answer of a refusal, or out of memory where there is none for its text.
     pub fn refused(alloc: Global, refusal: Refusal) -> Answer<R> {
         match write_reply(alloc, &Reply::Refused(refusal)) {
-            Ok((status, text)) => Answer::text(status, text),
+            Ok((status, text)) => Answer::text(status, MadeText::short(text)),
             Err(_) => Answer::no_memory(),
         }
     }

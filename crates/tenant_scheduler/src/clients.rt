@@ -1,5 +1,6 @@
 //! What the clients of a tenant have under way: jobs that wait, and open watches.
 use crate::answer::Answer;
+use crate::budget::{Budget, Share};
 use crate::clock::Running;
 use crate::scheduler::{Scheduler, Work};
 use crate::watch_texts::TextSender;
@@ -14,7 +15,14 @@ pub(crate) enum Ask {
     /// The step that was read from its body.
     Step(Step),
     /// The body, which is too long to be read by an event loop.
-    Body(Vec<u8>),
+    Body(RequestBody),
+}
+
+/// The body of a request, with its share of its tenant's budget if it is long.
+#[derive(Drop)]
+pub struct RequestBody {
+    pub bytes: Vec<u8>,
+    pub share: Option<Share>,
 }
 
 impl Ask {
@@ -22,7 +30,7 @@ impl Ask {
     pub(crate) fn len(&self) -> usize {
         match self {
             Ask::Step(_) => 0,
-            Ask::Body(body) => body.len(),
+            Ask::Body(body) => body.bytes.len(),
         }
     }
 }
@@ -46,11 +54,14 @@ pub(crate) struct OpenWatch {
 #[derive(Drop)]
 pub(crate) struct Clients<R: Wait + Drop> {
     pub(crate) name: Vec<u8>,
+    pub(crate) budget: Budget,
     pub(crate) jobs: mpsc::Receiver<Job<R>>,
     pub(crate) watches: Vec<OpenWatch>,
     /// At which place of the watches the pump goes on.
     pub(crate) next_take: usize,
     pub(crate) running: Running,
+    /// Its last turn with a worker was long.
+    pub(crate) is_slow: bool,
     /// How many of its brief calls the event loops leave to the workers, since an answer was long.
     pub(crate) left_to_workers: u32,
 }

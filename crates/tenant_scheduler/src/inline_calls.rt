@@ -130,7 +130,7 @@ fn answer<R: Wait + Clock + Drop, G: Gate>(
         clients.left_to_workers -= 1;
         return InlineOutcome::Busy(step);
     }
-    let answer = caller.answer(alloc, clients.name.as_slice(), step);
+    let answer = caller.answer(alloc, clients, step);
     if answer.len() > SHORT_ANSWER {
         clients.left_to_workers = CALLS_LEFT;
     }

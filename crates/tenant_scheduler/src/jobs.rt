@@ -1,6 +1,7 @@
 //! Where calls go in: to the event loop that has read them, or into their tenant's queue.
 ghost use Rattle.tokio.specs.Channels.{CanReserve};
 
+use crate::budget::{BodyShare, Budget, SHORT};
 use crate::clients::Job;
 use crate::inline_calls::InlineCall;
 use crate::scheduler::{Scheduler, Work};
@@ -51,10 +52,17 @@ pub(crate) struct HeldBack<R: Wait + Drop> {
     pub(crate) ghost may_wait: { CanReserve room },
 }
 
-/// Each tenant's queue by its name, in the order of the tenants' numbers, and the scheduler of their turns.
+/// Where a tenant's calls go in.
+#[derive(Drop)]
+pub(crate) struct Entrance<R: Wait + Drop> {
+    pub(crate) queue: mpsc::Sender<Job<R>>,
+    pub(crate) budget: Budget,
+}
+
+/// Each tenant's entrance by its name, in the order of the tenants' numbers, and the scheduler of their turns.
 #[derive(Drop)]
 pub(crate) struct Directory<R: Wait + Drop> {
-    pub(crate) queues: IndexMap<Vec<u8>, mpsc::Sender<Job<R>>>,
+    pub(crate) entrances: IndexMap<Vec<u8>, Entrance<R>>,
     pub(crate) scheduler: Arc<Scheduler>,
 }
 
@@ -69,20 +77,39 @@ pub struct Jobs<R: Wait + Drop> {
 impl<R: Wait + Drop> Jobs<R> {
     /// The number of the tenant of that name.
     pub fn tenant(&self, name: &[u8]) -> Option<usize> {
-        self.directory.queues.get_index_of(name)
+        self.directory.entrances.get_index_of(name)
+    }
+
+    /// How many tenants there are.
+    pub fn tenants(&self) -> usize {
+        self.directory.entrances.len()
+    }
+
+    /// The share of a tenant's budget for a body of so many bytes at the most.
+    pub fn body_share(&self, tenant: usize, bytes: usize) -> BodyShare {
+        let Some((_, entrance)) = self.directory.entrances.get_index(tenant) else {
+            return BodyShare::None;
+        };
+        if bytes <= SHORT {
+            return BodyShare::None;
+        }
+        match entrance.budget.promise(bytes) {
+            Some(awaited) => BodyShare::Awaited(awaited),
+            None => BodyShare::None,
+        }
     }
 
     /// Leaves a job in a tenant's queue, if there is room, and has a worker serve it.
     pub(crate) fn offer(&self, rt: &R, tenant: usize, job: Job<R>) -> Offered<R> {
-        let Some((_, queue)) = self.directory.queues.get_index(tenant) else {
+        let Some((_, entrance)) = self.directory.entrances.get_index(tenant) else {
             return Offered::Refused;
         };
-        match queue.try_send(job) {
+        match entrance.queue.try_send(job) {
             Ok(()) => {
                 self.schedule(rt, tenant);
                 Offered::Queued
             }
-            Err(TrySendError::Full(job)) => Offered::held_back(queue, job),
+            Err(TrySendError::Full(job)) => Offered::held_back(&entrance.queue, job),
             Err(_) => Offered::Refused,
         }
     }

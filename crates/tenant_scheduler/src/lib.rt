@@ -13,10 +13,14 @@
 //!    pump takes the next text when the client has read the last one (`pump`). The catch-up worker moves watches on
 //!    that are behind (`catch_up`), and the clock ticks each tenant once a second (`clock`).
 //!
+//! Long bodies and texts take shares of their tenant's budget (`budget`), so that what one tenant's clients have under
+//! way is bounded, and no other tenant pays for it.
+//!
 //! A thread is a seat's (`serving`), and all of them work over what `open` makes (`shared`, `clients`).
 #![tactic(auto)]
 
 mod answer;
+mod budget;
 mod caller;
 mod catch_up;
 mod clients;
@@ -28,11 +32,14 @@ mod pump;
 mod scheduler;
 mod serving;
 mod shared;
+mod slow_tenants;
 mod stopwatch;
 mod watch_texts;
 mod worker;
 
 pub use answer::{Answer, AnswerBody, Text};
+pub use budget::{BodyShare, DEFAULT_BUDGET, MadeText, Share};
+pub use clients::RequestBody;
 pub use inline_calls::{InlineCall, InlineCalls};
 pub use jobs::{Jobs, Route};
 pub use pending::{Begun, PendingCall};

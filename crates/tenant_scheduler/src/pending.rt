@@ -3,7 +3,8 @@ ghost use Rattle.futures.specs.Task.{IsArmed, Keeps};
 ghost use Rattle.futures.specs.Poll.{OnPending};
 
 use crate::answer::Answer;
-use crate::clients::{Ask, Job};
+use crate::budget::SHORT;
+use crate::clients::{Ask, Job, RequestBody};
 use crate::inline_calls::{InlineCall, InlineOutcome, is_brief};
 use crate::jobs::{HeldBack, Jobs, Offered, Route};
 use etcd_types::Step;
@@ -14,9 +15,6 @@ use gateway_json::read_step;
 use std::alloc::Global;
 use std::mem;
 use std::sync::Wait;
-
-/// The longest body that an event loop reads the step of.
-const SHORT_BODY: usize = 4096;
 
 /// A call that was begun, or its answer where nothing is left to wait for.
 #[derive(Drop)]
@@ -92,7 +90,7 @@ impl<R: Wait + Drop> Queueing<R> {
 impl<R: Wait + Copy + Drop> PendingCall<R> {
     /// Begins a call by the body that was read: hands it to the event loop, leaves it in its tenant's queue, or
     /// refuses it.
-    pub fn begin(rt: R, alloc: Global, jobs: Jobs<R>, route: Route, body: Vec<u8>) -> Begun<R> {
+    pub fn begin(rt: R, alloc: Global, jobs: Jobs<R>, route: Route, body: RequestBody) -> Begun<R> {
         let mut pending = PendingCall {
             rt,
             alloc,
@@ -106,11 +104,11 @@ impl<R: Wait + Copy + Drop> PendingCall<R> {
     }
 
     /// Reads the step of a short body, and hands the call on; its answer, if there is one already.
-    fn ask(&mut self, route: Route, body: Vec<u8>) -> Option<Answer<R>> {
-        if body.len() > SHORT_BODY {
+    fn ask(&mut self, route: Route, body: RequestBody) -> Option<Answer<R>> {
+        if body.bytes.len() > SHORT {
             return self.queue(route, Ask::Body(body));
         }
-        match read_step(self.alloc, route.call, body.as_slice()) {
+        match read_step(self.alloc, route.call, body.bytes.as_slice()) {
             Ok(step) if is_brief(&step) => self.hand(route, step),
             Ok(step) => self.queue(route, Ask::Step(step)),
             Err(refusal) => Some(Answer::refused(self.alloc, refusal)),

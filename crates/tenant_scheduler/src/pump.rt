@@ -1,4 +1,5 @@
 //! The pump: from a tenant's watches to their clients.
+use crate::budget::Budget;
 use crate::caller::Caller;
 use crate::clients::{Clients, OpenWatch};
 use crate::scheduler::{Scheduler, Turn, Work};
@@ -70,8 +71,9 @@ fn take_turn<R: Wait + Clock + Drop, G: Gate>(
     }
 }
 
-/// Takes once for each watch that a hint tells and whose client waits for a text, as far as a turn's time goes. The
-/// next turn goes on behind the last one that this turn came to. It is `false` where a take found no memory.
+/// Takes once for each watch that a hint tells and whose client waits for a text, as far as a turn's time and the
+/// tenant's budget go. The next turn goes on behind the last one that this turn came to. It is `false` where a take
+/// found no memory, or no budget.
 fn take_hinted<R: Wait + Clock + Drop, G: Gate>(
     rt: &R,
     caller: &mut Caller<'_, R, G>,
@@ -85,24 +87,36 @@ fn take_hinted<R: Wait + Clock + Drop, G: Gate>(
         if stopwatch.is_past(rt, MILLIS_A_TURN) {
             break;
         }
+        if clients.budget.left() == 0 {
+            all_answered = false;
+            break;
+        }
         if at >= clients.watches.len() {
             at = 0;
         }
-        all_answered &= take_at(caller, clients, &mut at, Some(hint));
+        all_answered &= take_at(caller, clients, &mut at, hint, Meant::Waiting);
     }
     clients.next_take = at;
     all_answered
 }
 
-/// Takes once for each watch that has room for a text. It is `false` where a take found no memory.
+/// Takes once for each watch that has room for a text, before a compaction. Where the tenant's budget is spent, those
+/// that have something to give are passed over, and the compaction may cancel them: their tenant's clients don't read.
+/// It is `false` where a take found no memory.
 pub(crate) fn take_all<R: Wait + Clock + Drop, G: Gate>(
     caller: &mut Caller<'_, R, G>,
     clients: &mut Clients<R>,
 ) -> bool {
+    if clients.watches.is_empty() {
+        return true;
+    }
+    let Some(hint) = caller.hint(clients.name.as_slice()) else {
+        return false;
+    };
     let mut all_answered = true;
     let mut at = 0;
     for _ in 0..clients.watches.len() {
-        all_answered &= take_at(caller, clients, &mut at, None);
+        all_answered &= take_at(caller, clients, &mut at, &hint, Meant::All);
     }
     all_answered
 }
@@ -113,13 +127,14 @@ fn take_at<R: Wait + Clock + Drop, G: Gate>(
     caller: &mut Caller<'_, R, G>,
     clients: &mut Clients<R>,
     at: &mut usize,
-    hint: Option<&Hint>,
+    hint: &Hint,
+    meant: Meant,
 ) -> bool {
     let Some(watch) = clients.watches.get(*at) else {
         return true;
     };
-    let taken = if is_meant(hint, watch) {
-        take(caller, clients.name.as_slice(), watch)
+    let taken = if meant.has(hint, &clients.budget, watch) {
+        take(caller, clients.name.as_slice(), &clients.budget, watch)
     } else {
         TakeOutcome::Open
     };
@@ -133,10 +148,22 @@ fn take_at<R: Wait + Clock + Drop, G: Gate>(
     !matches!(taken, TakeOutcome::NoMemory)
 }
 
-fn is_meant(hint: Option<&Hint>, watch: &OpenWatch) -> bool {
-    match hint {
-        Some(hint) => hint.has(watch.slot) && watch.texts.is_read(),
-        None => true,
+/// Which watches are taken for.
+#[derive(Clone, Copy)]
+enum Meant {
+    /// Those that may have something to give and whose clients have read what they were told.
+    Waiting,
+    /// All, as far as the budget goes; one that has nothing to give takes none.
+    All,
+}
+
+impl Meant {
+    fn has(self, hint: &Hint, budget: &Budget, watch: &OpenWatch) -> bool {
+        let may_give = hint.has(watch.slot);
+        match self {
+            Meant::Waiting => may_give && watch.texts.is_read(),
+            Meant::All => !may_give || budget.left() > 0,
+        }
     }
 }
 
@@ -153,6 +180,7 @@ enum TakeOutcome {
 fn take<R: Wait + Clock + Drop, G: Gate>(
     caller: &mut Caller<'_, R, G>,
     tenant: &[u8],
+    budget: &Budget,
     watch: &OpenWatch,
 ) -> TakeOutcome {
     let permit = match watch.texts.permit() {
@@ -171,7 +199,7 @@ fn take<R: Wait + Clock + Drop, G: Gate>(
     } else {
         TakeOutcome::Open
     };
-    permit.send(receipt.into_body());
+    permit.send(budget.charge(None, receipt.into_body()));
     taken
 }
 

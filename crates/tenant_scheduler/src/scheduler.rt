@@ -4,6 +4,7 @@
 //! and the tenant goes through the channels of the threads that do it: it is in one of them at most, once, so no
 //! channel is ever full. A turn ends by handing the tenant to the work that is due next, in a fixed round, behind all
 //! other tenants there. An event loop takes a turn only where nobody has it, and waits for none.
+use crate::slow_tenants::SlowTenants;
 use crossbeam_channel::{Receiver, Sender, bounded};
 use crossbeam_utils::CachePadded;
 use etcd_types::Mem;
@@ -89,6 +90,7 @@ pub(crate) struct Scheduler {
     pump: Sender<Turn>,
     catch_up: Sender<Turn>,
     workers: Sender<Turn>,
+    slow: SlowTenants,
 }
 
 /// Where the turns arrive.
@@ -101,8 +103,13 @@ pub(crate) struct Turns {
 }
 
 impl Scheduler {
-    /// A scheduler of so many tenants and threads, with nothing due.
-    pub(crate) fn new(alloc: Global, tenants: usize, threads: usize) -> Mem<(Scheduler, Turns)> {
+    /// A scheduler of so many tenants and threads, with nothing due. So many of the threads are workers.
+    pub(crate) fn new(
+        alloc: Global,
+        tenants: usize,
+        threads: usize,
+        workers: usize,
+    ) -> Mem<(Scheduler, Turns)> {
         let mut marks = Vec::with_capacity(alloc, tenants)?;
         for _ in 0..tenants {
             marks.push(CachePadded::new(AtomicU64::new(IDLE)))?;
@@ -112,19 +119,20 @@ impl Scheduler {
         let (clock, clock_turns) = bounded(alloc, room)?;
         let (pump, pump_turns) = bounded(alloc, room)?;
         let (catch_up, catch_up_turns) = bounded(alloc, room)?;
-        let (workers, worker_turns) = bounded(alloc, room)?;
+        let (jobs, job_turns) = bounded(alloc, room)?;
         let scheduler = Scheduler {
             marks,
             clock,
             pump,
             catch_up,
-            workers,
+            workers: jobs,
+            slow: SlowTenants::new(alloc, tenants, workers)?,
         };
         let turns = Turns {
             clock: clock_turns,
             pump: pump_turns,
             catch_up: catch_up_turns,
-            workers: worker_turns,
+            workers: job_turns,
         };
         Ok((scheduler, turns))
     }
@@ -189,6 +197,27 @@ impl Scheduler {
         let next = done.next_of(marks.load(Ordering::SeqCst))?;
         marks.fetch_and(!next.mark(), Ordering::SeqCst);
         Some(next)
+    }
+
+    /// A worker that has the turn on a slow tenant may serve it; else the tenant waits with its turn until it may.
+    pub(crate) fn begin_slow<R: Wait>(&self, rt: &R, tenant: usize) -> bool {
+        let may_begin = self.slow.begin(rt, tenant);
+        if !may_begin {
+            self.give_waiting(rt);
+        }
+        may_begin
+    }
+
+    /// A worker has served a slow tenant.
+    pub(crate) fn end_slow<R: Wait>(&self, rt: &R) {
+        self.slow.end();
+        self.give_waiting(rt);
+    }
+
+    fn give_waiting<R: Wait>(&self, rt: &R) {
+        if let Some(tenant) = self.slow.next(rt) {
+            self.give(rt, tenant, Work::Jobs);
+        }
     }
 
     fn give<R: Wait>(&self, rt: &R, tenant: usize, work: Work) {

@@ -1,8 +1,9 @@
 //! What the threads that serve tenants share.
+use crate::budget::{Budget, DEFAULT_BUDGET};
 use crate::caller::Caller;
 use crate::clients::Clients;
 use crate::clock::Running;
-use crate::jobs::{Directory, Jobs};
+use crate::jobs::{Directory, Entrance, Jobs};
 use crate::pump::drop_closed;
 use crate::scheduler::{Scheduler, Turns};
 use etcd_types::Mem;
@@ -44,30 +45,41 @@ impl<R: Wait + Clock + Copy + Drop> Shared<R> {
     }
 }
 
-/// Empty queues for each tenant of a registry: where calls go in, and what so many threads share that serve them.
+/// Empty queues for each tenant of a registry, and budgets of so many bytes in the order of the tenants, or by default:
+/// where calls go in, and what so many threads share that serve them, of which so many are workers.
 pub fn open<R: Wait + Drop>(
     alloc: Global,
     registry: &Registry,
+    budgets: &[usize],
     threads: usize,
+    workers: usize,
 ) -> Mem<(Jobs<R>, Arc<Shared<R>>)> {
-    let mut queues = IndexMap::new(alloc);
+    let mut entrances = IndexMap::new(alloc);
     let mut clients = Vec::new(alloc);
     for number in 0..MAX_TENANTS {
         let Some(name) = registry.name_at(number) else {
             break;
         };
         let (queue, jobs) = mpsc::channel(alloc, WAITING)?;
-        queues.insert(Vec::from_slice(alloc, name)?, queue)?;
+        let budget = budgets.get(number).copied().unwrap_or(DEFAULT_BUDGET);
+        let budget = Budget::new(alloc, budget)?;
+        let entrance = Entrance {
+            queue,
+            budget: budget.share()?,
+        };
+        entrances.insert(Vec::from_slice(alloc, name)?, entrance)?;
         clients.push(Mutex::new(Clients {
             name: Vec::from_slice(alloc, name)?,
+            budget,
             jobs,
             watches: Vec::new(alloc),
             next_take: 0,
             running: Running::new(),
+            is_slow: false,
             left_to_workers: 0,
         }))?;
     }
-    let (scheduler, turns) = Scheduler::new(alloc, clients.len(), threads)?;
+    let (scheduler, turns) = Scheduler::new(alloc, clients.len(), threads, workers)?;
     let scheduler = Arc::new(alloc, scheduler)?;
     let shared = Shared {
         scheduler: Arc::try_clone(&scheduler)?,
@@ -75,7 +87,11 @@ pub fn open<R: Wait + Drop>(
         clients,
     };
     let shared = Arc::new(alloc, shared)?;
-    let directory = Arc::new(alloc, Directory { queues, scheduler })?;
+    let directory = Directory {
+        entrances,
+        scheduler,
+    };
+    let directory = Arc::new(alloc, directory)?;
     Ok((
         Jobs {
             directory,

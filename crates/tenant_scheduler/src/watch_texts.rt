@@ -6,6 +6,7 @@
 ghost use Rattle.futures.specs.Task.{IsArmed, Keeps};
 ghost use Rattle.futures.specs.Poll.{OnPending};
 
+use crate::budget::MadeText;
 use crate::scheduler::{Scheduler, Work};
 use etcd_types::Mem;
 use futures::ready;
@@ -30,14 +31,14 @@ pub(crate) enum NoRoom {
 /// Where the texts of an open watch are put in.
 #[derive(Drop)]
 pub(crate) struct TextSender {
-    texts: mpsc::Sender<Vec<u8>>,
+    texts: mpsc::Sender<MadeText>,
     may_have_more: Arc<AtomicBool>,
 }
 
 /// The texts of an open watch, for its client. Letting go of them ends the watch.
 pub struct WatchTexts<R: Wait + Drop> {
     rt: R,
-    texts: mpsc::Receiver<Vec<u8>>,
+    texts: mpsc::Receiver<MadeText>,
     may_have_more: Arc<AtomicBool>,
     scheduler: Arc<Scheduler>,
     tenant: usize,
@@ -73,7 +74,7 @@ impl TextSender {
     }
 
     /// A right to put one text in.
-    pub(crate) fn permit(&self) -> Result<mpsc::Permit<'_, Vec<u8>>, NoRoom> {
+    pub(crate) fn permit(&self) -> Result<mpsc::Permit<'_, MadeText>, NoRoom> {
         match self.texts.try_reserve() {
             Ok(permit) => Ok(permit),
             Err(TrySendError::OutOfMemory(())) => Err(NoRoom::Memory),
@@ -96,7 +97,7 @@ impl TextSender {
 
 impl<R: Wait + Drop> WatchTexts<R> {
     /// The next text, or the end of the watch.
-    pub fn poll_text(&mut self, cx: &mut Context<'_>) -> Poll<Option<Vec<u8>>>
+    pub fn poll_text(&mut self, cx: &mut Context<'_>) -> Poll<Option<MadeText>>
         ensures registered { OnPending result (IsArmed cx.new) }
         ensures kept { Keeps cx.old cx.new }
     {

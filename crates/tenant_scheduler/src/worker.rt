@@ -1,5 +1,6 @@
 //! The workers: the calls of clients.
 use crate::answer::{Answer, AnswerBody, Text};
+use crate::budget::MadeText;
 use crate::caller::Caller;
 use crate::clients::{Ask, Clients, Job, OpenWatch};
 use crate::pump::take_all;
@@ -38,17 +39,18 @@ pub(crate) fn work<R: Wait + Clock + Copy + Drop, G: Gate>(
         let Ok(Turn::On(tenant)) = shared.turns.workers.recv(&rt) else {
             break;
         };
-        if let Some(clients) = shared.clients.get(tenant) {
-            let mut clients = clients.lock(&rt);
-            let turn = WorkerTurn {
-                rt,
-                alloc,
-                scheduler: &shared.scheduler,
-                tenant,
-            };
-            turn.serve_jobs(&mut caller, &mut *clients);
+        let Some(clients) = shared.clients.get(tenant) else {
+            continue;
+        };
+        let turn = WorkerTurn {
+            rt,
+            alloc,
+            scheduler: &shared.scheduler,
+            tenant,
+        };
+        if turn.run(&mut caller, &mut *clients.lock(&rt)) {
+            shared.scheduler.finish(&rt, tenant, Work::Jobs);
         }
-        shared.scheduler.finish(&rt, tenant, Work::Jobs);
     }
     caller.into_seat()
 }
@@ -63,9 +65,29 @@ struct WorkerTurn<'a, R> {
 }
 
 impl<R: Wait + Clock + Copy + Drop> WorkerTurn<'_, R> {
-    /// Serves a few of a tenant's jobs. If there may be more, the tenant comes again behind the others.
-    fn serve_jobs<G: Gate>(&self, caller: &mut Caller<'_, R, G>, clients: &mut Clients<R>) {
+    /// Serves a few of a tenant's jobs, unless the tenant was slow and has to wait with its turn. It tells whether it
+    /// served them.
+    fn run<G: Gate>(&self, caller: &mut Caller<'_, R, G>, clients: &mut Clients<R>) -> bool {
+        let was_slow = clients.is_slow;
+        if was_slow && !self.scheduler.begin_slow(&self.rt, self.tenant) {
+            return false;
+        }
         let stopwatch = Stopwatch::start(&self.rt);
+        self.serve_jobs(caller, clients, &stopwatch);
+        clients.is_slow = stopwatch.is_past(&self.rt, MILLIS_A_TURN);
+        if was_slow {
+            self.scheduler.end_slow(&self.rt);
+        }
+        true
+    }
+
+    /// Serves a few of a tenant's jobs. If there may be more, the tenant comes again behind the others.
+    fn serve_jobs<G: Gate>(
+        &self,
+        caller: &mut Caller<'_, R, G>,
+        clients: &mut Clients<R>,
+        stopwatch: &Stopwatch,
+    ) {
         let mut bytes = 0usize;
         for _ in 0..JOBS_A_TURN {
             if bytes > BYTES_A_TURN || stopwatch.is_past(&self.rt, MILLIS_A_TURN) {
@@ -96,7 +118,7 @@ impl<R: Wait + Clock + Copy + Drop> WorkerTurn<'_, R> {
     ) -> Answer<R> {
         let step = match ask {
             Ask::Step(step) => step,
-            Ask::Body(body) => match read_step(self.alloc, call, body.as_slice()) {
+            Ask::Body(body) => match read_step(self.alloc, call, body.bytes.as_slice()) {
                 Ok(step) => step,
                 Err(refusal) => return Answer::refused(self.alloc, refusal),
             },
@@ -109,9 +131,9 @@ impl<R: Wait + Clock + Copy + Drop> WorkerTurn<'_, R> {
                 if !take_all(caller, clients) {
                     return Answer::no_memory();
                 }
-                caller.answer(self.alloc, clients.name.as_slice(), step)
+                caller.answer(self.alloc, clients, step)
             }
-            _ => caller.answer(self.alloc, clients.name.as_slice(), step),
+            _ => caller.answer(self.alloc, clients, step),
         }
     }
 
@@ -146,7 +168,7 @@ fn opened<R: Wait + Clock + Copy + Drop, G: Gate>(
 ) -> Answer<R> {
     let status = receipt.status();
     let Some(slot) = receipt.slot() else {
-        return Answer::text(status, receipt.into_body());
+        return Answer::text(status, MadeText::short(receipt.into_body()));
     };
     let watch = OpenWatch {
         slot,
@@ -159,7 +181,7 @@ fn opened<R: Wait + Clock + Copy + Drop, G: Gate>(
     Answer {
         status,
         body: AnswerBody::Watch {
-            created: Text::Made(receipt.into_body()),
+            created: Text::Made(MadeText::short(receipt.into_body())),
             texts,
         },
     }

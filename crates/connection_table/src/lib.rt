@@ -1,0 +1,15 @@
+//! The open connections of a server: whose they are, which are idle and since when, and which goes to make room.
+//!
+//! Who accepts connections admits each one into a `ConnectionTable`. If the table is full, the connection that has been
+//! idle for longest goes, of the tenant that has most. What is given for a connection is let go when it ends
+//! (`OpenConnection`). Its requests say whose they are (`Requests`), and are under way until they are answered
+//! (`UnderWay`).
+#![tactic(auto)]
+
+mod counts;
+mod entry;
+mod requests;
+mod table;
+
+pub use requests::{OpenConnection, Requests, UnderWay};
+pub use table::ConnectionTable;

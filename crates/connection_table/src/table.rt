@@ -1,0 +1,128 @@
+//! All open connections, for whoever accepts them.
+use crate::counts::Counts;
+use crate::entry::Entry;
+use crate::requests::{OpenConnection, millis_since};
+use etcd_types::Mem;
+use std::alloc::Global;
+use std::os::fd::RawFd;
+use std::rt::Clock;
+use std::sync::Arc;
+use std::time::Instant;
+
+/// How many entries are kept before those of closed connections are looked for.
+const FEW: usize = 64;
+
+/// The open connections of a server.
+#[derive(Drop)]
+pub struct ConnectionTable<R> {
+    rt: R,
+    alloc: Global,
+    start: Instant,
+    /// How many may be open.
+    most: usize,
+    counts: Arc<Counts>,
+    /// Those that are open, and some that have closed.
+    entries: Vec<Arc<Entry>>,
+}
+
+impl<R: Clock + Drop> ConnectionTable<R> {
+    /// No connection is open; so many may be, and of each tenant as many as is told.
+    pub fn new(
+        rt: R,
+        alloc: Global,
+        start: Instant,
+        most: usize,
+        most_of_tenants: Vec<usize>,
+    ) -> Mem<ConnectionTable<R>> {
+        let counts = Counts::new(alloc, most_of_tenants)?;
+        Ok(ConnectionTable {
+            rt,
+            alloc,
+            start,
+            most,
+            counts: Arc::new(alloc, counts)?,
+            entries: Vec::new(alloc),
+        })
+    }
+
+    /// Takes a connection in, for which another one may have to end. None where the table is full and no connection is
+    /// idle, or where there is no memory: then it is to be closed.
+    pub fn admit(&mut self, socket: RawFd) -> Option<OpenConnection> {
+        if self.counts.open() >= self.most && !self.end_longest_idle() {
+            return None;
+        }
+        self.forget_closed();
+        let now = millis_since(&self.rt, &self.start);
+        let entry = Arc::new(self.alloc, Entry::new(socket, self.counts.nobody(), now)).ok()?;
+        let counts = Arc::try_clone(&self.counts).ok()?;
+        self.entries.push(Arc::try_clone(&entry).ok()?).ok()?;
+        counts.enter();
+        Some(OpenConnection { entry, counts })
+    }
+
+    /// Ends the connection that is idle for longest, of the owner that has most among those with an idle one; `false`
+    /// where none is idle.
+    fn end_longest_idle(&self) -> bool {
+        let mut longest: Option<Idle<'_>> = None;
+        for entry in self.entries.as_slice() {
+            let Some(idle) = self.idle(entry) else {
+                continue;
+            };
+            let goes_first = match &longest {
+                Some(other) => idle.goes_before(other),
+                None => true,
+            };
+            if goes_first {
+                longest = Some(idle);
+            }
+        }
+        match longest {
+            Some(idle) => {
+                idle.entry.end();
+                true
+            }
+            None => false,
+        }
+    }
+
+    fn idle<'a>(&self, entry: &'a Arc<Entry>) -> Option<Idle<'a>> {
+        let since = entry.idle_since()?;
+        Some(Idle {
+            entry,
+            beside: self.counts.of_owner(entry.owner()),
+            since,
+        })
+    }
+
+    /// Lets go of closed connections, once they may be half of all that are kept.
+    fn forget_closed(&mut self) {
+        let few = self.counts.open().saturating_mul(2).max(FEW);
+        if self.entries.len() < few {
+            return;
+        }
+        let mut at = self.entries.len();
+        for _ in 0..self.entries.len() {
+            at = at.saturating_sub(1);
+            if let Some(entry) = self.entries.get(at)
+                && entry.is_closed()
+            {
+                let _ = self.entries.swap_remove(at);
+            }
+        }
+    }
+}
+
+/// A connection that is idle.
+#[derive(Clone, Copy)]
+struct Idle<'a> {
+    entry: &'a Arc<Entry>,
+    /// How many connections its owner has.
+    beside: usize,
+    since: u64,
+}
+
+impl Idle<'_> {
+    fn goes_before(&self, other: &Idle<'_>) -> bool {
+        self.beside > other.beside || (self.beside == other.beside && self.since < other.since)
+    }
+}

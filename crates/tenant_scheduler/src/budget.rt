@@ -1,0 +1,235 @@
+//! What the clients of one tenant may have under way, in bytes: long bodies until they are read, what long answers take
+//! from their plan on until they are sent, and the texts of watches until they are sent.
+//!
+//! Each tenant has a budget of its own, and no other tenant can take of it. A long body waits for its share before it
+//! is read. A call whose answer may be long reserves what its plan and its text may take, by a weight that is told
+//! before it is planned, and is refused where so much is not left; its answer keeps the share of its text. How long the
+//! text of a watch is shows once it is made: what is not there then is owed, and paid before anything else is given
+//! back.
+ghost use Rattle.futures.specs.Task.{IsArmed, Keeps};
+ghost use Rattle.futures.specs.Poll.{OnPending};
+ghost use Rattle.tokio.specs.Locks.{CanAcquire};
+
+use etcd_types::{Mem, Step};
+use futures::Future;
+use futures::task::{Context, Poll};
+use std::alloc::Global;
+use std::sync::Arc;
+use std::sync::atomic::{AtomicUsize, Ordering};
+use tokio::sync::{AcquireOwned, Semaphore};
+
+/// The most bytes of a body or of a text that is short: it takes no share, and a body of it is read by an event loop.
+pub(crate) const SHORT: usize = 4096;
+
+/// The most bytes that a row may take until it is sent: the longest body has three quarters of it in its key and value,
+/// which are held once and written in base64.
+pub(crate) const LONGEST_ROW: usize = 4_194_304;
+
+/// The budget of a tenant that none is told for: room for eight of the longest bodies.
+pub const DEFAULT_BUDGET: usize = 16_777_216;
+
+/// A tenant's budget, which all share that take of it.
+#[derive(Drop)]
+pub(crate) struct Budget {
+    /// What is left, a permit a byte.
+    left: Arc<Semaphore>,
+    /// What was taken that was not there.
+    owed: Arc<AtomicUsize>,
+}
+
+impl Budget {
+    pub(crate) fn new(alloc: Global, bytes: usize) -> Mem<Budget> {
+        let left = Semaphore::new(alloc, bytes.min(Semaphore::MAX_PERMITS))?;
+        Ok(Budget {
+            left: Arc::new(alloc, left)?,
+            owed: Arc::new(alloc, AtomicUsize::new(0))?,
+        })
+    }
+
+    /// The same for another holder.
+    pub(crate) fn share(&self) -> Mem<Budget> {
+        Ok(Budget {
+            left: Arc::try_clone(&self.left)?,
+            owed: Arc::try_clone(&self.owed)?,
+        })
+    }
+
+    /// How many bytes are left.
+    pub(crate) fn left(&self) -> usize {
+        if self.owed.load(Ordering::SeqCst) > 0 {
+            return 0;
+        }
+        self.left.available_permits()
+    }
+
+    /// A share of so many bytes, if they are left.
+    pub(crate) fn reserve(&self, bytes: u64) -> Option<Share> {
+        let bytes = usize::try_from(bytes).ok()?;
+        let budget = self.share().ok()?;
+        let there = self.left.forget_permits(bytes);
+        let share = Share {
+            budget,
+            bytes: there,
+        };
+        if there == bytes { Some(share) } else { None }
+    }
+
+    /// A text that was made, with a share of its length, for which something may have been reserved. A short one takes
+    /// none.
+    pub(crate) fn charge(&self, reserved: Option<Share>, bytes: Vec<u8>) -> MadeText {
+        if bytes.len() <= SHORT {
+            return MadeText::short(bytes);
+        }
+        let share = match reserved {
+            Some(share) => Some(share),
+            None => self.reserve(0),
+        };
+        let share = share.map(|share| share.resized(bytes.len()));
+        MadeText { bytes, share }
+    }
+
+    /// Takes so many bytes, and owes those that are not left.
+    fn take(&self, bytes: usize) {
+        let there = self.left.forget_permits(bytes);
+        self.owed.fetch_add(bytes - there, Ordering::SeqCst);
+    }
+
+    /// Gives so many bytes back, less what is owed.
+    fn give_back(&self, bytes: usize) {
+        let owed = self.owed.swap(0, Ordering::SeqCst);
+        let paid = owed.min(bytes);
+        if owed > paid {
+            self.owed.fetch_add(owed - paid, Ordering::SeqCst);
+        }
+        self.left.add_permits(bytes - paid);
+    }
+
+    /// The share of a body of so many bytes at the most, before it is read.
+    pub(crate) fn promise(&self, bytes: usize) -> Option<AwaitedShare> {
+        let bytes = u32::try_from(bytes).ok()?;
+        let budget = self.share().ok()?;
+        let left = Arc::try_clone(&self.left).ok()?;
+        Some(AwaitedShare {
+            budget,
+            bytes,
+            acquire: Semaphore::acquire_many_owned(left, bytes),
+        })
+    }
+}
+
+/// A share of a tenant's budget, which goes back when it is let go.
+pub struct Share {
+    budget: Budget,
+    bytes: usize,
+}
+
+impl Share {
+    /// The share with so many bytes, which takes or gives back what differs.
+    fn resized(mut self, bytes: usize) -> Share {
+        if bytes > self.bytes {
+            self.budget.take(bytes - self.bytes);
+        } else {
+            self.budget.give_back(self.bytes - bytes);
+        }
+        self.bytes = bytes;
+        self
+    }
+
+    /// Takes another share of the same budget over.
+    pub fn absorb(&mut self, mut other: Share) {
+        self.bytes = self.bytes.saturating_add(other.bytes);
+        other.bytes = 0;
+    }
+}
+
+impl Drop for Share {
+    fn drop(self) {
+        let Share { budget, bytes } = self;
+        budget.give_back(bytes);
+    }
+}
+
+/// A share that a body waits for.
+#[derive(Drop)]
+pub struct AwaitedShare {
+    budget: Budget,
+    bytes: u32,
+    acquire: AcquireOwned,
+    ghost may_wait: { CanAcquire acquire },
+}
+
+/// The share of a body.
+#[derive(Drop)]
+pub enum BodyShare {
+    /// The body is short, or is not kept.
+    None,
+    Awaited(AwaitedShare),
+    Held(Share),
+}
+
+impl BodyShare {
+    /// Ready once there is nothing to wait for; `false` where there is no memory to wait.
+    pub fn poll_held(self, cx: &mut Context<'_>) -> (BodyShare, Poll<bool>)
+        ensures registered { OnPending result.1 (IsArmed cx.new) }
+        ensures kept { Keeps cx.old cx.new }
+    {
+        let BodyShare::Awaited(awaited) = self else {
+            return (self, Poll::Ready(true));
+        };
+        let AwaitedShare {
+            budget,
+            bytes,
+            mut acquire,
+        } = awaited;
+        match acquire.poll(cx) {
+            Poll::Pending => {
+                let awaited = AwaitedShare {
+                    budget,
+                    bytes,
+                    acquire,
+                };
+                (BodyShare::Awaited(awaited), Poll::Pending)
+            }
+            Poll::Ready(Ok(permit)) => {
+                permit.forget();
+                let bytes = bytes as usize;
+                (BodyShare::Held(Share { budget, bytes }), Poll::Ready(true))
+            }
+            Poll::Ready(Err(_)) => (BodyShare::None, Poll::Ready(false)),
+        }
+    }
+
+    /// What a body that was read needs of it.
+    pub fn for_body(self, bytes: usize) -> Option<Share> {
+        match self {
+            BodyShare::Held(share) if bytes > SHORT => Some(share.resized(bytes)),
+            _ => None,
+        }
+    }
+}
+
+/// A text that was made for a client, with its share of its tenant's budget if it is long.
+#[derive(Drop)]
+pub struct MadeText {
+    pub bytes: Vec<u8>,
+    pub share: Option<Share>,
+}
+
+impl MadeText {
+    /// A text that is short by what it tells.
+    pub(crate) fn short(bytes: Vec<u8>) -> MadeText {
+        MadeText { bytes, share: None }
+    }
+}
+
+/// The answer of a step may have more bytes than take no share.
+pub(crate) fn may_be_long(step: &Step) -> bool {
+    match step {
+        Step::Range(request) => !request.count_only,
+        Step::Put(request) => request.prev_kv,
+        Step::Delete(request) => request.prev_kv,
+        Step::TimeToLive { keys, .. } => *keys,
+        Step::Txn(_) | Step::Leases => true,
+        _ => false,
+    }
+}
