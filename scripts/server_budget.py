@@ -158,8 +158,8 @@ def a_body_waits_for_its_share(program):
 
 
 def a_budget_that_is_not_told_grows_with_the_quota(program):
-    """16 MiB have room for eight of the largest bodies, and four times the bytes of 10,923 cells for one more. A value of
-    200,000 bytes has a body of more than four times the bytes of 1,024 cells, which are left beside eight."""
+    """16 MiB have room for eight of the largest bodies, and four times the bytes of 10,923 cells for one more. A value
+    of 200,000 bytes has a body of more than four times the bytes of 1,024 cells, which are left beside eight."""
     quotas = {"small": 1024, "larger": 10_923}
     tenants = [tenant_of(name, quota) for name, quota in quotas.items()]
     with Server(program, configuration(tenants)) as server, contextlib.ExitStack() as stack:
@@ -204,6 +204,23 @@ def a_body_that_gets_no_share_in_time_is_refused(program):
             waiting.expect("two", "kv/put", PUT, done(2))
 
 
+def a_body_that_takes_too_much_to_read_is_refused(program):
+    """Objects without end would take two hundred times the body's bytes. As large a body with a few is read."""
+    with budgeted(program, LEAST_BUDGET) as server, server.connect() as other:
+        other.expect("two", "kv/put", PUT, done(2))
+        before = resident(server)
+        for piece in '{"":1},', "[],", "1,":
+            body = '{"a":[%s1]}' % (piece * (LARGEST_BODY // len(piece) - 10))
+            other.expect("two", "kv/put", body, REFUSALS["Memory"])
+        want_little_more(server, before, 10_000_000)
+        puts = ",".join(f'{{"requestPut":{{"key":"{text(b"%d" % number)}","value":"{text(b"x" * 10_000)}"}}}}'
+                        for number in range(128))
+        padded = other.call("two", "kv/range", KEY + " " * (LARGEST_BODY - len(KEY)))
+        want(padded.status == 200, f"a body of spaces is answered {padded.status}")
+        want(other.call("two", "kv/txn", f'{{"success":[{puts}]}}').status == 200, "a long transaction is refused")
+        want_others_served(other)
+
+
 def watches_that_nobody_reads_stop_at_the_budget(program):
     """Each would be told 8.5 million bytes. Once they are gone all is served."""
     create = f'{{{ALL},"start_revision":"2"}}'
@@ -236,4 +253,5 @@ TESTS = [an_answer_that_is_too_long_is_refused_before_it_is_made, a_range_of_wha
          answers_that_nobody_reads_stop_at_the_budget, many_answers_that_nobody_reads_take_little_more,
          a_budget_that_is_not_told_grows_with_the_quota, a_body_waits_for_its_share,
          a_body_that_gets_its_share_is_served, a_body_that_gets_no_share_in_time_is_refused,
-         watches_that_nobody_reads_stop_at_the_budget, a_watch_that_is_read_is_told_all]
+         a_body_that_takes_too_much_to_read_is_refused, watches_that_nobody_reads_stop_at_the_budget,
+         a_watch_that_is_read_is_told_all]

@@ -77,10 +77,11 @@ def what_asks_nothing_goes_before_others(program):
     """However many connect and say nothing, others keep their connections, and new ones are served."""
     with bounded(program, open_connections=8) as server, contextlib.ExitStack() as stack:
         others = [(name, connect(server, stack, name)) for name in NAMES]
-        for _ in range(40):
-            stack.enter_context(server.connect())
+        silent = [stack.enter_context(server.connect()) for _ in range(40)]
         time.sleep(0.3)
         want_served(*others)
+        for client in silent[:35]:
+            want_ended(client)
         want_served(("two", connect(server, stack, "two")), *others)
 
 

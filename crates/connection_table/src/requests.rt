@@ -32,12 +32,22 @@ impl Drop for OpenConnection {
 }
 
 /// The requests of a connection.
-#[derive(Drop)]
 pub struct Requests<R> {
     rt: R,
     start: Instant,
     entry: Arc<Entry>,
     counts: Arc<Counts>,
+}
+
+impl<R: Drop> Drop for Requests<R> {
+    fn drop(self) {
+        let Requests {
+            rt: _,
+            start: _,
+            entry: _,
+            counts: _,
+        } = self;
+    }
 }
 
 impl<R: Clock + Copy + Drop> Requests<R> {

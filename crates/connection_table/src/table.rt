@@ -13,7 +13,6 @@ use std::time::Instant;
 const FEW: usize = 64;
 
 /// The open connections of a server.
-#[derive(Drop)]
 pub struct ConnectionTable<R> {
     rt: R,
     alloc: Global,
@@ -23,6 +22,19 @@ pub struct ConnectionTable<R> {
     counts: Arc<Counts>,
     /// Those that are open, and some that have closed.
     entries: Vec<Arc<Entry>>,
+}
+
+impl<R: Drop> Drop for ConnectionTable<R> {
+    fn drop(self) {
+        let ConnectionTable {
+            rt: _,
+            alloc: _,
+            start: _,
+            most: _,
+            counts: _,
+            entries: _,
+        } = self;
+    }
 }
 
 impl<R: Clock + Drop> ConnectionTable<R> {

@@ -22,8 +22,19 @@ use tokio::io::{AsyncRead, AsyncWrite};
 use tokio::runtime::LocalRuntime;
 
 /// A socket that listens, and what its connections may take.
-#[derive(Drop)]
 pub struct Listening {
+    parts: Parts,
+}
+
+impl Drop for Listening {
+    fn drop(self) {
+        let Listening { parts: _ } = self;
+    }
+}
+
+/// What `Sessions::serve` takes of what listens.
+#[derive(Drop)]
+struct Parts {
     runtimes: Vec<LocalRuntime>,
     listener: TcpListener,
     connections: Option<u32>,
@@ -65,7 +76,12 @@ pub struct Sessions;
 impl Listening {
     /// The address that clients connect to.
     pub fn address(&self) -> io::Result<SocketAddr> {
-        self.listener.local_addr()
+        self.parts.listener.local_addr()
+    }
+
+    fn into_parts(self) -> Parts {
+        let Listening { parts } = self;
+        parts
     }
 }
 
@@ -87,12 +103,14 @@ impl Sessions {
         };
         match bind(rt, address, config.patience) {
             Ok(listener) => Ok(Listening {
-                runtimes,
-                listener,
-                connections: config.connections,
-                patience: config.patience,
-                open_connections: config.open_connections.unwrap_or(most_connections()),
-                allowances,
+                parts: Parts {
+                    runtimes,
+                    listener,
+                    connections: config.connections,
+                    patience: config.patience,
+                    open_connections: config.open_connections.unwrap_or(most_connections()),
+                    allowances,
+                },
             }),
             Err(error) => Err(ListenFault::of(&error)),
         }
@@ -121,14 +139,14 @@ impl Sessions {
             + 'static,
         G: Gate + Sync,
     {
-        let Listening {
+        let Parts {
             runtimes,
             listener,
             connections: served,
             patience,
             open_connections,
             allowances,
-        } = listening;
+        } = listening.into_parts();
         let alloc = rt.alloc();
         let start = Instant::now(&rt).map_err(|error| ServeFault::of(&error))?;
         let budgets = budgets(alloc, allowances.as_slice())?;

@@ -25,6 +25,11 @@ pub(crate) const SHORT: usize = 4096;
 /// which are held once and written in base64.
 pub(crate) const LONGEST_ROW: usize = 4_194_304;
 
+/// The most bytes that an object, and that another value, takes in the tree that is made of a body.
+const OBJECT: u64 = 1024;
+
+const VALUE: u64 = 96;
+
 /// The budget of a tenant that none is told for: room for eight of the longest bodies.
 pub const DEFAULT_BUDGET: usize = 16_777_216;
 
@@ -220,6 +225,21 @@ impl MadeText {
     pub(crate) fn short(bytes: Vec<u8>) -> MadeText {
         MadeText { bytes, share: None }
     }
+}
+
+/// A bound of what the tree of a body's values takes beside its texts: each value but the first comes behind one of three
+/// bytes.
+pub(crate) fn tree_weight(body: &[u8]) -> u64 {
+    let mut weight = 0u64;
+    for byte in body {
+        let value = match *byte {
+            b'{' => OBJECT,
+            b'[' | b',' => VALUE,
+            _ => 0,
+        };
+        weight = weight.saturating_add(value);
+    }
+    weight
 }
 
 /// The answer of a step may have more bytes than take no share.

@@ -15,11 +15,7 @@ const BUDGET: u32 = 256;
 pub(crate) fn catch_up<R: Wait + Clock + Copy + Drop, G: Gate>(
     thread: ServingThread<'_, R, G>,
 ) -> Seat {
-    let ServingThread {
-        rt,
-        mut caller,
-        shared,
-    } = thread;
+    let (rt, mut caller, shared) = thread.into_parts();
     for _ in rt.forever() {
         let Ok(Turn::On(tenant)) = shared.turns.catch_up.recv(&rt) else {
             break;

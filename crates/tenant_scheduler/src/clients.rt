@@ -19,10 +19,15 @@ pub(crate) enum Ask {
 }
 
 /// The body of a request, with its share of its tenant's budget if it is long.
-#[derive(Drop)]
 pub struct RequestBody {
     pub bytes: Vec<u8>,
     pub share: Option<Share>,
+}
+
+impl Drop for RequestBody {
+    fn drop(self) {
+        let RequestBody { bytes: _, share: _ } = self;
+    }
 }
 
 impl Ask {

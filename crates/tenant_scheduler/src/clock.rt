@@ -51,11 +51,7 @@ impl Running {
 pub(crate) fn keep_time<R: Wait + Clock + Copy + Drop, G: Gate>(
     thread: ServingThread<'_, R, G>,
 ) -> Seat {
-    let ServingThread {
-        rt,
-        mut caller,
-        shared,
-    } = thread;
+    let (rt, mut caller, shared) = thread.into_parts();
     let Ok(start) = Instant::now(&rt) else {
         return caller.into_seat();
     };

@@ -33,11 +33,27 @@ const SHORT_ANSWER: usize = 16_384;
 const CALLS_LEFT: u32 = 256;
 
 /// A brief call, and where its outcome goes.
-#[derive(Drop)]
 pub struct InlineCall<R: Wait + Drop> {
     pub(crate) route: Route,
     pub(crate) step: Step,
     pub(crate) reply: oneshot::Sender<InlineOutcome<R>>,
+}
+
+impl<R: Wait + Drop> Drop for InlineCall<R> {
+    fn drop(self) {
+        let InlineCall {
+            route: _,
+            step: _,
+            reply: _,
+        } = self;
+    }
+}
+
+impl<R: Wait + Drop> InlineCall<R> {
+    pub(crate) fn into_parts(self) -> (Route, Step, oneshot::Sender<InlineOutcome<R>>) {
+        let InlineCall { route, step, reply } = self;
+        (route, step, reply)
+    }
 }
 
 /// What became of a brief call.
@@ -49,11 +65,20 @@ pub(crate) enum InlineOutcome<R: Wait + Drop> {
 }
 
 /// Where an event loop receives the brief calls of its connections, and serves them.
-#[derive(Drop)]
 pub struct InlineCalls<'x, R: Wait + Drop, G> {
     alloc: Global,
     thread: ServingThread<'x, R, G>,
     calls: UnboundedReceiver<InlineCall<R>>,
+}
+
+impl<'x, R: Wait + Drop, G> Drop for InlineCalls<'x, R, G> {
+    fn drop(self) {
+        let InlineCalls {
+            alloc: _,
+            thread: _,
+            calls: _,
+        } = self;
+    }
 }
 
 impl<'x, R: Wait + Clock + Copy + Drop, G: Gate> InlineCalls<'x, R, G> {
@@ -85,7 +110,7 @@ impl<'x, R: Wait + Clock + Copy + Drop, G: Gate> InlineCalls<'x, R, G> {
 
     /// Serves a call if nobody has the turn on its tenant, and else gives it back.
     fn serve(&mut self, call: InlineCall<R>) {
-        let InlineCall { route, step, reply } = call;
+        let (route, step, reply) = call.into_parts();
         let ServingThread { rt, caller, shared } = &mut self.thread;
         let tenant = route.tenant;
         let outcome = if shared.scheduler.try_begin(tenant) {

@@ -67,11 +67,19 @@ pub(crate) struct Directory<R: Wait + Drop> {
 }
 
 /// Where calls go in, which connections share.
-#[derive(Drop)]
 pub struct Jobs<R: Wait + Drop> {
     pub(crate) directory: Arc<Directory<R>>,
     /// Where the connections of an event loop hand it brief calls.
     pub(crate) inline: Option<Arc<UnboundedSender<InlineCall<R>>>>,
+}
+
+impl<R: Wait + Drop> Drop for Jobs<R> {
+    fn drop(self) {
+        let Jobs {
+            directory: _,
+            inline: _,
+        } = self;
+    }
 }
 
 impl<R: Wait + Drop> Jobs<R> {

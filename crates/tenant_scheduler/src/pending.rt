@@ -24,12 +24,22 @@ pub enum Begun<R: Wait + Drop> {
 }
 
 /// A call that waits for its answer.
-#[derive(Drop)]
 pub struct PendingCall<R: Wait + Drop> {
     rt: R,
     alloc: Global,
     jobs: Jobs<R>,
     stage: Stage<R>,
+}
+
+impl<R: Wait + Drop> Drop for PendingCall<R> {
+    fn drop(self) {
+        let PendingCall {
+            rt: _,
+            alloc: _,
+            jobs: _,
+            stage: _,
+        } = self;
+    }
 }
 
 #[derive(Drop)]
@@ -136,11 +146,7 @@ impl<R: Wait + Copy + Drop> PendingCall<R> {
         match self.jobs.hand(InlineCall { route, step, reply }) {
             Ok(()) => Some(Ok(Inline { route, outcome })),
             Err(call) => {
-                let InlineCall {
-                    route: _,
-                    step,
-                    reply: _,
-                } = call;
+                let (_, step, _) = call.into_parts();
                 Some(Err(step))
             }
         }

@@ -18,11 +18,7 @@ const MILLIS_A_TURN: u64 = 1;
 pub(crate) fn pump<R: Wait + Clock + Copy + Drop, G: Gate>(
     thread: ServingThread<'_, R, G>,
 ) -> Seat {
-    let ServingThread {
-        rt,
-        mut caller,
-        shared,
-    } = thread;
+    let (rt, mut caller, shared) = thread.into_parts();
     for _ in rt.forever() {
         let Ok(Turn::On(tenant)) = shared.turns.pump.recv(&rt) else {
             break;

@@ -14,11 +14,20 @@ use tenant_registry::{Gate, Registry, Seat};
 pub const BESIDE_WORKERS: usize = 3;
 
 /// What a thread serves tenants with: its way into the registry, and what all threads share.
-#[derive(Drop)]
 pub struct ServingThread<'x, R: Wait + Drop, G> {
     pub(crate) rt: R,
     pub(crate) caller: Caller<'x, R, G>,
     pub(crate) shared: Arc<Shared<R>>,
+}
+
+impl<'x, R: Wait + Drop, G> Drop for ServingThread<'x, R, G> {
+    fn drop(self) {
+        let ServingThread {
+            rt: _,
+            caller: _,
+            shared: _,
+        } = self;
+    }
 }
 
 impl<'x, R: Wait + Clock + Copy + Drop, G: Gate> ServingThread<'x, R, G> {
@@ -37,12 +46,14 @@ impl<'x, R: Wait + Clock + Copy + Drop, G: Gate> ServingThread<'x, R, G> {
         }
     }
 
+    /// What it works with, for the one service that it does.
+    pub(crate) fn into_parts(self) -> (R, Caller<'x, R, G>, Arc<Shared<R>>) {
+        let ServingThread { rt, caller, shared } = self;
+        (rt, caller, shared)
+    }
+
     pub fn into_seat(self) -> Seat {
-        let ServingThread {
-            rt: _,
-            caller,
-            shared: _,
-        } = self;
+        let (_, caller, _) = self.into_parts();
         caller.into_seat()
     }
 }

@@ -19,11 +19,20 @@ use tokio::sync::mpsc;
 const WAITING: usize = 256;
 
 /// Whose turn it is, where the turns arrive, and each tenant's clients, in the order of the registry.
-#[derive(Drop)]
 pub struct Shared<R: Wait + Drop> {
     pub(crate) scheduler: Arc<Scheduler>,
     pub(crate) turns: Turns,
     pub(crate) clients: Vec<Mutex<Clients<R>>>,
+}
+
+impl<R: Wait + Drop> Drop for Shared<R> {
+    fn drop(self) {
+        let Shared {
+            scheduler: _,
+            turns: _,
+            clients: _,
+        } = self;
+    }
 }
 
 impl<R: Wait + Clock + Copy + Drop> Shared<R> {

@@ -1,6 +1,6 @@
 //! The workers: the calls of clients.
 use crate::answer::{Answer, AnswerBody, Text};
-use crate::budget::MadeText;
+use crate::budget::{MadeText, tree_weight};
 use crate::caller::Caller;
 use crate::clients::{Ask, Clients, Job, OpenWatch};
 use crate::pump::take_all;
@@ -8,7 +8,7 @@ use crate::scheduler::{Scheduler, Turn, Work};
 use crate::serving::ServingThread;
 use crate::stopwatch::Stopwatch;
 use crate::watch_texts::{TextSender, WatchTexts};
-use etcd_types::{Call, Step};
+use etcd_types::{Call, Refusal, Step};
 use gateway_json::read_step;
 use std::alloc::Global;
 use std::rt::Clock;
@@ -30,11 +30,7 @@ pub(crate) fn work<R: Wait + Clock + Copy + Drop, G: Gate>(
     alloc: Global,
     thread: ServingThread<'_, R, G>,
 ) -> Seat {
-    let ServingThread {
-        rt,
-        mut caller,
-        shared,
-    } = thread;
+    let (rt, mut caller, shared) = thread.into_parts();
     for _ in rt.forever() {
         let Ok(Turn::On(tenant)) = shared.turns.workers.recv(&rt) else {
             break;
@@ -118,7 +114,7 @@ impl<R: Wait + Clock + Copy + Drop> WorkerTurn<'_, R> {
     ) -> Answer<R> {
         let step = match ask {
             Ask::Step(step) => step,
-            Ask::Body(body) => match read_step(self.alloc, call, body.bytes.as_slice()) {
+            Ask::Body(body) => match self.read(clients, call, body.bytes.as_slice()) {
                 Ok(step) => step,
                 Err(refusal) => return Answer::refused(self.alloc, refusal),
             },
@@ -135,6 +131,16 @@ impl<R: Wait + Clock + Copy + Drop> WorkerTurn<'_, R> {
             }
             _ => caller.answer(self.alloc, clients, step),
         }
+    }
+
+    /// The step of a long body. It is refused where the tenant's budget has no room for the tree that is made of it.
+    fn read(&self, clients: &Clients<R>, call: Call, body: &[u8]) -> Result<Step, Refusal> {
+        let Some(tree) = clients.budget.reserve(tree_weight(body)) else {
+            return Err(Refusal::Memory);
+        };
+        let step = read_step(self.alloc, call, body);
+        drop(tree);
+        step
     }
 
     /// Creates a watch that stays open. Its memory is taken before.
