@@ -1,9 +1,12 @@
-"""Tests of check-server on budgets: what one tenant's clients may have under way, and that no other tenant pays for it.
+"""Tests of check-server on what one tenant's clients may take, and that no other tenant pays for it: their budget, and
+the workers.
 
 Each test is given the program, and raises `Wrong` where something is not as it is wanted.
 """
 import contextlib
+import threading
 import time
+from concurrent.futures import ThreadPoolExecutor
 
 from server_client import (ALL, KEY, LARGEST_BODY, PUT, REFUSALS, Connection, Server, Watch, chunk, configuration,
                            done, head, path, request, tenant_of, text, want)
@@ -178,16 +181,18 @@ def a_budget_that_is_not_told_grows_with_the_quota(program):
 
 
 def a_body_that_gets_its_share_is_served(program):
+    """One whose length is told waits for that, and one in chunks for the length of the longest body."""
+    sized = request(path("two", "kv/put"), long_put())
+    chunked = head(path("two", "kv/put"), ["transfer-encoding: chunked"]) + chunk(PUT.encode()) + chunk(b"")
     with budgeted(program, LEAST_BUDGET) as server, begun_body(server, LEAST_BUDGET // 2):
-        gone = begun_body(server, LEAST_BUDGET // 2)
-        with server.connect() as sized, server.connect() as chunked:
+        for message in sized, chunked:
+            gone = begun_body(server, LEAST_BUDGET // 2)
             time.sleep(0.3)
-            sized.send(request(path("two", "kv/put"), long_put()))
-            chunked.send(head(path("two", "kv/put"), ["transfer-encoding: chunked"]) + chunk(PUT.encode()) + chunk(b""))
-            want_quiet(sized, 0.3)
-            want_quiet(chunked, 0.1)
-            gone.close()
-            want({sized.answer().status, chunked.answer().status} == {200}, "a put is refused")
+            with server.connect() as waiting:
+                waiting.send(message)
+                want_quiet(waiting, 0.3)
+                gone.close()
+                want(waiting.answer().status == 200, "a put is refused")
 
 
 def a_body_that_gets_no_share_in_time_is_refused(program):
@@ -249,9 +254,46 @@ def a_watch_that_is_read_is_told_all(program):
             watch.events(1)
 
 
+def keep_busy(server, name, ends, answered):
+    """Makes calls that take a worker long to read, one after another, and counts them."""
+    with server.connect() as client:
+        while not ends.is_set():
+            client.call(name, "kv/range", '{"key":"%s"}' % ("QUFB" * 400_000))
+            answered.append(name)
+
+
+def answered_beside(program, workers):
+    """How many calls that take long are answered to the first tenant and the third while the second makes fifty that
+    don't, each of which goes to a worker too."""
+    tenants = [tenant_of(name) for name in NAMES]
+    ends, answered = threading.Event(), []
+    with Server(program, configuration(tenants, workers=workers)) as server, ThreadPoolExecutor(6) as threads:
+        busy = [threads.submit(keep_busy, server, name, ends, answered) for name in NAMES[::2] * 3]
+        time.sleep(0.5)
+        before = len(answered)
+        with server.connect() as brief:
+            for _ in range(50):
+                told = brief.call("two", "kv/txn", f'{{"success":[{{"requestRange":{KEY}}}]}}')
+                want(told.status == 200, f"a transaction is answered {told.status}")
+        beside = len(answered) - before
+        ends.set()
+        for one in busy:
+            one.result()
+        want(before > 0, "nothing took long")
+        return beside
+
+
+def a_worker_is_left_to_tenants_whose_calls_are_brief(program):
+    """With one worker each of fifty calls waits for others that take long, and with two for none."""
+    alone, one_more = (answered_beside(program, workers) for workers in (1, 2))
+    want(one_more < 25 < alone, f"{one_more} calls that take long are answered meanwhile, and {alone} by one worker")
+
+
 TESTS = [an_answer_that_is_too_long_is_refused_before_it_is_made, a_range_of_what_a_transaction_puts_counts,
          answers_that_nobody_reads_stop_at_the_budget, many_answers_that_nobody_reads_take_little_more,
          a_budget_that_is_not_told_grows_with_the_quota, a_body_waits_for_its_share,
          a_body_that_gets_its_share_is_served, a_body_that_gets_no_share_in_time_is_refused,
          a_body_that_takes_too_much_to_read_is_refused, watches_that_nobody_reads_stop_at_the_budget,
          a_watch_that_is_read_is_told_all]
+# What keeps all processors busy, and so has to go behind all others.
+BUSY = [a_worker_is_left_to_tenants_whose_calls_are_brief]
