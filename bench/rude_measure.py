@@ -6,7 +6,7 @@ from typing import NamedTuple
 
 from replay_calls import Wrong
 from rude_beside import Neighbour, Times
-from rude_host import Held, Host
+from rude_host import WATCHES, Held, Host
 
 # What an attack may take beyond its seconds, and when afterwards it is looked at what is left.
 PATIENCE, AFTER, LOOK = 20, 1, 0.05
@@ -53,15 +53,23 @@ def attacked(attack, place, seconds, count):
         process.join()
 
 
-def held_after(host, before, is_given_back):
-    """What the host holds a second after an attack, or sooner where it has given back all."""
-    until = time.monotonic() + AFTER
+def held_after(host, before, is_given_back, seconds):
+    """What the host holds so many seconds after an attack, or sooner where it has given back all."""
+    until = time.monotonic() + seconds
     while not is_given_back(before, held := host.held()) and time.monotonic() < until:
         time.sleep(LOOK)
     return held
 
 
-def measured(program, attack, count, seconds, seconds_alone, is_given_back=lambda before, after: False):
+def slots_after(host, seconds):
+    """How many watches the attacked tenant takes again within so many seconds."""
+    until = time.monotonic() + seconds
+    while (slots := host.watches_taken()) != WATCHES and time.monotonic() < until:
+        time.sleep(LOOK)
+    return slots
+
+
+def measured(program, attack, count, seconds, seconds_alone, is_given_back=lambda before, after: False, after_it=AFTER):
     """The outcome of an attack of so many seconds. It need not be waited for what is given back already."""
     with contextlib.ExitStack() as stack:
         host = stack.enter_context(Host(program, attack.workers))
@@ -74,6 +82,6 @@ def measured(program, attack, count, seconds, seconds_alone, is_given_back=lambd
         host.forget_peak()
         with attacked(attack, host.attacked, seconds, count) as did:
             beside = neighbour.measured(seconds)
-        after, peak = held_after(host, before, is_given_back), host.peak()
+        after, peak = held_after(host, before, is_given_back, after_it), host.peak()
         host.look()
-        return Outcome(did[0], alone, beside, before, peak, after, host.watches_taken())
+        return Outcome(did[0], alone, beside, before, peak, after, slots_after(host, after_it))
