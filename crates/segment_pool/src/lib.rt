@@ -11,3 +11,4 @@ mod supply;
 pub use desk::Desk;
 pub use pool::{Pool, Short, Ticket};
 pub use stock::Stock;
+pub use supply::Supply;

@@ -121,7 +121,7 @@ impl Pool {
             }) }
     {
         Ok(Pool {
-            free: new_segments(alloc, segments)?,
+            free: new_segments(alloc, 0, segments)?,
             promised: 0,
             out: 0,
             reservations: vec![in alloc; 0; segments as usize]?,

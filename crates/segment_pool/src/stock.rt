@@ -1,7 +1,8 @@
 //! Segments that are held, with room for more.
-ghost use Rattle.std.specs.Prelude.{◌≡◌, ◌+◌, ◌≤◌, ◌∷◌, [], ◌++◌, max, IfOk, IsOk, OnOk, OnErr};
+ghost use Rattle.std.specs.Prelude.{◌≡◌, ◌+◌, ◌<◌, ◌≤◌, ◌^◌, ◌∷◌, [], ◌++◌, max, IfOk, IsOk, OnOk, OnErr};
 ghost use Rattle.std.specs.List.Sorted.{IsPermutation};
 ghost use Rattle.etcd_model.specs.Pool.{new_stock};
+ghost use Rattle.segment_pool.specs.Supply.{supplied};
 
 use crate::supply::new_segments;
 use cell_arena::{Segment, Segments};
@@ -37,7 +38,15 @@ impl Stock {
     pub fn new(alloc: Global, segments: u32) -> Mem<Stock>
         ensures { IfOk result (λ stock. stock ≡ new_stock segments) }
     {
-        let segments = new_segments(alloc, segments)?;
+        Stock::numbered(alloc, 0, segments)
+    }
+
+    /// The same, numbered from this number on.
+    pub(crate) fn numbered(alloc: Global, first: u32, segments: u32) -> Mem<Stock>
+        requires few { first + segments < 2 ^ 32 }
+        ensures { IfOk result (λ stock. stock ≡ supplied first segments) }
+    {
+        let segments = new_segments(alloc, first, segments)?;
         Ok(Stock { segments })
     }
 

@@ -67,6 +67,7 @@ IsFault ss cs (fault.Missed tenant) =
     (place : ℕ) × IsNamed ss place tenant.items × IsVerdict ss cs (verdict.Missed place)
 IsFault ss cs (fault.Differs tenant turn) =
     (place : ℕ) × IsNamed ss place tenant.items × IsVerdict ss cs (verdict.Differs place turn)
+IsFault ss cs (fault.Lent tenant) = ⊥
 IsFault ss cs fault.Memory = IsVerdict ss cs verdict.Agree
 
 -- the fault that some lawful audits of these tenants have, those that the locks kept

@@ -1,11 +1,15 @@
 -- What a receipt shows: the text of a reply, and its place in the audit.
 use Rattle.std.specs.Prelude.{ℕ, List, Bool, true, false, Option, Some, None}
 use Rattle.etcd_types.specs.declared.reply.Reply.{Reply}
-use Rattle.etcd_types.specs.declared.reply.Reply.TheVariants.{Created, Canceled}
+use Rattle.etcd_types.specs.declared.refusal.Refusal.{Refusal}
+use Rattle.etcd_types.specs.declared.reply.Reply.TheVariants.{Created, Canceled, Refused}
 use Rattle.etcd_model.specs.ReplyText.{reply_status, reply_body}
 
 -- a receipt, as contracts see it
 pub record Slip : Type 0 where
+  -- the number of the tenant that was called, and that of the seat that called it
+  pub number : ℕ
+  pub seat : ℕ
   -- its place in the audit, unless that was full
   pub turn : Option ℕ
   pub status : ℕ
@@ -13,6 +17,8 @@ pub record Slip : Type 0 where
   -- the slot of the watch that was created
   pub slot : Option ℕ
   pub canceled : Bool
+  -- why the call was refused
+  pub refusal : Option Refusal
 
 abbrev pub slot_of : Reply → Option ℕ
 slot_of (Created header watch_id slot) = Some slot
@@ -22,12 +28,19 @@ abbrev pub is_cancel : Reply → Bool
 is_cancel (Canceled header watch_id compact_revision) = true
 is_cancel reply = false
 
--- the receipt of a reply, with the reply's text
-abbrev pub slip_of : Option ℕ → Reply → Slip
-slip_of turn reply = record {
+abbrev pub refusal_of : Reply → Option Refusal
+refusal_of (Refused refusal) = Some refusal
+refusal_of reply = None
+
+-- the receipt of a tenant's reply to a seat, with the reply's text
+abbrev pub slip_of : ℕ → ℕ → Option ℕ → Reply → Slip
+slip_of number seat turn reply = record {
+  number = number;
+  seat = seat;
   turn = turn;
   status = reply_status reply;
   body = reply_body reply;
   slot = slot_of reply;
   canceled = is_cancel reply;
+  refusal = refusal_of reply;
 }

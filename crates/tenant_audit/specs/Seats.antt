@@ -95,5 +95,6 @@ pub record AddsMissed (tenant : List ℕ) (old new : SeatState) : Type 0 where
 -- has; without one, that it was missed.
 abbrev pub Keeps : Option ℕ → List ℕ → Step → Slip → SeatState → SeatState → Type 0
 Keeps (Some turn) tenant step receipt old new =
-    (reply : Reply) × (receipt ≡ slip_of (Some turn) reply) × AddsCall tenant (call turn step reply) old new
+    (reply : Reply) × (receipt ≡ slip_of receipt.number receipt.seat (Some turn) reply)
+    × AddsCall tenant (call turn step reply) old new
 Keeps None tenant step receipt old new = AddsMissed tenant old new

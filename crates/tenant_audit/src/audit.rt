@@ -9,6 +9,8 @@ use std::marker::Model;
 /// What a tenant is opened with.
 #[derive(Clone, Copy, Debug, PartialEq, Eq)]
 pub struct Opening {
+    /// The tenant's number, which no other tenant of its registry ever has.
+    pub number: u64,
     /// The cluster's ID.
     pub cluster: u64,
     /// The cells that the tenant may use.
@@ -30,7 +32,6 @@ pub struct Entry {
 
 /// The steps that were served on a tenant, in order, up to a number of them, and the quotas that it was given
 /// meanwhile. Once it has so many steps, nothing that comes later is kept.
-#[derive(Drop)]
 pub struct Audit {
     pub opening: Opening,
     /// There is room for all that it takes.
@@ -38,6 +39,16 @@ pub struct Audit {
     /// The quotas that the tenant was given since, in order, each in cells, after the number of entries that
     /// were there before.
     pub quotas: Vec<(u32, u32)>,
+}
+
+impl Drop for Audit {
+    fn drop(self) {
+        let Audit {
+            opening: _,
+            entries: _,
+            quotas: _,
+        } = self;
+    }
 }
 
 impl Model for Audit {

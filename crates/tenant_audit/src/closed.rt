@@ -40,6 +40,10 @@ pub enum CloseFault {
         tenant: Vec<u8>,
         turn: u32,
     },
+    /// Somebody has a key to the tenant, so its audit can't be had. A comparison never tells it.
+    Lent {
+        tenant: Vec<u8>,
+    },
     /// All are the same, and the list of the audits can't be held.
     Memory,
 }

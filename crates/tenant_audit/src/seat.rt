@@ -10,11 +10,20 @@ use std::alloc::Global;
 use std::marker::Model;
 
 /// A caller of a registry, with a list of its calls on each tenant.
-#[derive(Drop)]
 pub struct Seat {
     number: u8,
     tallies: IndexMap<Vec<u8>, Tally>,
     alloc: Global,
+}
+
+impl Drop for Seat {
+    fn drop(self) {
+        let Seat {
+            number: _,
+            tallies: _,
+            alloc: _,
+        } = self;
+    }
 }
 
 impl Model for Seat {

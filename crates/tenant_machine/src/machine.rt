@@ -141,6 +141,13 @@ impl Machine {
         self.store.used_cells()
     }
 
+    /// The revision of the last compaction, 0 before the first.
+    pub fn compacted(&self) -> u64
+        ensures { result ≡ self.now.store.kept.compacted }
+    {
+        self.store.compacted()
+    }
+
     /// Makes changes one more revision, after which so many cells are in use.
     fn write<S: Segments>(&mut self, segments: &mut S, plan: Plan, used: u64)
         requires fits { FitsWrite self.old plan used }

@@ -1,18 +1,24 @@
 -- What lies under a lock stays so over a step.
-use Rattle.std.specs.Prelude.{ℤ, pos, negsuc, ◌≤ℤ◌, Result, Ok, Err, IfOk}
+use Rattle.std.specs.Prelude.{◌≢◌, ℤ, pos, negsuc, ◌≤ℤ◌, Result, Ok, Err, IfOk, OnOk, is_err}
 use Rattle.std.specs.List.{AllByRecursion}
-use Rattle.std.proofs.Common.{◌≡◌, ◌∙◌, ◌==◌, ◌+◌, ◌*◌, ◌/◌, ◌<◌, ◌≤◌, sym, ap, subst, refl, ℕ, Bool, true, false, cond, nat_lt, length, List, [], ◌∷◌, ◌++◌, Option, Some, None, append_assoc, max, arith}
+use Rattle.std.proofs.Common.{◌≡◌, ◌∙◌, ◌==◌, ◌+◌, ◌*◌, ◌/◌, ◌<◌, ◌≤◌, sym, ap, subst, refl, ℕ, Bool, true, false, cond, nat_lt, length, List, [], ◌∷◌, ◌++◌, Option, Some, None, Vec, append_assoc, max, arith}
 use Rattle.std.proofs.lemmas.Bool.Decides.{nat_tests}
 use Rattle.std.proofs.lemmas.Int.{ints}
-use Rattle.std.proofs.lemmas.List.{map-append, length-append}
-use Rattle.cell_arena.specs.Loan.{Loan, Share, IsLent, Settles, segments_for, undrawn}
+use Rattle.std.proofs.lemmas.List.{append-nil, map-append, length-append}
+use Rattle.std.specs.List.Sorted.{IsPermutation}
+use Rattle.std.proofs.lemmas.List.Sorted.{IsPermutation-append_comm, IsPermutation-append_left, IsPermutation-append_right, IsPermutation-trans}
+use Rattle.cell_arena.specs.Loan.{Loan, Share, IsLent, Settles, returned, segments_for, undrawn}
+use Rattle.cell_arena.specs.Segments.{numbers_of}
+use Rattle.cell_arena.specs.declared.segments.Segment.{Segment}
 use Rattle.etcd_types.specs.declared.step.Step.{Step}
 use Rattle.etcd_types.specs.declared.reply.Reply.{Reply}
+use Rattle.etcd_types.specs.declared.reply.Reply.TheVariants.{Refused}
+use Rattle.etcd_types.specs.declared.refusal.Refusal.TheVariants.{Memory}
 use Rattle.etcd_model.specs.declared.state.History.{History}
 use Rattle.etcd_model.specs.declared.state.State.{State}
 use Rattle.etcd_model.specs.Store.{Store}
 use Rattle.etcd_model.specs.Held.{Holds}
-use Rattle.etcd_model.specs.Pool.{StockState}
+use Rattle.etcd_model.specs.Pool.{StockState, all_below, new_stock}
 use Rattle.etcd_model.specs.Machine.{machine}
 use Rattle.steps_core.specs.Resizing.{resized}
 use Rattle.tenant_machine.specs.Tenants.{MachineState, tenant}
@@ -22,10 +28,11 @@ use Rattle.tenant_audit.specs.declared.audit.Entry.{Entry}
 use Rattle.tenant_audit.specs.declared.audit.Opening.{Opening}
 use Rattle.tenant_registry.specs.declared.kept.Served.{Served}
 use Rattle.tenant_audit.specs.Audits.{Act, Asked, Resized, Log, IsOpen, acts_after, acts_of, at_quota, entry, replies_of, replies_to_acts, resized_after, state_after_acts, opened_log, opening_of, first_of, end_of, turn_of, with_entry, with_entry_at, with_change, with_change_at}
-use Rattle.tenant_registry.specs.Keeping.{Content, IsKept, loan_of}
+use Rattle.tenant_registry.specs.Keeping.{Content, IsKept, loan_of, segments_of}
 use Rattle.tenant_audit.specs.Receipts.{slip_of}
 use Rattle.tenant_audit.specs.Seats.{call_at}
-use Rattle.tenant_registry.specs.Serving.{Serves, IsServed}
+use Rattle.tenant_registry.specs.Removing.{GivesBack}
+use Rattle.tenant_registry.specs.Serving.{Serves, ServesThere, IsServed, LeadsTo}
 
 -- ---- runs
 
@@ -181,27 +188,47 @@ kept_step m n a b left rest seat step p reply kept plans after is settles made =
     by true e = kept_more m n a left rest seat step p reply kept (is_open a e) plans after is settles
     by false e = kept_later m n a left rest step p kept (is_shut a e) plans after settles
 
+-- the state that lies under a lock
+leads : (m : MachineState) (a : Log) (left : StockState) (kept : IsKept m a left) → LeadsTo a (state_after_acts (end_of a) kept.later)
+leads m a left kept = record { lawful = kept.lawful; later = kept.later; none = kept.none; is = refl }
+
 -- what is promised of that
 pub serves : (old : Content) (m n : MachineState) (a b : Log) (left rest : StockState) (seat : ℕ) (step : Step) (p : Plan) (reply told : Reply) (turn : Option ℕ) (served : Served)
-    → record { machine = m; audit = a; left = left } ≡ old → Plans m step p → IsAfter m p n → reply ≡ p.reply → turn ≡ turn_of a → told ≡ p.reply
-    → served.receipt ≡ slip_of turn told → served.mine ≡ call_at turn step told → b ≡ with_entry_at (turn_of a) a (entry seat step reply)
+    → record { machine = m; audit = a; left = left } ≡ old → IsKept m a left → Plans m step p → IsAfter m p n → reply ≡ p.reply → turn ≡ turn_of a → told ≡ p.reply
+    → served.receipt ≡ slip_of a.opening.number seat turn told → served.mine ≡ call_at turn step told → b ≡ with_entry_at (turn_of a) a (entry seat step reply)
+    → Settles m.store.share (loan_of left) n.store.share (loan_of rest)
     → Serves old seat step served (record { machine = n; audit = b; left = rest })
-serves old m n a b left rest seat step p reply told turn served view plans after is turns tells receipt mine made =
+serves old m n a b left rest seat step p reply told turn served view kept plans after is turns tells receipt mine made settles =
     let same : told ≡ reply = tells ∙ sym is in
+    let spoken : reply ≢ Refused Memory = λ h. plans.spoken (sym is ∙ h) in
+    let steps : Steps m step reply n = stepped m n step p reply plans after is in
     let there : Serves (record { machine = m; audit = a; left = left }) seat step served (record { machine = n; audit = b; left = rest }) = record {
       reply = reply;
-      spoken = λ h. plans.spoken (sym is ∙ h);
-      steps = stepped m n step p reply plans after is;
-      receipt = receipt ∙ ap (λ t. slip_of t told) turns ∙ ap (slip_of (turn_of a)) same;
+      spoken = spoken;
+      steps = steps;
+      state = state_after_acts (end_of a) kept.later;
+      leads = leads m a left kept;
+      answer = steps.told (state_after_acts (end_of a) kept.later) kept.holds spoken;
+      receipt = receipt ∙ ap (λ t. slip_of a.opening.number seat t told) turns ∙ ap (slip_of a.opening.number seat (turn_of a)) same;
       mine = mine ∙ ap (λ t. call_at t step told) turns ∙ ap (call_at (turn_of a) step) same;
       audit = made;
+      segments = settles.numbers;
     } in
     subst (λ (o : Content). Serves o seat step served (record { machine = n; audit = b; left = rest })) view there
 
 -- what a step under the lock is to its caller
-pub is_served : {E : Type 0} (old new : Content) (seat : ℕ) (step : Step) (r : Result Served E) → IfOk r (λ served. Serves old seat step served new) → IfOk r (λ served. IsServed step served)
-is_served old new seat step (Ok served) h = record { turn = turn_of old.audit; reply = h.reply; receipt = h.receipt; mine = h.mine }
-is_served old new seat step (Err e) h = h
+pub is_served : {E : Type 0} (old new : Option Content) (number seat : ℕ) (step : Step) (r : Result Served E) → IfOk r (λ served. ServesThere old number seat step served new) → IfOk r (λ served. IsServed number seat step served)
+is_served old new number seat step (Ok served) h = record {
+  log = h.before.audit;
+  state = h.serves.state;
+  reply = h.serves.reply;
+  tenant = h.number_is;
+  leads = h.serves.leads;
+  answer = h.serves.answer;
+  receipt = h.serves.receipt ∙ ap (λ n. slip_of n seat (turn_of h.before.audit) h.serves.reply) h.number_is;
+  mine = h.serves.mine;
+}
+is_served old new number seat step (Err e) h = h
 
 -- ---- another quota
 
@@ -307,3 +334,72 @@ opened_kept m a left o n is holds share held =
       holds = holds;
       lent = subst (λ (s : Share). IsLent s (loan_of left)) (sym share) lent;
     })
+
+-- ---- the numbers of segments
+
+-- no new segment
+pub no_numbers : (s : StockState) → s ≡ new_stock 0 → s.numbers ≡ []
+unfolding all_below
+no_numbers s none = ap (λ (x : StockState). x.numbers) none
+
+-- those of a tenant that was just opened were free
+pub opened_segments : (from to left made drawn : List ℕ) → made ≡ [] → drawn ≡ [] → IsPermutation (from ++ made) (to ++ left) → IsPermutation from (to ++ (left ++ drawn))
+opened_segments from to left made drawn none undrawn moved =
+    subst (λ (d : List ℕ). IsPermutation from (to ++ (left ++ d))) (sym undrawn)
+    (subst (λ (l : List ℕ). IsPermutation from (to ++ l)) (sym (append-nil left))
+    (subst (λ (f : List ℕ). IsPermutation f (to ++ left)) (ap (λ (n : List ℕ). from ++ n) none ∙ append-nil from) moved))
+
+-- those that go from the free ones to a tenant and back are all there
+pub moved_segments : (f g h l k j drawn : List ℕ) → IsPermutation (f ++ l) (g ++ k) → IsPermutation (k ++ g) (j ++ h) → IsPermutation (f ++ (l ++ drawn)) (h ++ (j ++ drawn))
+moved_segments f g h l k j drawn out back =
+    let all : IsPermutation (f ++ l) (h ++ j) =
+    IsPermutation-trans (f ++ l) (g ++ k) (h ++ j) out
+    (IsPermutation-trans (g ++ k) (k ++ g) (h ++ j) (IsPermutation-append_comm g k) (IsPermutation-trans (k ++ g) (j ++ h) (h ++ j) back (IsPermutation-append_comm j h))) in
+    subst (λ (x : List ℕ). IsPermutation x (h ++ (j ++ drawn))) (append_assoc f l drawn)
+    (subst (λ (x : List ℕ). IsPermutation ((f ++ l) ++ drawn) x) (append_assoc h j drawn) (IsPermutation-append_left drawn (f ++ l) (h ++ j) all))
+
+-- so they are over another quota
+pub resized_segments : (old : Content) (m n r : MachineState) (a : Log) (left : StockState) (quota segments : ℕ) (f g h l k j from : List ℕ) → record { machine = m; audit = a; left = left } ≡ old
+    → r ≡ roomier segments m → n ≡ with_quota quota r → f ≡ from → l ≡ left.numbers → IsPermutation (f ++ l) (g ++ k) → IsPermutation (k ++ g) (j ++ h)
+    → IsPermutation (from ++ segments_of old) (h ++ (j ++ n.store.share.numbers))
+resized_segments old m n r a left quota segments f g h l k j from view rooms has same kept out back =
+    let drawn : n.store.share.numbers ≡ m.store.share.numbers = ap (λ (x : MachineState). x.store.share.numbers) (has ∙ ap (with_quota quota) rooms) in
+    let moved : IsPermutation (f ++ (l ++ m.store.share.numbers)) (h ++ (j ++ m.store.share.numbers)) = moved_segments f g h l k j m.store.share.numbers out back in
+    subst (λ (o : Content). IsPermutation (from ++ segments_of o) (h ++ (j ++ n.store.share.numbers))) view
+    (subst (λ (d : List ℕ). IsPermutation (from ++ (left.numbers ++ m.store.share.numbers)) (h ++ (j ++ d))) (sym drawn)
+    (subst (λ (x : List ℕ). IsPermutation (from ++ (x ++ m.store.share.numbers)) (h ++ (j ++ m.store.share.numbers))) kept
+    (subst (λ (x : List ℕ). IsPermutation (x ++ (l ++ m.store.share.numbers)) (h ++ (j ++ m.store.share.numbers))) same moved)))
+
+-- those that a tenant gives back are free
+empty : {X : Type 0} (xs : List X) → length xs ≡ 0 → xs ≡ []
+empty [] h = refl
+empty (x ∷ xs) h = absurd (omega (arith, h))
+
+pub none_left : {A : Type 0} (s : StockState) (v : Vec Segment A) (room : ℕ) → record { held = v.len; room = room; numbers = numbers_of v.items } ≡ s → s.held ≡ 0 → s.numbers ≡ []
+none_left s v room view none =
+    let held : v.len ≡ s.held = ap (λ (x : StockState). x.held) view in
+    let count : length v.items ≡ 0 = omega (arith, v.ok.0, held, none) in
+    sym (ap (λ (x : StockState). x.numbers) view) ∙ ap numbers_of (empty v.items count)
+
+given_back : (f g own l : List ℕ) → IsPermutation own (l ++ []) → IsPermutation (l ++ f) g → IsPermutation (f ++ own) g
+given_back f g own l back moved =
+    let given : IsPermutation own l = subst (λ (x : List ℕ). IsPermutation own x) (append-nil l) back in
+    IsPermutation-trans (f ++ own) (f ++ l) g (IsPermutation-append_right f own l given) (IsPermutation-trans (f ++ l) (l ++ f) g (IsPermutation-append_comm f l) moved)
+
+pub gives_back : (old : Content) (m : MachineState) (a : Log) (left free roomy to given k : StockState) (room count : ℕ) → record { machine = m; audit = a; left = left } ≡ old → IsLent m.store.share (loan_of left)
+    → Settles m.store.share (loan_of left) (returned m.store.share) (loan_of given) → roomy ≡ record free { room = room } → count ≡ given.held → to.held ≡ roomy.held + count
+    → IsPermutation (given.numbers ++ roomy.numbers) (k.numbers ++ to.numbers) → k.numbers ≡ [] → GivesBack free old to
+gives_back old m a left free roomy to given k room count view lent settles made is moved numbers none =
+    let held : roomy.held ≡ free.held = ap (λ (s : StockState). s.held) made in
+    let same : roomy.numbers ≡ free.numbers = ap (λ (s : StockState). s.numbers) made in
+    let all : IsPermutation (given.numbers ++ free.numbers) to.numbers =
+    subst (λ (x : List ℕ). IsPermutation (given.numbers ++ x) to.numbers) same (subst (λ (x : List ℕ). IsPermutation (given.numbers ++ roomy.numbers) (x ++ to.numbers)) none numbers) in
+    subst (λ (o : Content). GivesBack free o to) view (record {
+      held = omega (arith, held, lent.left, settles.left, is, moved);
+      segments = given_back free.numbers to.numbers (left.numbers ++ m.store.share.numbers) given.numbers settles.numbers all;
+    })
+
+-- what was done unless it failed
+pub on_ok : {T E P : Type 0} (r : Result T E) → is_err r ≡ false → OnOk r P → P
+on_ok (Ok x) h p = p
+on_ok (Err e) h p = absurd (cc)

@@ -1,5 +1,5 @@
 -- What lies under a tenant's lock.
-use Rattle.std.specs.Prelude.{◌≡◌, ℕ, ◌+◌, List, [], ◌∷◌, refl}
+use Rattle.std.specs.Prelude.{◌≡◌, ℕ, ◌+◌, List, [], ◌∷◌, ◌++◌, refl}
 use Rattle.std.specs.Coded.{Coded, code_by, coded×, coded_ℕ, coded_list}
 use Rattle.cell_arena.specs.Loan.{Loan, IsLent}
 use Rattle.etcd_model.specs.Held.{Holds}
@@ -12,6 +12,10 @@ pub record Content : Type 0 where
   pub machine : MachineState
   pub audit : Log
   pub left : StockState
+
+-- the numbers of its segments, those that are left and those that are drawn
+abbrev pub segments_of : Content → List ℕ
+segments_of c = c.left.numbers ++ c.machine.store.share.numbers
 
 abbrev pub stock_code : Coded StockState
 stock_code =

@@ -3,6 +3,7 @@ pub mod Serving
 pub mod KeptInside
 pub mod Registries
 pub mod Adding
+pub mod Calling
 pub mod Resizing
 pub mod Removing
 pub mod RegistryInside

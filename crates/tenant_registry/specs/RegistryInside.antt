@@ -7,8 +7,10 @@ use Rattle.tenant_registry.specs.Registries.{RegistryState, tenants_of}
 abbrev pub registry_of : Inside → RegistryState
 registry_of r = record {
   tenants = tenants_of r.tenants.entries;
+  next = r.next;
   given = r.given;
   gone = map (λ name. name.items) r.gone.items;
+  made = r.supply;
 }
 
 -- at most 64 seats were given, and there is room to compare all tenants' audits

@@ -1,11 +1,19 @@
 -- The end of a tenant.
-use Rattle.std.specs.Prelude.{ℕ, not, List, [], ◌∷◌, ◌++◌, Option, Some, None, if◌then◌else◌}
+use Rattle.std.specs.Prelude.{ℕ, ◌+◌, ◌≡◌, not, List, [], ◌∷◌, ◌++◌, Option, Some, None, if◌then◌else◌}
+use Rattle.std.specs.List.Sorted.{IsPermutation}
 use Rattle.std.specs.Str.{bytes_eq}
 use Rattle.std.specs.Map.{remove_entry}
 use Rattle.steps_core.specs.declared.adding.OperatorFault.{OperatorFault}
 use Rattle.steps_core.specs.declared.adding.OperatorFault.TheVariants.{Name, NoTenant}
 use Rattle.steps_core.specs.Adding.{is_name}
+use Rattle.etcd_model.specs.Pool.{StockState}
+use Rattle.tenant_registry.specs.Keeping.{Content, segments_of}
 use Rattle.tenant_registry.specs.Registries.{RegistryState, has_tenant}
+
+-- free are those that were, and all that a tenant had
+pub record GivesBack (from : StockState) (old : Content) (to : StockState) : Type 0 where
+  pub held : to.held ≡ from.held + old.machine.store.share.reserved
+  pub segments : IsPermutation (from.numbers ++ segments_of old) to.numbers
 
 -- the first reason not to remove a tenant
 abbrev pub remove_fault : RegistryState → List ℕ → Option OperatorFault

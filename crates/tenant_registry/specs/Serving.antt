@@ -1,29 +1,68 @@
 -- What one step under a tenant's lock leaves.
-use Rattle.std.specs.Prelude.{◌≡◌, ◌≢◌, ℕ, Option}
+use Rattle.std.specs.Prelude.{◌≡◌, ◌≢◌, ℕ, List, [], Option, Some}
+use Rattle.std.specs.List.Sorted.{IsPermutation}
 use Rattle.etcd_types.specs.declared.step.Step.{Step}
 use Rattle.etcd_types.specs.declared.refusal.Refusal.TheVariants.{Memory}
 use Rattle.etcd_types.specs.declared.reply.Reply.{Reply}
 use Rattle.etcd_types.specs.declared.reply.Reply.TheVariants.{Refused}
 use Rattle.tenant_machine.specs.Plans.{Steps}
 use Rattle.tenant_registry.specs.declared.kept.Served.{Served}
-use Rattle.tenant_audit.specs.Audits.{entry, turn_of, with_entry_at}
-use Rattle.tenant_registry.specs.Keeping.{Content}
-use Rattle.tenant_audit.specs.Receipts.{slip_of}
+use Rattle.etcd_model.specs.declared.state.History.{History}
+use Rattle.etcd_model.specs.declared.state.State.{State}
+use Rattle.etcd_model.specs.Machine.{machine}
+use Rattle.tenant_audit.specs.Audits.{Act, IsLawful, IsOpen, Log, end_of, entry, state_after_acts, turn_of, with_entry_at}
+use Rattle.tenant_registry.specs.Keeping.{Content, segments_of}
+use Rattle.tenant_audit.specs.Receipts.{Slip, slip_of}
 use Rattle.tenant_audit.specs.Seats.{call_at}
 
+-- A state of the written machine to which a tenant's acts have led from its opening: those of its audit, and then those
+-- that came once that was full.
+pub record LeadsTo (log : Log) (S : State History) : Type 0 where
+  pub lawful : IsLawful log
+  pub later : List Act
+  pub none : IsOpen log → later ≡ []
+  pub is : S ≡ state_after_acts (end_of log) later
+
+-- The receipt of one call on the tenant of its number, by a seat: the text is that of the written machine's reply to
+-- this step, in a state of that tenant.
+pub record IsReceipt (seat : ℕ) (step : Step) (receipt : Slip) : Type 0 where
+  pub log : Log
+  pub state : State History
+  pub tenant : log.opening.number ≡ receipt.number
+  pub leads : LeadsTo log state
+  pub text : receipt ≡ slip_of receipt.number seat (turn_of log) (machine state step).reply
+
 -- One step of the machine, with one reply. It is kept with the reply unless the audit is full, and the
--- receipt is the reply's text.
+-- receipt is the reply's text, under the tenant's number. Its segments are those that it had.
 pub record Serves (old : Content) (seat : ℕ) (step : Step) (served : Served) (new : Content) : Type 0 where
   pub reply : Reply
   pub spoken : reply ≢ Refused Memory
   pub steps : Steps old.machine step reply new.machine
-  pub receipt : served.receipt ≡ slip_of (turn_of old.audit) reply
+  pub state : State History
+  pub leads : LeadsTo old.audit state
+  pub answer : reply ≡ (machine state step).reply
+  pub receipt : served.receipt ≡ slip_of old.audit.opening.number seat (turn_of old.audit) reply
   pub mine : served.mine ≡ call_at (turn_of old.audit) step reply
   pub audit : new.audit ≡ with_entry_at (turn_of old.audit) old.audit (entry seat step reply)
+  pub segments : IsPermutation (segments_of old) (segments_of new)
 
--- what a caller sees of that: the receipt and the call are of one reply to this step
-pub record IsServed (step : Step) (served : Served) : Type 0 where
-  pub turn : Option ℕ
+-- the tenant of that number is there, and serves the step once
+pub record ServesThere (old : Option Content) (number seat : ℕ) (step : Step) (served : Served) (new : Option Content)
+    : Type 0 where
+  pub before : Content
+  pub after : Content
+  pub there : old ≡ Some before
+  pub stays : new ≡ Some after
+  pub number_is : before.audit.opening.number ≡ number
+  pub serves : Serves before seat step served after
+
+-- what a caller sees of that: the receipt, of that tenant and seat, and the call are of one reply to this step
+pub record IsServed (number seat : ℕ) (step : Step) (served : Served) : Type 0 where
+  pub log : Log
+  pub state : State History
   pub reply : Reply
-  pub receipt : served.receipt ≡ slip_of turn reply
-  pub mine : served.mine ≡ call_at turn step reply
+  pub tenant : log.opening.number ≡ number
+  pub leads : LeadsTo log state
+  pub answer : reply ≡ (machine state step).reply
+  pub receipt : served.receipt ≡ slip_of number seat (turn_of log) reply
+  pub mine : served.mine ≡ call_at (turn_of log) step reply

@@ -3,8 +3,9 @@ ghost use Rattle.std.specs.Prelude.{◌≡◌, ◌+◌, ◌++◌, ◌∷◌, [],
 ghost use Rattle.std.specs.Prelude.{IfErr, IfOk, OnErr, OnOk};
 ghost use Rattle.cell_arena.specs.Loan.{segments_for};
 ghost use Rattle.steps_core.specs.Adding.{within_limits};
-ghost use Rattle.tenant_registry.specs.Adding.{config_fault, fault_beside, new_fault, opened, opening_for};
-ghost use Rattle.tenant_registry.specs.Registries.{is_among, tenants_of};
+ghost use Rattle.tenant_registry.specs.Adding.{config_fault, fault_beside, is_one_of, name_of, new_fault};
+ghost use Rattle.tenant_registry.specs.Adding.{opened, opening_for};
+ghost use Rattle.tenant_registry.specs.Registries.{names_in, tenants_of};
 
 use crate::kept::Kept;
 use crate::tenant::Tenant;
@@ -12,8 +13,8 @@ use etcd_types::Mem;
 use etcd_types::limits::{MAX_AUDIT, MAX_SEGMENTS, MAX_TENANTS};
 use indexmap::IndexMap;
 use segment_pool::Stock;
-use std::alloc::Global;
-use std::sync::Mutex;
+use std::alloc::{AllocError, Global};
+use std::sync::{Arc, Mutex};
 use steps_core::{OperatorFault, is_name, within_limits};
 use tenant_audit::Opening;
 use tenant_machine::segments_for;
@@ -34,12 +35,13 @@ pub struct TenantConfig {
 }
 
 impl TenantConfig {
-    /// What the tenant is opened with.
-    fn opening(&self) -> Opening
+    /// What the tenant is opened with, under a number.
+    fn opening(&self, number: u64) -> Opening
         requires { within_limits self.now.cluster self.now.quota self.now.first ≡ true }
-        ensures { result ≡ opening_for self.now }
+        ensures { result ≡ opening_for number self.now }
     {
         Opening {
+            number,
             cluster: self.cluster,
             quota: self.quota as u32,
             first: self.first as i64,
@@ -70,9 +72,9 @@ fn left_beside(
     there: &[TenantConfig],
     config: &TenantConfig,
 ) -> Result<u32, OperatorFault>
-    ensures ok { OnOk result (config_fault free (map opened there.now) config.now ≡ None) }
+    ensures ok { OnOk result (config_fault free (map name_of there.now) config.now ≡ None) }
     ensures left { IfOk result (λ left. left + segments_for config.now.quota ≡ free) }
-    ensures fault { IfErr result (λ f. config_fault free (map opened there.now) config.now ≡ Some f) }
+    ensures fault { IfErr result (λ f. config_fault free (map name_of there.now) config.now ≡ Some f) }
 {
     let taken = is_taken(there, config.name.as_slice());
     left_of(free, there.len(), taken, config)
@@ -111,7 +113,7 @@ pub(crate) fn left_of(
 
 /// One of these tenants has the name.
 fn is_taken(there: &[TenantConfig], name: &[u8]) -> bool
-    ensures { result ≡ is_among (map opened there.now) name.now }
+    ensures { result ≡ is_one_of (map name_of there.now) name.now }
 {
     for config in there {
         if name == config.name.as_slice() {
@@ -121,27 +123,33 @@ fn is_taken(there: &[TenantConfig], name: &[u8]) -> bool
     false
 }
 
-/// Takes in a tenant that nothing speaks against, with the segments that its quota takes. If it finds no
-/// memory, nothing changed.
+/// Takes in a tenant that nothing speaks against, under a number, with the segments that its quota takes. If
+/// it finds no memory, nothing changed.
 pub(crate) fn admit(
     alloc: Global,
     tenants: &mut IndexMap<Vec<u8>, Tenant>,
     free: &mut Stock,
+    number: u64,
     config: &TenantConfig,
 ) -> Mem<()>
-    requires { config_fault free.old.held (tenants_of tenants.old.entries) config.now ≡ None }
+    requires { config_fault free.old.held (names_in (tenants_of tenants.old.entries)) config.now ≡ None }
     ensures adds { OnOk result
-        (tenants_of tenants.new.entries ≡ tenants_of tenants.old.entries ++ opened config.now ∷ []) }
+        (tenants_of tenants.new.entries ≡ tenants_of tenants.old.entries ++ opened number config.now ∷ []) }
     ensures moved { OnOk result (free.new.held + segments_for config.now.quota ≡ free.old.held) }
     ensures tenants { OnErr result (tenants_of tenants.new.entries ≡ tenants_of tenants.old.entries) }
     ensures free { OnErr result (free.new ≡ free.old) }
 {
-    let opening = config.opening();
+    let opening = config.opening(number);
     let name = Vec::from_slice(alloc, config.name.as_slice())?;
     tenants.reserve(1)?;
+    let mut kept = Arc::new(alloc, Mutex::new(None))?;
+    let Some(lock) = Arc::get_mut(&mut kept) else {
+        // Nobody else has it.
+        return Err(AllocError);
+    };
     // The segments are moved last: a tenant that is dropped would take its own with it.
-    let kept = Kept::open(alloc, opening, free)?;
-    let kept = Mutex::new(kept);
+    let opened = Kept::open(alloc, opening, free)?;
+    *lock.get_mut() = Some(opened);
     let Ok(_) = tenants.insert(name, Tenant { opening, kept }) else {
         unreachable!()
     };

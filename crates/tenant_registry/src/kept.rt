@@ -1,33 +1,56 @@
 //! What lies under a tenant's lock, how a step is served there, and another quota.
-ghost use Rattle.std.specs.Prelude.{◌≡◌, ◌+◌, ◌≤◌, false, IfErr, IfOk, OnOk, OnErr};
+ghost use Rattle.std.specs.Prelude.{◌≡◌, ◌+◌, ◌++◌, ◌≤◌, false, None, IfErr, IfOk, IfSome, IsOk, OnOk, OnErr};
+ghost use Rattle.std.specs.List.Sorted.{IsPermutation};
 ghost use Rattle.cell_arena.specs.Loan.{segments_for};
 ghost use Rattle.etcd_model.specs.Held.{Holds};
 ghost use Rattle.etcd_types.specs.Limits.{max_quota};
 ghost use Rattle.tenant_machine.specs.Reserving.{reservation};
 ghost use Rattle.tenant_machine.specs.Tenants.{tenant};
+ghost use Rattle.steps_core.specs.declared.adding.OperatorFault.TheVariants.{Short};
 ghost use Rattle.tenant_audit.specs.Audits.{IsAllowed, IsLawful, opened_log, opening_of};
-ghost use Rattle.tenant_audit.specs.Receipts.{is_cancel, slip_of, slot_of};
-ghost use Rattle.tenant_registry.specs.Resizing.{Resizes, Stays, lacks_segments, unresized};
-ghost use Rattle.tenant_audit.specs.Seats.{call_at};
+ghost use Rattle.tenant_audit.specs.Receipts.{is_cancel, refusal_of, slip_of, slot_of};
+ghost use Rattle.tenant_registry.specs.Keeping.{segments_of};
+ghost use Rattle.tenant_registry.specs.Removing.{GivesBack};
+ghost use Rattle.tenant_registry.specs.Resizing.{HoldsSame, Resizes, Stays, lacks_segments, unresized};
+ghost use Rattle.tenant_audit.specs.Seats.{AddsCall, AddsMissed, HasRoomOn, call_at};
 ghost use Rattle.tenant_registry.specs.Serving.{Serves};
 
-use etcd_types::{Mem, Reply, Step};
+use crate::usage::Usage;
+use etcd_types::{Mem, Refusal, Reply, Step};
 use gateway_text::write_reply;
 use segment_pool::Stock;
 use std::alloc::Global;
 use std::marker::Model;
 use steps_core::OperatorFault;
-use tenant_audit::{Audit, Entry, MadeCall, Opening};
+use tenant_audit::{Audit, Entry, MadeCall, Opening, Seat};
 use tenant_machine::{Hint, Machine, segments_for};
 
 /// What a call was answered. Only `Kept::serve` makes one.
-#[derive(Debug, Drop)]
+#[derive(Debug)]
 pub struct Receipt {
+    number: u64,
+    seat: u8,
     turn: Option<u32>,
     status: u16,
     body: Vec<u8>,
     slot: Option<u8>,
     canceled: bool,
+    refusal: Option<Refusal>,
+}
+
+impl Drop for Receipt {
+    fn drop(self) {
+        let Receipt {
+            number: _,
+            seat: _,
+            turn: _,
+            status: _,
+            body: _,
+            slot: _,
+            canceled: _,
+            refusal: _,
+        } = self;
+    }
 }
 
 impl Model for Receipt {
@@ -36,15 +59,32 @@ impl Model for Receipt {
     ghost Value = { Slip };
 
     ghost view = { λ r. record {
+      number = r.number;
+      seat = r.seat;
       turn = r.turn;
       status = r.status;
       body = r.body.items;
       slot = r.slot;
       canceled = r.canceled;
+      refusal = r.refusal;
     } };
 }
 
 impl Receipt {
+    /// The number of the tenant that was called.
+    pub fn number(&self) -> u64
+        ensures { result ≡ self.now.number }
+    {
+        self.number
+    }
+
+    /// The number of the seat that called it.
+    pub fn seat(&self) -> u8
+        ensures { result ≡ self.now.seat }
+    {
+        self.seat
+    }
+
     /// The call's place in the audit, counted from 0, unless the audit was full.
     pub fn turn(&self) -> Option<u32>
         ensures { result ≡ self.now.turn }
@@ -70,7 +110,17 @@ impl Receipt {
     pub fn into_body(self) -> Vec<u8>
         ensures { result.items ≡ self.body }
     {
-        self.body
+        let Receipt {
+            number: _,
+            seat: _,
+            turn: _,
+            status: _,
+            body,
+            slot: _,
+            canceled: _,
+            refusal: _,
+        } = self;
+        body
     }
 
     /// The slot of the watch that the call created.
@@ -87,17 +137,27 @@ impl Receipt {
         self.canceled
     }
 
-    /// The receipt of a reply, with its text.
-    fn of(alloc: Global, turn: Option<u32>, reply: &Reply) -> Mem<Receipt>
-        ensures { IfOk result (λ receipt. receipt ≡ slip_of turn reply.now) }
+    /// Why the call was refused, if it was.
+    pub fn refusal(&self) -> Option<Refusal>
+        ensures { result ≡ self.now.refusal }
+    {
+        self.refusal
+    }
+
+    /// The receipt of a tenant's reply to a seat, with its text.
+    fn of(alloc: Global, number: u64, seat: u8, turn: Option<u32>, reply: &Reply) -> Mem<Receipt>
+        ensures { IfOk result (λ receipt. receipt ≡ slip_of number seat turn reply.now) }
     {
         let (status, body) = write_reply(alloc, reply)?;
         Ok(Receipt {
+            number,
+            seat,
             turn,
             status,
             body,
             slot: slot_of(reply),
             canceled: is_cancel(reply),
+            refusal: refusal_of(reply),
         })
     }
 }
@@ -119,23 +179,103 @@ fn is_cancel(reply: &Reply) -> bool
     matches!(reply, Reply::Canceled { .. })
 }
 
-/// A step that was served.
-#[derive(Drop)]
+/// Why a call was refused that was replied so.
+fn refusal_of(reply: &Reply) -> Option<Refusal>
+    ensures { result ≡ refusal_of reply.now }
+{
+    match reply {
+        Reply::Refused(refusal) => Some(*refusal),
+        _ => None,
+    }
+}
+
+/// A step that was served. It can't be let go, so that no step is served which no seat keeps.
 pub struct Served {
-    pub receipt: Receipt,
+    receipt: Receipt,
     /// The call as its seat keeps it, unless the audit was full.
-    pub(crate) mine: Option<MadeCall>,
+    mine: Option<MadeCall>,
 }
 
 impl Served {
-    /// What a call is given of a reply.
-    fn of(alloc: Global, turn: Option<u32>, step: &Step, reply: &Reply) -> Mem<Served>
-        ensures receipt { IfOk result (λ served. served.receipt ≡ slip_of turn reply.now) }
+    /// What a seat's call of a tenant is given of a reply.
+    fn of(
+        alloc: Global,
+        number: u64,
+        seat: u8,
+        turn: Option<u32>,
+        step: &Step,
+        reply: &Reply,
+    ) -> Mem<Served>
+        ensures receipt { IfOk result (λ served. served.receipt ≡ slip_of number seat turn reply.now) }
         ensures mine { IfOk result (λ served. served.mine ≡ call_at turn step.now reply.now) }
     {
-        let receipt = Receipt::of(alloc, turn, reply)?;
+        let receipt = Receipt::of(alloc, number, seat, turn, reply)?;
         let mine = MadeCall::copy_at(alloc, turn, step, reply)?;
         Ok(Served { receipt, mine })
+    }
+
+    /// Gives its receipt, and keeps the call on a seat's list of its tenant's calls, or counts it there if it has no turn.
+    pub(crate) fn keep(self, seat: &mut Seat, tenant: &[u8]) -> Receipt
+        requires { HasRoomOn tenant.now seat.old }
+        ensures receipt { result ≡ self.receipt }
+        ensures call { IfSome self.mine (λ call. AddsCall tenant.now call seat.old seat.new) }
+        ensures missed { self.mine ≡ None → AddsMissed tenant.now seat.old seat.new }
+    {
+        let Served { receipt, mine } = self;
+        match mine {
+            Some(call) => seat.record(tenant, call),
+            None => seat.miss(tenant),
+        }
+        receipt
+    }
+}
+
+/// A tenant got another quota. Only `Kept::resize` makes one.
+#[derive(Debug, Drop)]
+pub struct Resized {
+    number: u64,
+    quota: u32,
+}
+
+impl Model for Resized {
+    ghost use Rattle.tenant_registry.specs.Resizing.{ResizedState};
+
+    ghost Value = { ResizedState };
+
+    ghost view = { λ r. record { number = r.number; quota = r.quota } };
+}
+
+impl Resized {
+    /// The number of the tenant that got it.
+    pub fn number(&self) -> u64
+        ensures { result ≡ self.now.number }
+    {
+        self.number
+    }
+
+    /// The cells that the tenant may use since.
+    pub fn quota(&self) -> u32
+        ensures { result ≡ self.now.quota }
+    {
+        self.quota
+    }
+}
+
+/// A tenant was ended. Only `Kept::end` makes one.
+#[derive(Drop)]
+pub(crate) struct Ended {
+    audit: Audit,
+    /// How many segments went to the free ones.
+    segments: u32,
+}
+
+impl Ended {
+    /// The tenant's audit.
+    pub(crate) fn into_audit(self) -> Audit
+        ensures { result ≡ self.audit }
+    {
+        let Ended { audit, segments: _ } = self;
+        audit
     }
 }
 
@@ -174,6 +314,9 @@ impl Kept {
         ensures holds { IfOk result (λ kept. Holds (opening_of opening) (tenant kept.machine)) }
         ensures audit { IfOk result (λ kept. kept.audit ≡ opened_log opening) }
         ensures moved { OnOk result (free.new.held + segments_for opening.quota ≡ free.old.held) }
+        ensures segments { IfOk result
+            (λ kept. IsPermutation free.old.numbers (free.new.numbers ++ segments_of kept)) }
+        ensures room { IfOk result (λ kept. kept.left.room ≡ 0) }
         ensures err { OnErr result (free.new ≡ free.old) }
     {
         let segments = segments_for(opening.quota);
@@ -192,16 +335,24 @@ impl Kept {
         })
     }
 
+    /// What it was opened with.
+    pub(crate) fn opening(&self) -> Opening
+        ensures { result ≡ self.now.audit.opening }
+    {
+        self.audit.opening()
+    }
+
     /// Serves one step of the machine. Unless the audit is full, it keeps the step with its reply. All memory
     /// is taken before the commit, and if there is none, nothing changes.
     pub fn serve(&mut self, seat: u8, step: Step) -> Mem<Served>
         ensures ok { IfOk result (λ served. Serves self.old seat step served self.new) }
         ensures err { OnErr result (self.new ≡ self.old) }
     {
+        let number = self.audit.opening().number;
         let turn = self.audit.next_turn();
         let planned = self.machine.plan(self.alloc, &step)?;
         let told = planned.reply();
-        let served = Served::of(self.alloc, turn, &step, told)?;
+        let served = Served::of(self.alloc, number, seat, turn, &step, told)?;
         let reply = self.machine.commit(&mut self.left, planned);
         self.audit.keep(Entry { seat, step, reply });
         Ok(served)
@@ -217,23 +368,39 @@ impl Kept {
         self.machine.weight(self.alloc, step, enough)
     }
 
+    /// What it uses.
+    pub(crate) fn usage(&self) -> Mem<Usage> {
+        let drawn = self.reserved.saturating_sub(self.left.held());
+        Usage::of(
+            self.alloc,
+            self.audit.opening(),
+            &self.machine,
+            self.reserved,
+            drawn,
+        )
+    }
+
     /// Gives the tenant another quota of so many cells, also one below what it uses, and reserves the segments
     /// that it takes with it: they come from the free ones, or go there. Nothing else of the tenant changes.
     /// Unless the audit is full, it keeps the quota. After a fault nothing changed but for rooms.
-    pub fn resize(&mut self, quota: u32, free: &mut Stock) -> Result<(), OperatorFault>
+    pub fn resize(&mut self, quota: u32, free: &mut Stock) -> Result<Resized, OperatorFault>
         requires quota { quota ≤ max_quota }
+        ensures told { IfOk result
+            (λ told. told ≡ record { number = self.old.audit.opening.number; quota = quota }) }
         ensures ok { OnOk result (Resizes quota self.old free.old self.new free.new) }
         ensures enough { OnOk result (lacks_segments quota self.old free.old ≡ false) }
         ensures fault { IfErr result (λ f. f ≡ unresized quota self.old free.old) }
         ensures err { OnErr result (Stays self.old self.new) }
-        ensures free { OnErr result (free.new.held ≡ free.old.held) }
+        ensures free { OnErr result (HoldsSame free.old free.new) }
+        ensures short { IfErr result (λ f. f ≡ Short → (self.new ≡ self.old) × (free.new ≡ free.old)) }
     {
         let segments = self.machine.reservation(quota);
         if segments.saturating_sub(self.reserved) > free.held() {
             return Err(OperatorFault::Short);
         }
+        let number = self.audit.opening().number;
         match self.reserve(quota, segments, free) {
-            Ok(()) => Ok(()),
+            Ok(()) => Ok(Resized { number, quota }),
             Err(_) => Err(OperatorFault::Memory),
         }
     }
@@ -245,7 +412,7 @@ impl Kept {
         requires enough { lacks_segments quota self.old free.old ≡ false }
         ensures ok { OnOk result (Resizes quota self.old free.old self.new free.new) }
         ensures err { OnErr result (Stays self.old self.new) }
-        ensures free { OnErr result (free.new.held ≡ free.old.held) }
+        ensures free { OnErr result (HoldsSame free.old free.new) }
     {
         let drawn = self.reserved - self.left.held();
         let more = segments.saturating_sub(self.reserved);
@@ -264,11 +431,12 @@ impl Kept {
 
     /// Ends the tenant: all its segments go to the free ones, as they are, and its audit is handed out. If
     /// there is no memory to hold them there, nothing changes, and the tenant comes back.
-    pub(crate) fn end(self, free: &mut Stock) -> Result<Audit, Kept>
-        ensures same { IfOk result (λ audit. audit ≡ self.audit) }
-        ensures lawful { IfOk result (λ audit. IsLawful audit) }
-        ensures back { OnOk result
-            (free.new.held ≡ free.old.held + self.machine.store.share.reserved) }
+    pub(crate) fn end(self, free: &mut Stock) -> Result<Ended, Kept>
+        ensures same { IfOk result (λ ended. ended.audit ≡ self.audit) }
+        ensures lawful { IfOk result (λ ended. IsLawful ended.audit) }
+        ensures count { IfOk result (λ ended. ended.segments ≡ self.machine.store.share.reserved) }
+        ensures back { OnOk result (GivesBack free.old self free.new) }
+        ensures sure { self.machine.store.share.reserved ≤ free.old.room → IsOk result }
         ensures kept { IfErr result (λ kept. kept ≡ self) }
         ensures err { OnErr result (free.new ≡ free.old) }
     {
@@ -279,14 +447,14 @@ impl Kept {
             machine,
             audit,
             mut left,
-            reserved: _,
+            reserved: segments,
             alloc: _,
         } = self;
         // A machine that is dropped would take the segments with it that it drew.
         machine.give_up(&mut left);
         let count = left.held();
         left.move_to(free, count);
-        Ok(audit)
+        Ok(Ended { audit, segments })
     }
 
     /// Its audit.

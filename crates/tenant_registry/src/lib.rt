@@ -9,13 +9,17 @@ mod adding;
 mod close;
 mod gate;
 mod kept;
+mod key;
 mod registry;
 mod removing;
 mod tenant;
+mod usage;
 
 pub use adding::{TenantConfig, check};
 pub use gate::{Gate, OpenGate};
-pub use kept::{Kept, Receipt, Served};
+pub use kept::{Kept, Receipt, Resized, Served};
+pub use key::Key;
 pub use registry::{Registry, SeatFault};
 pub use tenant_audit::{Audit, CloseFault, Closed, Entry, Opening, Seat};
 pub use tenant_machine::Hint;
+pub use usage::Usage;

@@ -1,34 +1,37 @@
 //! All tenants, by name, each under a lock of its own.
-ghost use Rattle.std.specs.Prelude.{◌≡◌, ◌≢◌, ◌+◌, ◌≤◌, [], true, false, map, None, Some, Err, IfErr, IfOk};
+ghost use Rattle.std.specs.Prelude.{◌≡◌, ◌≢◌, ◌+◌, ◌≤◌, ◌⊎◌, [], true, false, map, None, Some, Err, IfErr, IfOk, IfSome};
 ghost use Rattle.std.specs.Prelude.{OnErr, OnOk, Bool, if◌then◌else◌, is_some, option_map, slice_get};
 ghost use Rattle.etcd_types.specs.Limits.{max_quota};
 ghost use Rattle.steps_core.specs.declared.adding.OperatorFault.TheVariants.{Memory, Short};
 ghost use Rattle.tenant_registry.specs.Adding.{CanAdd, IsUnadded, new_fault, new_registry, unmade, with_tenant};
+ghost use Rattle.tenant_registry.specs.Adding.{segments_fault, with_segments};
 ghost use Rattle.tenant_audit.specs.Audits.{IsLawful};
 ghost use Rattle.tenant_audit.specs.Closed.{AreClosed, HasFault, audits_of};
-ghost use Rattle.tenant_registry.specs.Registries.{has_tenant, is_taken, names_of, no_seat, unserved};
+ghost use Rattle.tenant_registry.specs.Registries.{IsLent, has_tenant, is_taken, names_of, no_seat, number_in};
+ghost use Rattle.tenant_registry.specs.Registries.{opening_in, unserved};
 ghost use Rattle.tenant_registry.specs.Removing.{remove_fault, without};
 ghost use Rattle.tenant_registry.specs.Resizing.{CanResize, IsUnresized};
 ghost use Rattle.tenant_audit.specs.Seats.{Keeps, KeepsLists};
-ghost use Rattle.tenant_registry.specs.Serving.{IsServed};
+ghost use Rattle.tenant_registry.specs.Serving.{IsReceipt, IsServed, ServesThere};
+ghost use Rattle.tenant_registry.specs.Calling.{IsUncalled};
 
 use crate::adding::{TenantConfig, admit, check, left_of};
 use crate::close::close;
 use crate::gate::{Gate, pass};
-use crate::kept::{Kept, Receipt, Served};
+use crate::kept::{Kept, Receipt, Resized, Served};
+use crate::key::Key;
 use crate::removing::{is_one_of, take_out};
-use crate::tenant::Tenant;
-use etcd_types::limits::MAX_SEATS;
+use crate::tenant::{Lock, Tenant};
+use etcd_types::limits::{MAX_SEATS, MAX_SEGMENTS};
 use etcd_types::{Mem, Refusal, Step};
 use indexmap::IndexMap;
-use segment_pool::Stock;
+use segment_pool::{Stock, Supply};
 use std::alloc::Global;
 use std::marker::Model;
 use std::rt::Clock;
 use std::sync::{Mutex, Wait};
 use steps_core::{OperatorFault, is_name, is_quota};
 use tenant_audit::{Audit, CloseFault, Closed, Seat, Sheet};
-use tenant_machine::Hint;
 
 /// Why no seat is given.
 #[derive(Clone, Copy, Debug, PartialEq, Eq)]
@@ -40,18 +43,36 @@ pub enum SeatFault {
 }
 
 /// Many tenants, each under a lock of its own.
-#[derive(Drop)]
 pub struct Registry {
     tenants: IndexMap<Vec<u8>, Tenant>,
+    /// The number of the next tenant.
+    next: u64,
     /// How many seats were given.
     given: u8,
     /// The names of the tenants that were removed. No other gets them, since seats keep calls by names.
     gone: Vec<Vec<u8>>,
     /// The segments that no tenant reserved.
     free: Mutex<Stock>,
+    /// Makes all segments, the tenants' too.
+    supply: Supply,
     /// Empty, with room for each tenant: closing compares without memory.
     sheets: Vec<Sheet>,
     alloc: Global,
+}
+
+impl Drop for Registry {
+    fn drop(self) {
+        let Registry {
+            tenants: _,
+            next: _,
+            given: _,
+            gone: _,
+            free: _,
+            supply: _,
+            sheets: _,
+            alloc: _,
+        } = self;
+    }
 }
 
 impl Model for Registry {
@@ -74,7 +95,7 @@ impl Registry {
         configs: Vec<TenantConfig>,
         segments: u32,
     ) -> Result<Registry, OperatorFault>
-        ensures opens { IfOk result (λ registry. registry ≡ new_registry configs.items) }
+        ensures opens { IfOk result (λ registry. registry ≡ new_registry segments configs.items) }
         ensures none { OnOk result (new_fault segments configs.items ≡ None) }
         ensures fault { IfErr result (λ f. f ≡ unmade (new_fault segments configs.items)) }
     {
@@ -88,26 +109,31 @@ impl Registry {
     /// A registry of tenants that nothing speaks against.
     fn open(alloc: Global, configs: &[TenantConfig], segments: u32) -> Mem<Registry>
         requires { new_fault segments configs.now ≡ None }
-        ensures { IfOk result (λ registry. registry ≡ new_registry configs.now) }
+        ensures { IfOk result (λ registry. registry ≡ new_registry segments configs.now) }
     {
-        let mut free = Stock::new(alloc, segments)?;
+        let mut supply = Supply::new();
+        let mut free = supply.make(alloc, segments)?;
         let mut tenants = IndexMap::new(alloc);
         let sheets = Vec::with_capacity(alloc, configs.len())?;
+        let mut next = 1u64;
         for config in configs {
-            admit(alloc, &mut tenants, &mut free, config)?;
+            admit(alloc, &mut tenants, &mut free, next, config)?;
+            next += 1;
         }
         Ok(Registry {
             tenants,
+            next,
             given: 0,
             gone: Vec::new(alloc),
             free: Mutex::new(free),
+            supply,
             sheets,
             alloc,
         })
     }
 
-    /// Adds a tenant at its opening, with the segments that its quota takes. A name that a tenant had which was
-    /// removed is taken. After a fault nothing changed.
+    /// Adds a tenant at its opening, under the next number, with the segments that its quota takes. A name that a
+    /// tenant had which was removed is taken. After a fault nothing changed.
     pub fn add(&mut self, config: &TenantConfig) -> Result<(), OperatorFault>
         ensures adds { OnOk result (self.new ≡ with_tenant self.old config.now) }
         ensures none { OnOk result (CanAdd self.old config.now) }
@@ -119,13 +145,27 @@ impl Registry {
         let free = self.free.get_mut();
         let count = self.tenants.len();
         left_of(free.held(), count, taken, config)?;
+        // No memory holds the names of so many tenants.
+        let Some(next) = self.next.checked_add(1) else {
+            return Err(OperatorFault::Memory);
+        };
         if self.sheets.reserve(count + 1).is_err() {
             return Err(OperatorFault::Memory);
         }
-        match admit(self.alloc, &mut self.tenants, free, config) {
-            Ok(()) => Ok(()),
+        match admit(self.alloc, &mut self.tenants, free, self.next, config) {
+            Ok(()) => {
+                self.next = next;
+                Ok(())
+            }
             Err(_) => Err(OperatorFault::Memory),
         }
+    }
+
+    /// The number that the next tenant gets: 1, and one more for each that was ever added.
+    pub fn next_number(&self) -> u64
+        ensures { result ≡ self.now.next }
+    {
+        self.next
     }
 
     /// No tenant can get this name: one has it, or one had it that was removed.
@@ -138,7 +178,9 @@ impl Registry {
     /// Gives a tenant another quota, also one below what it uses, and reserves the segments that it takes with
     /// it, under its lock and then the free segments'. No alarm is raised or cleared, and no revision is made.
     /// After a fault nothing changed.
-    pub fn resize<R: Wait>(&self, rt: &R, name: &[u8], quota: u64) -> Result<(), OperatorFault>
+    pub fn resize<R: Wait>(&self, rt: &R, name: &[u8], quota: u64) -> Result<Resized, OperatorFault>
+        ensures tenant { IfOk result (λ told. number_in self.now name.now ≡ Some told.number) }
+        ensures quota { IfOk result (λ told. told.quota ≡ quota) }
         ensures none { OnOk result (CanResize self.now name.now quota) }
         ensures fault { IfErr result (λ f. IsUnresized self.now name.now quota f) }
     {
@@ -149,7 +191,7 @@ impl Registry {
             return Err(OperatorFault::Limits);
         }
         match self.tenants.get(name) {
-            Some(held) => resize(rt, &held.kept, &self.free, quota as u32),
+            Some(held) => resize(rt, held, &self.free, quota as u32),
             None => Err(OperatorFault::NoTenant),
         }
     }
@@ -158,6 +200,7 @@ impl Registry {
     /// name stays taken. After a fault nothing changed.
     pub fn remove(&mut self, name: &[u8]) -> Result<Audit, OperatorFault>
         ensures removes { OnOk result (self.new ≡ without self.old name.now) }
+        ensures tenant { IfOk result (λ audit. opening_in self.old name.now ≡ Some audit.opening) }
         ensures lawful { IfOk result (λ audit. IsLawful audit) }
         ensures none { OnOk result (remove_fault self.old name.now ≡ None) }
         ensures fault { IfErr result (λ f. f ≡ unmade (remove_fault self.old name.now)) }
@@ -169,13 +212,13 @@ impl Registry {
         if !self.tenants.contains_key(name) {
             return Err(OperatorFault::NoTenant);
         }
-        if self.gone.reserve(1).is_err() || self.tenants.reserve(1).is_err() {
+        if self.gone.reserve(1).is_err() {
             return Err(OperatorFault::Memory);
         }
         match take_out(&mut self.tenants, self.free.get_mut(), name) {
-            Ok((name, audit)) => {
+            Ok((name, ended)) => {
                 self.gone.push_reserved(name);
-                Ok(audit)
+                Ok(ended.into_audit())
             }
             Err(_) => Err(OperatorFault::Memory),
         }
@@ -195,6 +238,49 @@ impl Registry {
         match self.tenants.get_index(place) {
             Some((name, _)) => Some(name.as_slice()),
             None => None,
+        }
+    }
+
+    /// How many segments were made, those of tenants among them.
+    pub fn segments(&self) -> u32
+        ensures { result ≡ self.now.made }
+    {
+        self.supply.made()
+    }
+
+    /// How many segments no tenant reserved.
+    pub fn free_segments(&mut self) -> u32
+        ensures { self.new ≡ self.old }
+    {
+        self.free.get_mut().held()
+    }
+
+    /// Makes so many more segments, free for whoever is added or grows. There are to be some, and no more with those that
+    /// were made before than a host may have. After a fault none was made.
+    pub fn add_segments(&mut self, count: u32) -> Result<(), OperatorFault>
+        ensures adds { OnOk result (self.new ≡ with_segments self.old count) }
+        ensures none { OnOk result (segments_fault self.old count ≡ None) }
+        ensures fault { IfErr result (λ f. f ≡ unmade (segments_fault self.old count)) }
+        ensures err { OnErr result (self.new ≡ self.old) }
+    {
+        if count == 0 || count > MAX_SEGMENTS.saturating_sub(self.supply.made()) {
+            return Err(OperatorFault::Limits);
+        }
+        match supply_free(self.alloc, &mut self.supply, self.free.get_mut(), count) {
+            Ok(()) => Ok(()),
+            Err(_) => Err(OperatorFault::Memory),
+        }
+    }
+
+    /// The key to a tenant, if it is there. It takes the name over.
+    pub fn key(&self, tenant: Vec<u8>) -> Mem<Option<Key>>
+        ensures name { IfOk result (λ told. IfSome told (λ key. key.name ≡ tenant.items)) }
+        ensures there { IfOk result
+            (λ told. option_map (λ key. key.number) told ≡ number_in self.now tenant.items) }
+    {
+        match self.tenants.get(tenant.as_slice()) {
+            Some(held) => Ok(Some(Key::new(tenant, held)?)),
+            None => Ok(None),
         }
     }
 
@@ -225,51 +311,22 @@ impl Registry {
         tenant: &[u8],
         step: Step,
     ) -> Result<Receipt, Refusal>
+        ensures tenant { IfOk result (λ receipt. number_in self.now tenant.now ≡ Some receipt.number) }
+        ensures receipt { IfOk result (λ receipt. IsReceipt seat.old.number step receipt) }
         ensures keeps { IfOk result
             (λ receipt. Keeps receipt.turn tenant.now step receipt seat.old seat.new) }
-        ensures there { OnOk result (has_tenant self.now tenant.now ≡ true) }
         ensures refused { IfErr result (λ r. r ≡ unserved self.now tenant.now) }
         ensures err { OnErr result (KeepsLists seat.old seat.new) }
+        ensures nobody { has_tenant self.now tenant.now ≡ false → seat.new ≡ seat.old }
     {
-        match self.tenants.get(tenant) {
-            Some(held) => match serve(rt, seat, gate, &held.kept, tenant, step) {
-                Ok(receipt) => Ok(receipt),
-                Err(_) => Err(Refusal::Memory),
-            },
-            None => Err(Refusal::NoTenant),
-        }
-    }
-
-    /// Which takes of a tenant's watches may not be quiet, read under its lock; none if no such tenant is
-    /// there. It promises nothing: a call that comes between may change it.
-    pub fn hint<R: Wait + Clock>(&self, rt: &R, tenant: &[u8]) -> Option<Hint>
-        ensures { is_some result ≡ has_tenant self.now tenant.now }
-    {
-        match self.tenants.get(tenant) {
-            Some(held) => Some(held.kept.lock(rt).hint()),
-            None => None,
-        }
-    }
-
-    /// How many bytes a step of a tenant may take until its answer is sent, read under its lock: a bound that need not
-    /// be more exact than to be no more than `enough`. It promises nothing beyond its refusals, which are those of
-    /// `call`: a call that comes between may change it.
-    pub fn weight<R: Wait + Clock>(
-        &self,
-        rt: &R,
-        tenant: &[u8],
-        step: &Step,
-        enough: u64,
-    ) -> Result<u64, Refusal>
-        ensures there { OnOk result (has_tenant self.now tenant.now ≡ true) }
-        ensures refused { IfErr result (λ r. r ≡ unserved self.now tenant.now) }
-    {
-        match self.tenants.get(tenant) {
-            Some(held) => match held.kept.lock(rt).weight(step, enough) {
-                Ok(weight) => Ok(weight),
-                Err(_) => Err(Refusal::Memory),
-            },
-            None => Err(Refusal::NoTenant),
+        let Some(held) = self.tenants.get(tenant) else {
+            return Err(Refusal::NoTenant);
+        };
+        let number = held.opening.number;
+        match serve(rt, seat, gate, &held.kept, number, tenant, step) {
+            Ok(receipt) => Ok(receipt),
+            // A tenant that is there is under its lock.
+            Err(_) => Err(Refusal::Memory),
         }
     }
 
@@ -278,13 +335,15 @@ impl Registry {
     pub fn close(self, seats: Vec<Seat>) -> Result<Closed, CloseFault>
         ensures ok { IfOk result
             (λ closed. AreClosed self.tenants seats.items (audits_of closed.audits.items)) }
-        ensures fault { IfErr result (λ f. HasFault self.tenants seats.items f) }
+        ensures fault { IfErr result (λ f. HasFault self.tenants seats.items f ⊎ IsLent self.tenants f) }
     {
         let Registry {
             tenants,
+            next: _,
             given: _,
             gone: _,
             free: _,
+            supply: _,
             sheets,
             alloc,
         } = self;
@@ -292,56 +351,106 @@ impl Registry {
     }
 }
 
-/// One step of a tenant, which the seat keeps. The seat's memory is taken before the lock.
-#[tactic(auto, using(crate::proofs::SeatLemmas::keeps_call, crate::proofs::SeatLemmas::keeps_miss))]
-fn serve<R: Wait + Clock, G: Gate>(
+/// Makes so many segments and moves them to the free ones. If there is no memory, none was made.
+fn supply_free(alloc: Global, supply: &mut Supply, free: &mut Stock, count: u32) -> Mem<()>
+    requires few { supply.old + count ≤ MAX_SEGMENTS }
+    ensures made { OnOk result (supply.new ≡ supply.old + count) }
+    ensures moved { OnOk result (free.new.held ≡ free.old.held + count) }
+    ensures err { OnErr result (supply.new ≡ supply.old) }
+    ensures held { OnErr result (free.new.held ≡ free.old.held) }
+{
+    free.make_room(count)?;
+    let mut more = supply.make(alloc, count)?;
+    more.move_to(free, count);
+    Ok(())
+}
+
+/// One step of the tenant of that number, which the seat keeps. The seat's memory is taken before the lock.
+pub(crate) fn serve<R: Wait + Clock, G: Gate>(
     rt: &R,
     seat: &mut Seat,
     gate: &G,
-    kept: &Mutex<Kept>,
+    kept: &Lock,
+    number: u64,
     tenant: &[u8],
     step: Step,
-) -> Mem<Receipt>
+) -> Result<Receipt, Refusal>
+    ensures tenant { IfOk result (λ receipt. receipt.number ≡ number) }
+    ensures receipt { IfOk result (λ receipt. IsReceipt seat.old.number step receipt) }
     ensures keeps { IfOk result (λ receipt. Keeps receipt.turn tenant.now step receipt seat.old seat.new) }
+    ensures refused { IfErr result (λ r. IsUncalled r) }
     ensures err { OnErr result (KeepsLists seat.old seat.new) }
 {
-    seat.prepare(tenant)?;
-    let Served { receipt, mine } = serve_locked(rt, gate, kept, tenant, seat.number(), step)?;
-    match mine {
-        Some(call) => seat.record(tenant, call),
-        None => seat.miss(tenant),
+    if seat.prepare(tenant).is_err() {
+        return Err(Refusal::Memory);
     }
-    Ok(receipt)
+    let by = seat.number();
+    let served = serve_locked(rt, gate, kept, number, tenant, by, step)?;
+    Ok(served.keep(seat, tenant))
 }
 
-/// Serves a step under the lock, once the gate lets it pass.
+/// Serves a step of the tenant of that number under its lock, once the gate lets it pass.
 fn serve_locked<R: Wait + Clock, G: Gate>(
     rt: &R,
     gate: &G,
-    kept: &Mutex<Kept>,
+    kept: &Lock,
+    number: u64,
     tenant: &[u8],
     seat: u8,
     step: Step,
-) -> Mem<Served>
-    ensures { IfOk result (λ served. IsServed step served) }
+) -> Result<Served, Refusal>
+    ensures served { IfOk result (λ served. IsServed number seat step served) }
+    ensures refused { IfErr result (λ r. IsUncalled r) }
 {
     let mut kept = kept.lock(rt);
     pass(rt, gate, tenant);
-    kept.serve(seat, step)
+    serve_there(&mut *kept, number, seat, step)
+}
+
+/// Serves a step of the tenant of that number, if it is under the lock.
+fn serve_there(
+    kept: &mut Option<Kept>,
+    number: u64,
+    seat: u8,
+    step: Step,
+) -> Result<Served, Refusal>
+    ensures served { IfOk result
+        (λ served. ServesThere kept.old number seat step served kept.new) }
+    ensures refused { IfErr result (λ r. IsUncalled r) }
+    ensures err { OnErr result (kept.new ≡ kept.old) }
+{
+    let Some(kept) = kept else {
+        return Err(Refusal::NoTenant);
+    };
+    if kept.opening().number != number {
+        return Err(Refusal::NoTenant);
+    }
+    match kept.serve(seat, step) {
+        Ok(served) => Ok(served),
+        Err(_) => Err(Refusal::Memory),
+    }
 }
 
 /// Another quota of so many cells for a tenant: its lock is taken first, and under it that of the free
 /// segments.
 fn resize<R: Wait>(
     rt: &R,
-    kept: &Mutex<Kept>,
+    tenant: &Tenant,
     free: &Mutex<Stock>,
     quota: u32,
-) -> Result<(), OperatorFault>
+) -> Result<Resized, OperatorFault>
     requires { quota ≤ max_quota }
-    ensures { IfErr result (λ f. (short : Bool) × (f ≡ (if short then Short else Memory))) }
+    ensures told { IfOk result
+        (λ told. told ≡ record { number = tenant.now.opening.number; quota = quota }) }
+    ensures fault { IfErr result (λ f. (short : Bool) × (f ≡ (if short then Short else Memory))) }
 {
-    let mut kept = kept.lock(rt);
+    let mut kept = tenant.kept.lock(rt);
     let mut free = free.lock(rt);
+    let Some(kept) = &mut *kept else {
+        return Err(OperatorFault::Memory);
+    };
+    if kept.opening() != tenant.opening {
+        return Err(OperatorFault::Memory);
+    }
     kept.resize(quota, &mut free)
 }

@@ -1,19 +1,18 @@
 //! How a tenant is taken out of a registry.
-ghost use Rattle.std.specs.Prelude.{◌≡◌, ◌≤◌, true, map, IfOk, OnErr, OnOk};
+ghost use Rattle.std.specs.Prelude.{◌≡◌, ◌+◌, true, map, Some, IfOk, OnErr, OnOk};
 ghost use Rattle.std.specs.List.{list_any};
-ghost use Rattle.std.specs.Map.{remove_entry};
+ghost use Rattle.std.specs.Map.{lookup, remove_entry};
 ghost use Rattle.std.specs.Str.{bytes_eq};
-ghost use Rattle.indexmap.specs.IndexMap.{spare};
 ghost use Rattle.tenant_audit.specs.Audits.{IsLawful};
 ghost use Rattle.tenant_registry.specs.Registries.{is_among, tenants_of};
 
+use crate::kept::Ended;
 use crate::tenant::Tenant;
 use etcd_types::Mem;
+use futures::spin;
 use indexmap::IndexMap;
 use segment_pool::Stock;
 use std::alloc::AllocError;
-use std::sync::Mutex;
-use tenant_audit::Audit;
 
 /// One of these names is the name.
 pub(crate) fn is_one_of(names: &[Vec<u8>], name: &[u8]) -> bool
@@ -27,32 +26,56 @@ pub(crate) fn is_one_of(names: &[Vec<u8>], name: &[u8]) -> bool
     false
 }
 
-/// Takes out a tenant that is there, whose segments are free then, and hands out its name and its audit. If
-/// the free stock finds no memory for them, the tenant stays in its place; for that there is room.
+/// Takes out a tenant that is there, whose segments are free then, and hands out its name and what was ended.
+/// If the free stock finds no memory for them, nothing changed.
 pub(crate) fn take_out(
     tenants: &mut IndexMap<Vec<u8>, Tenant>,
     free: &mut Stock,
     name: &[u8],
-) -> Mem<(Vec<u8>, Audit)>
+) -> Mem<(Vec<u8>, Ended)>
     requires there { is_among (tenants_of tenants.old.entries) name.now ≡ true }
-    requires room { 1 ≤ spare tenants.old }
     ensures gone { OnOk result (tenants_of tenants.new.entries
         ≡ remove_entry (bytes_eq name.now) (tenants_of tenants.old.entries)) }
     ensures name { IfOk result (λ out. out.0.items ≡ name.now) }
-    ensures lawful { IfOk result (λ out. IsLawful out.1) }
+    ensures opening { IfOk result
+        (λ out. lookup (bytes_eq name.now) (tenants_of tenants.old.entries) ≡ Some out.1.audit.opening) }
+    ensures lawful { IfOk result (λ out. IsLawful out.1.audit) }
+    ensures back { IfOk result (λ out. free.new.held ≡ free.old.held + out.1.segments) }
     ensures err { OnErr result (tenants_of tenants.new.entries ≡ tenants_of tenants.old.entries) }
+    ensures free { OnErr result (free.new ≡ free.old) }
 {
-    let Some((place, name, tenant)) = tenants.shift_remove_full(name) else {
+    let Some(tenant) = tenants.get(name) else {
         unreachable!()
     };
-    let Tenant { opening, kept } = tenant;
-    match kept.into_inner().end(free) {
-        Ok(audit) => Ok((name, audit)),
+    let ended = end(tenant, free)?;
+    let Some((_, name, _)) = tenants.shift_remove_full(name) else {
+        unreachable!()
+    };
+    Ok((name, ended))
+}
+
+/// Ends what a tenant's lock keeps, once the call that is under way there has ended. Who has a key finds nothing from
+/// then on. If there is no memory for its segments, nothing changed.
+fn end(tenant: &Tenant, free: &mut Stock) -> Mem<Ended>
+    ensures opening { IfOk result (λ ended. ended.audit.opening ≡ tenant.now.opening) }
+    ensures lawful { IfOk result (λ ended. IsLawful ended.audit) }
+    ensures back { IfOk result (λ ended. free.new.held ≡ free.old.held + ended.segments) }
+    ensures err { OnErr result (free.new ≡ free.old) }
+{
+    let Some(mut place) = spin::lock(&tenant.kept) else {
+        return Err(AllocError);
+    };
+    let Some(kept) = place.take() else {
+        return Err(AllocError);
+    };
+    if kept.opening() != tenant.opening {
+        *place = Some(kept);
+        return Err(AllocError);
+    }
+    match kept.end(free) {
+        Ok(ended) => Ok(ended),
         Err(kept) => {
-            let kept = Mutex::new(kept);
-            let Ok(_) = tenants.shift_insert(place, name, Tenant { opening, kept }) else {
-                unreachable!()
-            };
+            *place = Some(kept);
             Err(AllocError)
         }
     }

@@ -12,7 +12,11 @@ ghost use Rattle.watch_sync.specs.Agreeing.{Agrees, IsStretch, cut_to, front_of,
 use crate::wanting::{is_ahead, is_other, note_of, revision_at};
 use crate::watch::OpenWatch;
 use etcd_types::CellNo;
+use etcd_types::limits::{RESPONSE_REVISIONS, RING_ENTRIES};
 use revision_store::{Changes, Store};
+
+/// From how many revisions on a watch is far behind.
+const FAR_BEHIND: u64 = 1024;
 
 /// The first revision after that of the first of some cells, or after the current one.
 fn reached(store: &Store, changes: &Changes<'_>) -> u64
@@ -42,6 +46,25 @@ impl OpenWatch {
             || self.position() <= store.current()
             || !self.is_whole(store)
             || self.is_due(store, moment)
+    }
+
+    /// Whether a take would look at many changes behind the ring, over which catch-ups bring it in small steps. It
+    /// promises nothing.
+    pub fn is_far_behind(&self, store: &Store) -> bool {
+        store.current().saturating_sub(self.position()) >= FAR_BEHIND
+            && self.ring_len() <= RESPONSE_REVISIONS
+            && self.is_whole(store)
+            && self.has_room_for_next(store)
+    }
+
+    /// Whether the ring has room for the changes of the next revision that has some, so that a catch-up can go on.
+    fn has_room_for_next(&self, store: &Store) -> bool {
+        // The store tells with its revision that its revisions don't fall.
+        store.current();
+        let changes = store.since(self.position());
+        let later = store.since(reached(store, &changes));
+        let count = changes.len().saturating_sub(later.len());
+        self.ring_len().saturating_add(count) <= RING_ENTRIES
     }
 
     /// Whether it is to be told of the change under a cell.

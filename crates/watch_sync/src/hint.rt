@@ -1,17 +1,43 @@
 //! Which watches may have something to be told.
 use etcd_types::limits::WATCH_SLOTS;
 
+/// What is told of a slot.
+#[derive(Clone, Copy)]
+pub(crate) struct SlotHint {
+    pub may_tell: bool,
+    pub is_far_behind: bool,
+}
+
+impl SlotHint {
+    /// That of a slot whose take is quiet.
+    pub(crate) const QUIET: SlotHint = SlotHint {
+        may_tell: false,
+        is_far_behind: false,
+    };
+}
+
 /// The slots whose take may not be quiet: of watches that have notes, that are behind, that are to be
 /// cancelled, or that are to be told that there is no event. It promises nothing: whoever drives watches
 /// takes these, and is answered what each take is answered at its own time.
 #[derive(Clone, Copy)]
 pub struct Hint {
-    pub(crate) slots: [bool; WATCH_SLOTS],
+    pub(crate) slots: [SlotHint; WATCH_SLOTS],
 }
 
 impl Hint {
     /// Whether the take of a slot may not be quiet.
     pub fn has(&self, slot: u8) -> bool {
-        self.slots.get(slot as usize).copied().unwrap_or(false)
+        match self.slots.get(slot as usize) {
+            Some(hint) => hint.may_tell,
+            None => false,
+        }
+    }
+
+    /// Whether the take of a slot would look at many changes, over which catch-ups bring its watch in small steps.
+    pub fn is_far_behind(&self, slot: u8) -> bool {
+        match self.slots.get(slot as usize) {
+            Some(hint) => hint.is_far_behind,
+            None => false,
+        }
     }
 }

@@ -54,6 +54,14 @@ pub(crate) fn may_tell(slot: &Option<OpenWatch>, store: &Store, moment: u64) -> 
     }
 }
 
+/// Whether a take would look at many changes, over which catch-ups bring the watch in small steps.
+pub(crate) fn is_far_behind(slot: &Option<OpenWatch>, store: &Store) -> bool {
+    match slot {
+        Some(watch) => watch.is_far_behind(store),
+        None => false,
+    }
+}
+
 /// Goes on at a later revision, with the moment of the last response.
 pub(crate) fn told(slot: &mut Option<OpenWatch>, store: &Store, next: u64, last: u64)
     requires agrees { OneAgrees store.now slot.old }

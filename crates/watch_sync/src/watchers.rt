@@ -9,9 +9,9 @@ ghost use Rattle.revision_store.specs.declared.plan.Write.{Write};
 ghost use Rattle.watch_sync.specs.Agreeing.{Agrees, Compacts};
 ghost use Rattle.watch_sync.specs.Slots.{AllAgree, FitsTake, StillAgree, slots_after, watches};
 
-use crate::hint::Hint;
+use crate::hint::{Hint, SlotHint};
 use crate::planned::{NewWatch, Taken};
-use crate::slots::{catch_up_all, cut_all, may_tell, note_all, told};
+use crate::slots::{catch_up_all, cut_all, is_far_behind, may_tell, note_all, told};
 use crate::watch::OpenWatch;
 use etcd_types::limits::WATCH_SLOTS;
 use etcd_types::{Mem, Refusal, WatchReq};
@@ -60,11 +60,14 @@ impl Watchers {
         Ok(Watchers { slots })
     }
 
-    /// Which takes may not be quiet at a moment.
+    /// Which takes may not be quiet at a moment, and which watches are far behind.
     pub fn hint(&self, store: &Store, moment: u64) -> Hint {
-        let mut slots = [false; WATCH_SLOTS];
-        for (is_told, slot) in slots.iter_mut().zip(self.slots.iter()) {
-            *is_told = may_tell(slot, store, moment);
+        let mut slots = [SlotHint::QUIET; WATCH_SLOTS];
+        for (hint, slot) in slots.iter_mut().zip(self.slots.iter()) {
+            *hint = SlotHint {
+                may_tell: may_tell(slot, store, moment),
+                is_far_behind: is_far_behind(slot, store),
+            };
         }
         Hint { slots }
     }

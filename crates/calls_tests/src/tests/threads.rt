@@ -203,7 +203,8 @@ fn overlap<R: Threads + Wait + Clock + Abort + Sync>(
             told
         },
     );
-    first && second && !last.load(Ordering::SeqCst)
+    let was_held = held.load(Ordering::SeqCst) && !last.load(Ordering::SeqCst);
+    first && second && was_held
 }
 
 #[test]

@@ -9,12 +9,23 @@ use std::process::Abort;
 use std::rt::Clock;
 use std::sync::Wait;
 use steps_core::OperatorFault;
-use tenant_registry::{Closed, OpenGate, Receipt, Registry, Seat};
+use tenant_registry::{Closed, Key, OpenGate, Receipt, Registry, Seat};
+
+/// How tenants are called.
+#[derive(Clone, Copy)]
+pub(super) enum Way {
+    ByName,
+    /// By a key that stays out from then on, whatever becomes of the tenant.
+    ByKey,
+}
 
 /// A registry with two seats, and what their calls were answered.
 #[derive(Drop)]
 pub(super) struct Callers {
     registry: Registry,
+    way: Way,
+    /// All that were used.
+    keys: Vec<Key>,
     /// The seat that calls next.
     next: Seat,
     other: Seat,
@@ -29,11 +40,14 @@ impl Callers {
         alloc: Global,
         mut registry: Registry,
         audit: u32,
+        way: Way,
     ) -> Callers {
         let next = registry.seat().expect(rt, "a seat");
         let other = registry.seat().expect(rt, "a seat");
         Callers {
             registry,
+            way,
+            keys: Vec::new(alloc),
             next,
             other,
             audit,
@@ -49,11 +63,14 @@ impl Callers {
     pub(super) fn close(self, rt: &impl Abort, alloc: Global) -> Closed {
         let Callers {
             registry,
+            way: _,
+            keys,
             next,
             other,
             audit: _,
             answers: _,
         } = self;
+        drop(keys);
         let mut seats = Vec::new(alloc);
         seats.push(next).expect(rt, "memory");
         seats.push(other).expect(rt, "memory");
@@ -83,11 +100,17 @@ impl Callers {
             b"resize" => {
                 let (name, quota) = parted(rest);
                 let told = self.registry.resize(rt, name, number_in(Some(quota)));
-                self.tell(told)
+                self.tell(told.map(|_| ()))
             }
             b"remove" => {
                 let told = self.registry.remove(rest);
-                self.tell(told.map(|_| ()))
+                let is_gone = told.is_ok();
+                self.tell(told.map(|_| ()))?;
+                if is_gone {
+                    self.ask_in_vain(rt, rest)
+                } else {
+                    Ok(())
+                }
             }
             b"call" => self.ask_call(rt, alloc, rest),
             _ => self.ask_step(rt, alloc, word, rest),
@@ -156,12 +179,43 @@ impl Callers {
         tenant: &[u8],
         step: Step,
     ) -> Mem<()> {
-        let told = told_to(rt, &self.registry, &mut self.next, tenant, step);
+        let told = match self.way {
+            Way::ByName => told_to(rt, &self.registry, &mut self.next, tenant, step),
+            Way::ByKey => self.told_by_key(rt, alloc, tenant, step)?,
+        };
         mem::swap(&mut self.next, &mut self.other);
         match told {
             Ok(receipt) => self.keep(alloc, receipt.status(), receipt.body()),
             Err(refusal) => self.refuse(alloc, refusal),
         }
+    }
+
+    fn told_by_key<R: Wait + Clock>(
+        &mut self,
+        rt: &R,
+        alloc: Global,
+        tenant: &[u8],
+        step: Step,
+    ) -> Mem<Result<Receipt, Refusal>> {
+        let Some(key) = self.registry.key(Vec::from_slice(alloc, tenant)?)? else {
+            return Ok(Err(Refusal::NoTenant));
+        };
+        let told = key_told_to(rt, &key, &mut self.next, step);
+        self.keys.push(key)?;
+        Ok(told)
+    }
+
+    /// The keys to a tenant that was removed find nothing; where one does, that is told.
+    fn ask_in_vain<R: Wait + Clock>(&mut self, rt: &R, tenant: &[u8]) -> Mem<()> {
+        for key in self.keys.as_slice() {
+            if key.name() == tenant {
+                let told = key_told_to(rt, key, &mut self.next, Step::Status);
+                if !matches!(told, Err(Refusal::NoTenant)) {
+                    self.answers.extend_from_slice(b"a key found something\n")?;
+                }
+            }
+        }
+        Ok(())
     }
 
     fn refuse(&mut self, alloc: Global, refusal: Refusal) -> Mem<()> {
@@ -202,6 +256,16 @@ fn told_to<R: Wait + Clock>(
     step: Step,
 ) -> Result<Receipt, Refusal> {
     registry.call(rt, seat, &OpenGate, tenant, step)
+}
+
+/// The same by a key.
+fn key_told_to<R: Wait + Clock>(
+    rt: &R,
+    key: &Key,
+    seat: &mut Seat,
+    step: Step,
+) -> Result<Receipt, Refusal> {
+    key.call(rt, seat, &OpenGate, step)
 }
 
 /// A text before its first space, and what comes after it.

@@ -3,7 +3,7 @@ use Rattle.std.specs.Int.{w64}
 use Rattle.cell_arena.specs.Loan.{Share, undrawn}
 use Rattle.etcd_model.specs.Pool.{StockState}
 use Rattle.tenant_audit.specs.Audits.{first_of}
-use Rattle.tenant_registry.proofs.KeptLemmas.{first_is, opened_kept}
+use Rattle.tenant_registry.proofs.KeptLemmas.{first_is, no_numbers, opened_kept, opened_segments}
 use Rattle.tenant_registry.proofs.kept.Kept.open.Goals as goal
 
 pub invariant_of-result : goal.invariant_of-result
@@ -24,3 +24,8 @@ returns-clause-holds c =
     let o = c.args.opening in
     let fits : FitsSigned w64 o.first = search rules in
     c.in_ok-machine.ensures.holds (first_of o.first) (to_z-of_z fits ∙ first_is o.first c.requires.allowed.positive)
+
+pub returns-clause-segments : goal.returns-clause-segments
+returns-clause-segments c =
+    let made = ap (λ (s : StockState). s.numbers) c.in_ok-make_room.ensures.ok ∙ no_numbers _ c.in_ok-left.ensures in
+    opened_segments c.args.free.now.numbers c.move_to.new.self.numbers c.move_to.new.to.numbers _ _ made (ap (λ (s : Share). s.numbers) c.in_ok-machine.ensures.share) c.move_to.ensures.numbers

@@ -1,9 +1,9 @@
-use Rattle.std.proofs.Common.{◌≡◌, ◌∙◌, ◌+◌, ◌≤◌, sym, ap, arith}
+use Rattle.std.proofs.Common.{◌≡◌, ◌∙◌, ◌+◌, ◌≤◌, sym, ap, arith, rules}
 use Rattle.etcd_model.specs.Pool.{StockState}
 use Rattle.tenant_machine.specs.Reserving.{reservation}
 use Rattle.tenant_machine.specs.Tenants.{MachineState}
 use Rattle.tenant_registry.specs.Keeping.{Content}
-use Rattle.tenant_registry.proofs.KeptLemmas.{kept_reserved, kept_rooms}
+use Rattle.tenant_registry.proofs.KeptLemmas.{kept_reserved, kept_rooms, resized_segments}
 use Rattle.tenant_registry.proofs.kept.Kept.reserve.Goals as goal
 
 pub invariant_of-self-in_err-keep_quota : goal.invariant_of-self-in_err-keep_quota
@@ -30,3 +30,15 @@ invariant_of-self-2 c =
     let both = kept_reserved m c.set_quota.new.self c.grow_rooms.new.self c.self.inside.audit c.keep_quota.new.self left c.move_to-2.new.self c.args.quota c.args.segments c.self.invariant.kept
     c.in_ok-grow_rooms.ensures.ok c.set_quota.ensures c.in_ok-keep_quota.ensures.ok segments held room in
     record { kept = both.0; reserved = both.1 }
+
+pub returns-clause-ok : goal.returns-clause-ok
+returns-clause-ok c = record {
+  machine = search rules;
+  audit = search rules;
+  reserved = search rules;
+  moved = search rules;
+  segments =
+      resized_segments c.args.self.now c.self.inside.machine c.set_quota.new.self c.grow_rooms.new.self c.self.inside.audit c.self.inside.left c.args.quota _ _ c.move_to.new.self.numbers c.move_to-2.new.to.numbers _ c.move_to.new.to.numbers
+      c.move_to-2.new.self.numbers c.args.free.now.numbers c.self.view_is c.in_ok-grow_rooms.ensures.ok c.set_quota.ensures (ap (λ (s : StockState). s.numbers) c.in_ok-make_room-2.ensures.ok)
+      (ap (λ (s : StockState). s.numbers) c.in_ok-make_room.ensures.ok) c.move_to.ensures.numbers c.move_to-2.ensures.numbers;
+}

@@ -1,0 +1,163 @@
+//! A tenant's lock by itself: who has its key calls the tenant, and holds no registry.
+//!
+//! A key is to one tenant for as long as it lives. Where the tenant was removed it finds nothing, also if another
+//! tenant was added since.
+ghost use Rattle.std.specs.Prelude.{◌≡◌, IfErr, IfOk, IfSome, OnErr};
+ghost use Rattle.tenant_registry.specs.Calling.{IsUncalled};
+ghost use Rattle.tenant_registry.specs.Serving.{IsReceipt};
+ghost use Rattle.tenant_audit.specs.Seats.{Keeps, KeepsLists};
+
+use crate::gate::Gate;
+use crate::kept::{Kept, Receipt};
+use crate::registry::serve;
+use crate::tenant::{Lock, Tenant};
+use crate::usage::Usage;
+use etcd_types::{Mem, Refusal, Step};
+use std::marker::Model;
+use std::rt::Clock;
+use std::sync::{Arc, Wait};
+use tenant_audit::Seat;
+use tenant_machine::Hint;
+
+/// The key to a tenant of a registry. A contract sees it as the tenant's name and number.
+pub struct Key {
+    name: Vec<u8>,
+    number: u64,
+    kept: Arc<Lock>,
+}
+
+impl Drop for Key {
+    fn drop(self) {
+        let Key {
+            name: _,
+            number: _,
+            kept: _,
+        } = self;
+    }
+}
+
+impl Model for Key {
+    ghost use Rattle.tenant_registry.specs.Calling.{KeyState};
+
+    ghost Value = { KeyState };
+
+    ghost view = { λ k. record { name = k.name.items; number = k.number } };
+}
+
+impl Key {
+    /// The key to this tenant, which has that name.
+    pub(crate) fn new(name: Vec<u8>, tenant: &Tenant) -> Mem<Key>
+        ensures { IfOk result (λ key. key ≡ record { name = name.items; number = tenant.now.opening.number }) }
+    {
+        let kept = Arc::try_clone(&tenant.kept)?;
+        Ok(Key {
+            name,
+            number: tenant.opening.number,
+            kept,
+        })
+    }
+
+    /// The tenant's name.
+    pub fn name(&self) -> &[u8]
+        ensures { result.now ≡ self.now.name }
+    {
+        self.name.as_slice()
+    }
+
+    /// The tenant's number, which no other tenant of its registry ever has.
+    pub fn number(&self) -> u64
+        ensures { result ≡ self.now.number }
+    {
+        self.number
+    }
+
+    /// One step of the tenant under its lock, as by `Registry::call`. It is refused if the tenant was removed, and
+    /// else only for want of memory.
+    pub fn call<R: Wait + Clock, G: Gate>(
+        &self,
+        rt: &R,
+        seat: &mut Seat,
+        gate: &G,
+        step: Step,
+    ) -> Result<Receipt, Refusal>
+        ensures tenant { IfOk result (λ receipt. receipt.number ≡ self.now.number) }
+        ensures receipt { IfOk result (λ receipt. IsReceipt seat.old.number step receipt) }
+        ensures keeps { IfOk result
+            (λ receipt. Keeps receipt.turn self.now.name step receipt seat.old seat.new) }
+        ensures refused { IfErr result (λ r. IsUncalled r) }
+        ensures err { OnErr result (KeepsLists seat.old seat.new) }
+    {
+        let name = self.name.as_slice();
+        serve(rt, seat, gate, &self.kept, self.number, name, step)
+    }
+
+    /// Which takes of its watches may not be quiet, read under its lock; none if it was removed. It promises nothing: a
+    /// call that comes between may change it.
+    pub fn hint<R: Wait>(&self, rt: &R) -> Option<Hint> {
+        match there(&*self.kept.lock(rt), self.number) {
+            Some(kept) => Some(kept.hint()),
+            None => None,
+        }
+    }
+
+    /// How many bytes a step may take until its answer is sent, read under the lock: a bound that need not be more exact
+    /// than to be no more than `enough`. It promises nothing beyond its refusals, which are those of `call`: a call that
+    /// comes between may change it.
+    pub fn weight<R: Wait>(&self, rt: &R, step: &Step, enough: u64) -> Result<u64, Refusal>
+        ensures { IfErr result (λ r. IsUncalled r) }
+    {
+        weight_there(&*self.kept.lock(rt), self.number, step, enough)
+    }
+
+    /// What the tenant uses, read under its lock. It promises nothing beyond its refusals, which are those of `call`: a
+    /// call that comes between may change it.
+    pub fn usage<R: Wait>(&self, rt: &R) -> Result<Usage, Refusal>
+        ensures { IfErr result (λ r. IsUncalled r) }
+    {
+        usage_there(&*self.kept.lock(rt), self.number)
+    }
+
+    /// The same for who can't wait; none where a call is under way.
+    pub fn usage_if_idle(&self) -> Option<Result<Usage, Refusal>>
+        ensures { IfSome result (λ told. IfErr told (λ r. IsUncalled r)) }
+    {
+        let kept = self.kept.try_lock()?;
+        Some(usage_there(&*kept, self.number))
+    }
+}
+
+/// What is under a lock, if it is the tenant of that number.
+fn there(kept: &Option<Kept>, number: u64) -> Option<&Kept>
+    ensures { IfSome result (λ kept. kept.now.audit.opening.number ≡ number) }
+{
+    match kept {
+        Some(kept) if kept.opening().number == number => Some(kept),
+        _ => None,
+    }
+}
+
+/// What the tenant of that number uses, if it is under the lock.
+fn usage_there(kept: &Option<Kept>, number: u64) -> Result<Usage, Refusal>
+    ensures { IfErr result (λ r. IsUncalled r) }
+{
+    let Some(kept) = there(kept, number) else {
+        return Err(Refusal::NoTenant);
+    };
+    match kept.usage() {
+        Ok(usage) => Ok(usage),
+        Err(_) => Err(Refusal::Memory),
+    }
+}
+
+/// The weight of a step of the tenant of that number, if it is under the lock.
+fn weight_there(kept: &Option<Kept>, number: u64, step: &Step, enough: u64) -> Result<u64, Refusal>
+    ensures { IfErr result (λ r. IsUncalled r) }
+{
+    let Some(kept) = there(kept, number) else {
+        return Err(Refusal::NoTenant);
+    };
+    match kept.weight(step, enough) {
+        Ok(weight) => Ok(weight),
+        Err(_) => Err(Refusal::Memory),
+    }
+}

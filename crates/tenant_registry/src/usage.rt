@@ -1,0 +1,112 @@
+//! What a tenant uses.
+use etcd_types::limits::CELL_BYTES;
+use etcd_types::{
+    AlarmAction, AlarmKind, AlarmReq, List, Mem, RangeReq, Reply, SortOrder, SortTarget, Step,
+};
+use std::alloc::Global;
+use tenant_audit::Opening;
+use tenant_machine::Machine;
+
+/// What a tenant uses at one moment.
+#[derive(Clone, Copy, Debug, PartialEq, Eq)]
+pub struct Usage {
+    /// Its cluster ID.
+    pub cluster: u64,
+    /// The revision that it was opened at.
+    pub first: i64,
+    /// How many cells it may use.
+    pub quota: u64,
+    /// How many cells it uses.
+    pub cells: u64,
+    /// How many segments are reserved for it.
+    pub reserved: u32,
+    /// How many of these it has drawn.
+    pub drawn: u32,
+    /// Its current revision.
+    pub revision: i64,
+    /// The revision of its last compaction, 0 before the first.
+    pub compacted: u64,
+    /// How many live keys it has.
+    pub keys: u64,
+    /// How many leases it has.
+    pub leases: u64,
+    /// The alarm of its quota is raised.
+    pub no_space: bool,
+}
+
+impl Usage {
+    /// What a machine tells of itself, by steps that are planned and not made, and so many segments.
+    pub(crate) fn of(
+        alloc: Global,
+        opening: Opening,
+        machine: &Machine,
+        reserved: u32,
+        drawn: u32,
+    ) -> Mem<Usage> {
+        let mut usage = Usage {
+            cluster: opening.cluster,
+            first: opening.first,
+            quota: 0,
+            cells: 0,
+            reserved,
+            drawn,
+            revision: 0,
+            compacted: machine.compacted(),
+            keys: 0,
+            leases: 0,
+            no_space: false,
+        };
+        usage.take_over(machine.plan(alloc, &Step::Status)?.reply());
+        usage.take_over(machine.plan(alloc, &all_keys(alloc)?)?.reply());
+        usage.take_over(machine.plan(alloc, &Step::Leases)?.reply());
+        usage.take_over(machine.plan(alloc, &raised_alarms())?.reply());
+        Ok(usage)
+    }
+
+    /// Takes over what a reply tells.
+    fn take_over(&mut self, reply: &Reply) {
+        match reply {
+            Reply::Status {
+                header,
+                size,
+                in_use,
+            } => {
+                self.revision = header.revision;
+                self.quota = size / CELL_BYTES;
+                self.cells = in_use / CELL_BYTES;
+            }
+            Reply::Range { count, .. } => self.keys = *count,
+            Reply::Leases { ids, .. } => self.leases = ids.as_slice().len() as u64,
+            Reply::Alarms { no_space, .. } => self.no_space = *no_space,
+            _ => {}
+        }
+    }
+}
+
+/// Asks how many live keys there are.
+fn all_keys(alloc: Global) -> Mem<Step> {
+    Ok(Step::Range(RangeReq {
+        key: List::from_slice(alloc, &[0])?,
+        range_end: List::from_slice(alloc, &[0])?,
+        limit: 0,
+        revision: 0,
+        sort_order: SortOrder::Unsorted,
+        sort_target: SortTarget::Key,
+        serializable: true,
+        keys_only: false,
+        count_only: true,
+        min_mod_revision: 0,
+        max_mod_revision: 0,
+        min_create_revision: 0,
+        max_create_revision: 0,
+    }))
+}
+
+/// Asks whether an alarm is raised.
+fn raised_alarms() -> Step {
+    Step::Alarm(AlarmReq {
+        action: AlarmAction::Get,
+        member: 0,
+        alarm: AlarmKind::Any,
+    })
+}
