@@ -1,9 +1,10 @@
 //! A connection as the table knows it.
+use crate::counts::NOBODY;
 use futures::spin::lock;
 use libc::net as c;
 use std::os::fd::RawFd;
 use std::sync::Mutex;
-use std::sync::atomic::{AtomicBool, AtomicU64, AtomicUsize, Ordering};
+use std::sync::atomic::{AtomicBool, AtomicU64, Ordering};
 
 /// A connection, for whoever accepts and whoever serves.
 #[derive(Drop)]
@@ -11,7 +12,7 @@ pub(crate) struct Entry {
     /// Its socket, until it is closed: another connection may have the number then.
     socket: Mutex<Option<RawFd>>,
     is_open: AtomicBool,
-    owner: AtomicUsize,
+    owner: AtomicU64,
     /// A request is under way, or the connection was told to end.
     is_busy: AtomicBool,
     /// The millisecond since which it is idle, if it is.
@@ -20,21 +21,21 @@ pub(crate) struct Entry {
 
 impl Entry {
     /// A connection that has made no request, from a millisecond on.
-    pub(crate) fn new(socket: RawFd, nobody: usize, now: u64) -> Entry {
+    pub(crate) fn new(socket: RawFd, now: u64) -> Entry {
         Entry {
             socket: Mutex::new(Some(socket)),
             is_open: AtomicBool::new(true),
-            owner: AtomicUsize::new(nobody),
+            owner: AtomicU64::new(NOBODY),
             is_busy: AtomicBool::new(false),
             idle_since: AtomicU64::new(now),
         }
     }
 
-    pub(crate) fn owner(&self) -> usize {
+    pub(crate) fn owner(&self) -> u64 {
         self.owner.load(Ordering::SeqCst)
     }
 
-    pub(crate) fn set_owner(&self, owner: usize) {
+    pub(crate) fn set_owner(&self, owner: u64) {
         self.owner.store(owner, Ordering::SeqCst);
     }
 

@@ -3,13 +3,15 @@
 //! Who accepts connections admits each one into a `ConnectionTable`. If the table is full, the connection that has been
 //! idle for longest goes, of the tenant that has most. What is given for a connection is let go when it ends
 //! (`OpenConnection`). Its requests say whose they are (`Requests`), and are under way until they are answered
-//! (`UnderWay`).
+//! (`UnderWay`). Tenants are known by numbers from 1 on, which come and go (`TenantBounds`).
 #![tactic(auto)]
 
+mod bounds;
 mod counts;
 mod entry;
 mod requests;
 mod table;
 
+pub use bounds::{Losses, TenantBounds};
 pub use requests::{OpenConnection, Requests, UnderWay};
 pub use table::ConnectionTable;

@@ -53,7 +53,7 @@ impl<R: Drop> Drop for Requests<R> {
 impl<R: Clock + Copy + Drop> Requests<R> {
     /// A request for a tenant begins, whose the connection is from then on. None where the tenant has as many
     /// connections as it may.
-    pub fn begin(&self, tenant: usize) -> Option<UnderWay<R>> {
+    pub fn begin(&self, tenant: u64) -> Option<UnderWay<R>> {
         let owner = self.entry.owner();
         if owner != tenant {
             if !self.counts.move_over(owner, tenant) {

@@ -1,4 +1,5 @@
 //! All open connections, for whoever accepts them.
+use crate::bounds::{Losses, TenantBounds};
 use crate::counts::Counts;
 use crate::entry::Entry;
 use crate::requests::{OpenConnection, millis_since};
@@ -38,7 +39,7 @@ impl<R: Drop> Drop for ConnectionTable<R> {
 }
 
 impl<R: Clock + Drop> ConnectionTable<R> {
-    /// No connection is open; so many may be, and of each tenant as many as is told.
+    /// No connection is open; so many may be, and of each tenant as many as is told, in the order of their numbers.
     pub fn new(
         rt: R,
         alloc: Global,
@@ -57,15 +58,39 @@ impl<R: Clock + Drop> ConnectionTable<R> {
         })
     }
 
+    /// What each tenant has and may have, for another thread.
+    pub fn bounds(&self) -> Mem<TenantBounds> {
+        Ok(TenantBounds {
+            counts: Arc::try_clone(&self.counts)?,
+        })
+    }
+
+    /// Where it is told that a connection was lost.
+    pub fn losses(&self) -> Mem<Losses> {
+        Ok(Losses {
+            counts: Arc::try_clone(&self.counts)?,
+        })
+    }
+
     /// Takes a connection in, for which another one may have to end. None where the table is full and no connection is
     /// idle, or where there is no memory: then it is to be closed.
     pub fn admit(&mut self, socket: RawFd) -> Option<OpenConnection> {
         if self.counts.open() >= self.most && !self.end_longest_idle() {
+            self.counts.refuse();
             return None;
         }
         self.forget_closed();
+        let open = self.take_in(socket);
+        if open.is_none() {
+            self.counts.lose();
+        }
+        open
+    }
+
+    /// Takes a connection in for which there is a place; none where there is no memory.
+    fn take_in(&mut self, socket: RawFd) -> Option<OpenConnection> {
         let now = millis_since(&self.rt, &self.start);
-        let entry = Arc::new(self.alloc, Entry::new(socket, self.counts.nobody(), now)).ok()?;
+        let entry = Arc::new(self.alloc, Entry::new(socket, now)).ok()?;
         let counts = Arc::try_clone(&self.counts).ok()?;
         self.entries.push(Arc::try_clone(&entry).ok()?).ok()?;
         counts.enter();
@@ -91,9 +116,27 @@ impl<R: Clock + Drop> ConnectionTable<R> {
         match longest {
             Some(idle) => {
                 idle.entry.end();
+                self.counts.end_one();
                 true
             }
             None => false,
+        }
+    }
+
+    /// Ends the connections that are idle, and tells how many are left open.
+    pub fn end_idle(&self) -> usize {
+        for entry in self.entries.as_slice() {
+            if entry.idle_since().is_some() {
+                entry.end();
+            }
+        }
+        self.counts.open()
+    }
+
+    /// Ends all connections.
+    pub fn end_all(&self) {
+        for entry in self.entries.as_slice() {
+            entry.end();
         }
     }
 

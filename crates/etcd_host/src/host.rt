@@ -9,6 +9,7 @@ use std::io::{Input, Read};
 use std::mem;
 use std::net::Net;
 use std::random::RandomSource;
+use std::rt::Files;
 use std::sync::Wait;
 use std::thread::Threads;
 use std::time::Clock;
@@ -25,8 +26,10 @@ where
         + Net
         + RandomSource
         + AllocGlobal
+        + Files
         + Input
         + Print
+        + Eprint
         + Copy
         + Drop
         + Send
@@ -38,7 +41,7 @@ where
     let tenants = mem::replace(&mut config.tenants, Vec::new(alloc));
     let mut registry = Registry::new(alloc, tenants, config.segments).map_err(refused)?;
     let seats = seats(alloc, &mut registry, config.seats())?;
-    let seats = serve(rt, &config, &registry, seats)?;
+    let seats = serve(rt, &config, &mut registry, seats)?;
     close(&rt, registry, seats)
 }
 
@@ -46,7 +49,7 @@ where
 fn serve<R>(
     rt: R,
     config: &Config,
-    registry: &Registry,
+    registry: &mut Registry,
     seats: Vec<Seat>,
 ) -> Result<Vec<Seat>, HostFault>
 where
@@ -56,7 +59,9 @@ where
         + Net
         + RandomSource
         + AllocGlobal
+        + Files
         + Print
+        + Eprint
         + Copy
         + Drop
         + Send
@@ -68,7 +73,11 @@ where
         return Err(HostFault::Io);
     };
     println!(rt; "listening on {address}")?;
-    let seats = Sessions::serve(rt, listening, registry, seats, &OpenGate)?;
+    if let Some(address) = listening.operator_address() {
+        let address = address?;
+        println!(rt; "operator on {address}")?;
+    }
+    let seats = Sessions::serve_operated(rt, listening, registry, seats, &OpenGate)?;
     println!(rt; "ended")?;
     Ok(seats)
 }

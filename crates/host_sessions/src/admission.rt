@@ -1,7 +1,7 @@
 //! How many connections there may be, and which budgets the tenants have.
-use crate::config::Allowance;
 use connection_table::ConnectionTable;
 use etcd_types::Mem;
+use host_config::Allowance;
 use std::alloc::Global;
 use std::rt::Clock;
 use std::time::Instant;
@@ -24,6 +24,11 @@ pub(crate) fn most_connections() -> usize {
     limit.rlim_cur.saturating_sub(BESIDE_CONNECTIONS).max(1) as usize
 }
 
+/// How many connections a tenant may have where nothing is told, of so many of all.
+pub(crate) fn connections_of_tenant(most: usize) -> usize {
+    (most / TENANT_PART).max(1)
+}
+
 /// The budget of each tenant, in their order.
 pub(crate) fn budgets(alloc: Global, allowances: &[Allowance]) -> Mem<Vec<usize>> {
     let mut budgets = Vec::with_capacity(alloc, allowances.len())?;
@@ -41,7 +46,7 @@ pub(crate) fn connections<R: Clock + Drop>(
     most: usize,
     allowances: &[Allowance],
 ) -> Mem<ConnectionTable<R>> {
-    let part = (most / TENANT_PART).max(1);
+    let part = connections_of_tenant(most);
     let mut most_of_tenants = Vec::with_capacity(alloc, allowances.len())?;
     for allowance in allowances {
         most_of_tenants.push(allowance.open_connections.unwrap_or(part))?;

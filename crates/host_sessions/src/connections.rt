@@ -1,16 +1,17 @@
 //! The event loops: each has its share of the connections, and serves each as a task.
 ghost use Rattle.std.specs.Prelude.{IfSome};
 
-use crate::exchange::Gateway;
 use crate::fault::ServeFault;
-use crate::peers::Patience;
 use crate::threads::Ended;
-use connection_table::{ConnectionTable, OpenConnection};
+use connection_table::{ConnectionTable, Losses, OpenConnection};
 use crossbeam_channel::{Receiver, Sender, bounded};
 use etcd_types::Mem;
 use futures::executor::TaskSet;
 use futures::task::{Context, Poll};
 use futures::{Future, ready};
+use gateway_http::Gateway;
+use host_config::{LOOPS, Patience};
+use host_operator::Stopping;
 use hyper::rt::TokioTimer;
 use hyper::server::conn::http1;
 use std::alloc::{AllocGlobal, Global};
@@ -26,10 +27,8 @@ use tokio::net::TcpStream;
 use tokio::runtime::LocalRuntime;
 use tokio::sync::mpsc::error::SendError;
 use tokio::sync::mpsc::{UnboundedReceiver, UnboundedSender, unbounded_channel};
+use tokio::time::Interval;
 use tokio::{reactor, time};
-
-/// How many event loops read and write sockets.
-pub(crate) const LOOPS: usize = 4;
 
 /// How many bytes wait at a connection to be sent, before no more of an answer is handed to it.
 const MAX_UNSENT: usize = 65_536;
@@ -37,6 +36,12 @@ const MAX_UNSENT: usize = 65_536;
 /// How many milliseconds no connection is accepted after one could not be, for want of a file descriptor most
 /// likely.
 const PAUSE: u64 = 50;
+
+/// How many seconds lie between two moves by which a loop shows that it is not stuck.
+const SECONDS_A_BEAT: u64 = 1;
+
+/// How often it is looked whether all connections have ended: for ten seconds.
+const LOOKS_AT_THE_END: u32 = 200;
 
 /// A connection that was accepted. It leaves the table before its socket is closed.
 #[derive(Drop)]
@@ -49,10 +54,13 @@ pub(crate) struct Accepted {
 #[derive(Drop)]
 pub(crate) struct SocketLoop {
     runtime: LocalRuntime,
+    /// From 0 on.
+    number: usize,
     sockets: UnboundedReceiver<Accepted>,
     patience: Patience,
     /// When the table of connections began.
     start: Instant,
+    losses: Losses,
     ready: Sender<()>,
 }
 
@@ -67,48 +75,55 @@ pub(crate) struct Acceptor {
     ready: Receiver<()>,
 }
 
-/// A loop on each runtime, and where their connections go in.
-pub(crate) fn open_loops(
+/// A loop on each runtime, for the connections of a table that began at a moment, and where they go in.
+pub(crate) fn open_loops<R: Clock + Drop>(
     alloc: Global,
     runtimes: Vec<LocalRuntime>,
     patience: Patience,
     start: Instant,
+    table: &ConnectionTable<R>,
 ) -> Mem<(Acceptor, Vec<SocketLoop>)> {
     let mut senders = Vec::new(alloc);
     let (is_ready, ready) = bounded(alloc, LOOPS)?;
     let mut loops = Vec::new(alloc);
-    for runtime in runtimes {
+    for (number, runtime) in runtimes.into_iter().enumerate() {
         let (sender, sockets) = unbounded_channel(alloc)?;
         senders.push(sender)?;
         loops.push(SocketLoop {
             runtime,
+            number,
             sockets,
             patience,
             start,
+            losses: table.losses()?,
             ready: is_ready.clone()?,
         })?;
     }
     Ok((Acceptor { senders, ready }, loops))
 }
 
-/// Accepts connections until as many as were told have come, and gives those that the table admits to the loops in turn.
-/// The first is accepted once each loop is ready, so that no connection takes a file descriptor that a loop still needs.
+/// Accepts connections until as many as were told have come, or until the server is told to end, and gives those that the
+/// table admits to the loops in turn. The first is accepted once each loop is ready, so that no connection takes a file
+/// descriptor that a loop still needs.
 pub(crate) fn accept_all<R: Wait + Clock + Drop>(
     rt: &R,
     listener: &net::TcpListener,
+    stopping: &Stopping,
     acceptor: Acceptor,
-    mut table: ConnectionTable<R>,
+    table: &mut ConnectionTable<R>,
     connections: Option<u32>,
 ) -> Result<(), ServeFault> {
+    let losses = table.losses()?;
     let senders = acceptor.senders.as_slice();
     for _ in senders {
         // A loop that could not begin is told by its end.
         let _ = acceptor.ready.recv(rt);
     }
+    stopping.begin();
     let mut left = connections;
     let mut at = 0usize;
     for _ in rt.forever() {
-        if left == Some(0) {
+        if left == Some(0) || stopping.is_told() {
             return Ok(());
         }
         let Ok((socket, _)) = listener.accept() else {
@@ -122,9 +137,11 @@ pub(crate) fn accept_all<R: Wait + Clock + Drop>(
         let Some(sender) = senders.get(at) else {
             return Err(ServeFault::Memory);
         };
-        // A connection for which there is no memory is closed. A loop ends early only where the system fails it.
-        if let Err(SendError::Closed(_)) = sender.send(Accepted { open, socket }) {
-            return Err(ServeFault::Socket);
+        match sender.send(Accepted { open, socket }) {
+            Ok(()) => {}
+            // A loop ends early only where the system fails it.
+            Err(SendError::Closed(_)) => return Err(ServeFault::Socket),
+            Err(SendError::OutOfMemory(_)) => losses.add(),
         }
         at = at.saturating_add(1);
         if at >= senders.len() {
@@ -132,6 +149,18 @@ pub(crate) fn accept_all<R: Wait + Clock + Drop>(
         }
     }
     unreachable!()
+}
+
+/// Ends all connections, since the server was told to end: those that are idle at once, the others when their requests are
+/// answered, and what is left after a while all the same.
+pub(crate) fn end_connections<R: Wait + Clock + Drop>(rt: &R, table: &ConnectionTable<R>) {
+    for _ in 0..LOOKS_AT_THE_END {
+        if table.end_idle() == 0 {
+            return;
+        }
+        thread::sleep(rt, Duration::from_millis(PAUSE));
+    }
+    table.end_all();
 }
 
 /// A connection as a task: its end, whatever it is, is the end of the task and of nothing else.
@@ -171,10 +200,12 @@ struct Arrived {
 struct Connections<'a, 'x, R: Wait + Drop, G, F, T: Future> {
     inline_calls: &'a mut InlineCalls<'x, R, G>,
     sockets: UnboundedReceiver<Accepted>,
+    losses: Losses,
     reactor: reactor::Handle,
     tasks: &'a TaskSet<T>,
     /// None once no more connections come.
     make: Option<F>,
+    beats: Option<Interval>,
 }
 
 impl<R, G, F, T> Future for Connections<'_, '_, R, G, F, T>
@@ -190,12 +221,20 @@ where
         × ((arrived : _) (task : _) → F.post make arrived task → T.can_poll task)) };
 
     fn poll(&mut self, cx: &mut Context<'_>) -> Poll<()> {
+        if let Some(beats) = &mut self.beats
+            && beats.poll_tick(cx).is_ready()
+        {
+            self.inline_calls.beat();
+            return cx.yield_now();
+        }
         if let Some(make) = &self.make {
             match self.sockets.poll_recv(cx) {
                 Poll::Ready(Some(Accepted { open, socket })) => {
                     if let Ok(stream) = TcpStream::from_std(socket, &self.reactor) {
                         let _ = stream.set_nodelay(true);
-                        drop(self.tasks.spawn(make(Arrived { open, stream })));
+                        if self.tasks.spawn(make(Arrived { open, stream })).is_err() {
+                            self.losses.add();
+                        }
                     }
                     return cx.yield_now();
                 }
@@ -223,9 +262,10 @@ impl<R: Wait + Clock + RandomSource + Copy + Drop> Tools<R> {
         alloc: Global,
         runtime: &LocalRuntime,
         jobs: &Jobs<R>,
+        number: usize,
         patience: Patience,
     ) -> io::Result<Tools<R>> {
-        let (jobs, inline_calls) = jobs.with_inline_calls(alloc)?;
+        let (jobs, inline_calls) = jobs.with_inline_calls(alloc, number)?;
         let keys = RandomState::new(&rt)?;
         let timers = runtime.handle().time();
         let mut http = http1::Builder::new(alloc, keys).timer(TokioTimer::new(rt, timers.clone()?));
@@ -255,12 +295,14 @@ where
 {
     let SocketLoop {
         mut runtime,
+        number,
         sockets,
         patience,
         start,
+        losses,
         ready,
     } = own;
-    let Ok(tools) = Tools::new(rt, alloc, &runtime, &jobs, patience) else {
+    let Ok(tools) = Tools::new(rt, alloc, &runtime, &jobs, number, patience) else {
         return (thread.into_seat(), Err(ServeFault::Memory));
     };
     let Tools {
@@ -270,7 +312,10 @@ where
         jobs,
         inline_calls,
     } = tools;
-    let mut inline_calls = InlineCalls::new(alloc, thread, inline_calls);
+    let beats = timers
+        .interval(&rt, Duration::from_secs(SECONDS_A_BEAT))
+        .ok();
+    let mut inline_calls = InlineCalls::new(alloc, number, thread, inline_calls);
     let make = move |arrived| {
         let Arrived { open, stream } = arrived;
         let gateway = Gateway {
@@ -288,7 +333,9 @@ where
     };
     let arriving = Arriving {
         sockets,
+        losses,
         reactor,
+        beats,
         ready,
     };
     let served = run_tasks(&rt, &mut runtime, &mut inline_calls, arriving, make);
@@ -300,7 +347,9 @@ where
 #[derive(Drop)]
 struct Arriving {
     sockets: UnboundedReceiver<Accepted>,
+    losses: Losses,
     reactor: reactor::Handle,
+    beats: Option<Interval>,
     ready: Sender<()>,
 }
 
@@ -322,7 +371,9 @@ where
 {
     let Arriving {
         sockets,
+        losses,
         reactor,
+        beats,
         ready,
     } = arriving;
     let tasks = runtime.task_set(rt)?;
@@ -331,9 +382,11 @@ where
     let connections = Connections {
         inline_calls,
         sockets,
+        losses,
         reactor,
         tasks: &tasks,
         make: Some(make),
+        beats,
     };
     runtime.block_on_with(rt, &tasks, connections)
 }

@@ -1,43 +1,9 @@
-//! How long a peer may keep a connection waiting, and what the system does about one that is gone or reads nothing.
+//! What the system does about a peer that is gone or reads nothing.
+use host_config::Patience;
 use libc::net as c;
 use std::io;
 use std::net::TcpListener;
 use std::os::fd::AsRawFd;
-use std::time::Duration;
-
-/// The most seconds that a peer may be given: a day.
-pub(crate) const MAX_PATIENCE: u32 = 86_400;
-
-/// How long a peer may keep a connection waiting, in seconds.
-#[derive(Clone, Copy, Debug)]
-pub struct Patience {
-    /// For the whole head of a request.
-    pub head: u32,
-    /// For the next piece of a body.
-    pub body: u32,
-    /// For taking some of what was sent to it.
-    pub answer: u32,
-    /// For saying anything at all, after which the system asks whether it is still there.
-    pub silence: u32,
-}
-
-impl Patience {
-    /// What is granted where the configuration says nothing.
-    pub(crate) const DEFAULT: Patience = Patience {
-        head: 30,
-        body: 30,
-        answer: 60,
-        silence: 60,
-    };
-
-    pub(crate) fn for_head(self) -> Duration {
-        Duration::from_secs(self.head.into())
-    }
-
-    pub(crate) fn for_body(self) -> Duration {
-        Duration::from_secs(self.body.into())
-    }
-}
 
 /// Has the system give up peers of a listener's connections, which take its options over: those that take nothing of
 /// what waits to be sent, and those that are silent and don't say that they are still there.

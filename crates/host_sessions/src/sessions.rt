@@ -1,23 +1,26 @@
 //! Listens, and serves a registry.
-use crate::admission::{budgets, connections, most_connections};
-use crate::config::{Allowance, Config};
-use crate::connections::{LOOPS, accept_all, open_loops};
-use crate::exchange::Gateway;
+use crate::admission::{budgets, connections, connections_of_tenant, most_connections};
+use crate::arrivals::{Arrivals, accept_operated};
+use crate::connections::{SocketLoop, open_loops};
 use crate::fault::ServeFault;
-use crate::peers::{Patience, give_up};
-use crate::threads::run_threads;
+use crate::peers::give_up;
+use crate::threads::{run_threads, workers_of};
 use futures::executor::block_on;
+use gateway_http::Gateway;
+use host_config::{Allowance, Config, LOOPS, Patience};
+use host_operator::{Operator, OperatorSocket, Stopping};
 use hyper::server::conn::http1;
-use std::alloc::AllocGlobal;
+use std::alloc::{AllocError, AllocGlobal};
 use std::hash::RandomState;
 use std::io;
 use std::net::{Net, SocketAddr, TcpListener};
 use std::random::RandomSource;
-use std::sync::Wait;
+use std::rt::Files;
+use std::sync::{Arc, Wait};
 use std::thread::Threads;
 use std::time::{Clock, Instant};
 use tenant_registry::{Gate, Registry, Seat};
-use tenant_scheduler::Jobs;
+use tenant_scheduler::{Jobs, Shared, open};
 use tokio::io::{AsyncRead, AsyncWrite};
 use tokio::runtime::LocalRuntime;
 
@@ -41,6 +44,104 @@ struct Parts {
     patience: Patience,
     open_connections: usize,
     allowances: Vec<Allowance>,
+    operator: Option<OperatorSocket>,
+}
+
+/// A server that is about to run.
+#[derive(Drop)]
+struct Opened<R: Wait + Drop> {
+    threads: (Jobs<R>, Arc<Shared<R>>),
+    loops: Vec<SocketLoop>,
+    arrivals: Arrivals<R>,
+    open_connections: usize,
+    allowances: Vec<Allowance>,
+    operator: Option<OperatorSocket>,
+}
+
+impl<R> Opened<R>
+where
+    R: Wait + Threads + Clock + RandomSource + AllocGlobal + Copy + Drop + Send + Sync + 'static,
+{
+    /// The server of a registry, with a thread for each of so many seats.
+    fn of(
+        rt: R,
+        listening: Listening,
+        registry: &Registry,
+        seats: usize,
+    ) -> Result<Opened<R>, ServeFault> {
+        let Parts {
+            runtimes,
+            listener,
+            connections: served,
+            patience,
+            open_connections,
+            allowances,
+            operator,
+        } = listening.into_parts();
+        let alloc = rt.alloc();
+        let start = Instant::now(&rt).map_err(|error| ServeFault::of(&error))?;
+        let budgets = budgets(alloc, allowances.as_slice())?;
+        let table = connections(rt, alloc, start, open_connections, allowances.as_slice())?;
+        let (acceptor, loops) = open_loops(alloc, runtimes, patience, start, &table)?;
+        let workers = workers_of(seats, loops.len());
+        let listener = Arc::new(alloc, listener).map_err(AllocError::from)?;
+        let stopping = Stopping::new(Arc::try_clone(&listener)?);
+        let threads = open(&rt, alloc, registry, budgets.as_slice(), seats, workers)?;
+        let arrivals = Arrivals {
+            acceptor,
+            listener,
+            stopping: Arc::new(alloc, stopping).map_err(AllocError::from)?,
+            table,
+            connections: served,
+            tenants: Arc::try_clone(threads.1.tenants())?,
+        };
+        Ok(Opened {
+            threads,
+            loops,
+            arrivals,
+            open_connections,
+            allowances,
+            operator,
+        })
+    }
+
+    /// The operator of the registry that is served.
+    fn operator<'x>(&self, rt: R, registry: &'x mut Registry) -> Result<Operator<'x, R>, ServeFault>
+    where
+        R: Files,
+    {
+        let (_, shared) = &self.threads;
+        let mut operator = Operator::new(
+            rt,
+            rt.alloc(),
+            registry,
+            Arc::try_clone(shared)?,
+            self.arrivals.table.bounds()?,
+            connections_of_tenant(self.open_connections),
+            Arc::try_clone(&self.arrivals.stopping)?,
+        );
+        operator.remember(self.allowances.as_slice())?;
+        Ok(operator)
+    }
+
+    /// Runs it, and gives the seats back.
+    fn run<'x, G: Gate + Sync>(
+        self,
+        rt: R,
+        seats: Vec<Seat>,
+        gate: &'x G,
+    ) -> Result<Vec<Seat>, ServeFault> {
+        let Opened {
+            threads,
+            loops,
+            arrivals,
+            open_connections: _,
+            allowances: _,
+            operator: _,
+        } = self;
+        let bring = move |_jobs| arrivals.accept(rt);
+        run_threads(rt, threads, seats, gate, loops, bring)
+    }
 }
 
 /// Why nothing listens.
@@ -79,6 +180,11 @@ impl Listening {
         self.parts.listener.local_addr()
     }
 
+    /// The address that the operator connects to, if there is one.
+    pub fn operator_address(&self) -> Option<io::Result<SocketAddr>> {
+        self.parts.operator.as_ref().map(|socket| socket.address())
+    }
+
     fn into_parts(self) -> Parts {
         let Listening { parts } = self;
         parts
@@ -101,8 +207,8 @@ impl Sessions {
             Ok(runtimes) => runtimes,
             Err(error) => return Err(ListenFault::of(&error)),
         };
-        match bind(rt, address, config.patience) {
-            Ok(listener) => Ok(Listening {
+        match bind_all(rt, address, config) {
+            Ok((listener, operator)) => Ok(Listening {
                 parts: Parts {
                     runtimes,
                     listener,
@@ -110,6 +216,7 @@ impl Sessions {
                     patience: config.patience,
                     open_connections: config.open_connections.unwrap_or(most_connections()),
                     allowances,
+                    operator,
                 },
             }),
             Err(error) => Err(ListenFault::of(&error)),
@@ -139,21 +246,49 @@ impl Sessions {
             + 'static,
         G: Gate + Sync,
     {
-        let Parts {
-            runtimes,
-            listener,
-            connections: served,
-            patience,
-            open_connections,
-            allowances,
-        } = listening.into_parts();
-        let alloc = rt.alloc();
-        let start = Instant::now(&rt).map_err(|error| ServeFault::of(&error))?;
-        let budgets = budgets(alloc, allowances.as_slice())?;
-        let table = connections(rt, alloc, start, open_connections, allowances.as_slice())?;
-        let (acceptor, loops) = open_loops(alloc, runtimes, patience, start)?;
-        let bring = move |_jobs| accept_all(&rt, &listener, acceptor, table, served);
-        run_threads(rt, registry, seats, gate, budgets.as_slice(), loops, bring)
+        let opened = Opened::of(rt, listening, registry, seats.len())?;
+        opened.run(rt, seats, gate)
+    }
+
+    /// The same, where tenants come, change and go by the operator's calls meanwhile, if the configuration has an address
+    /// for these. The registry is the operator's alone until the end.
+    pub fn serve_operated<'x, R, G>(
+        rt: R,
+        listening: Listening,
+        registry: &'x mut Registry,
+        seats: Vec<Seat>,
+        gate: &'x G,
+    ) -> Result<Vec<Seat>, ServeFault>
+    where
+        R: Wait
+            + Threads
+            + Clock
+            + RandomSource
+            + AllocGlobal
+            + Files
+            + Eprint
+            + Copy
+            + Drop
+            + Send
+            + Sync
+            + 'static,
+        G: Gate + Sync,
+    {
+        let mut opened = Opened::of(rt, listening, &*registry, seats.len())?;
+        let Some(socket) = opened.operator.take() else {
+            return opened.run(rt, seats, gate);
+        };
+        let operator = opened.operator(rt, registry)?;
+        let Opened {
+            threads,
+            loops,
+            arrivals,
+            open_connections: _,
+            allowances: _,
+            operator: _,
+        } = opened;
+        let bring = move |_jobs| accept_operated(rt, arrivals, socket, operator);
+        run_threads(rt, threads, seats, gate, loops, bring)
     }
 
     /// Serves what a function brings, over streams of any kind by `serve_one`, until it returns; all connections
@@ -181,7 +316,10 @@ impl Sessions {
         B: FnOnce(Jobs<R>) -> Result<(), ServeFault> + Drop,
         requires { B.IsAlwaysCallable bring }
     {
-        run_threads(rt, registry, seats, gate, &[], Vec::new(rt.alloc()), bring)
+        let alloc = rt.alloc();
+        let workers = workers_of(seats.len(), 0);
+        let opened = open(&rt, alloc, registry, &[], seats.len(), workers)?;
+        run_threads(rt, opened, seats, gate, Vec::new(alloc), bring)
     }
 
     /// Serves one connection over any stream, by the jobs that `serve` uses. It waits for its peer however long that
@@ -223,6 +361,23 @@ where
         runtimes.push(LocalRuntime::new(rt)?)?;
     }
     Ok(runtimes)
+}
+
+/// The socket of the clients, and that of the operator where the configuration has one.
+fn bind_all<R>(
+    rt: &R,
+    address: SocketAddr,
+    config: &Config,
+) -> io::Result<(TcpListener, Option<OperatorSocket>)>
+where
+    R: Clock + Net + RandomSource + AllocGlobal,
+{
+    let listener = bind(rt, address, config.patience)?;
+    let operator = match &config.operator {
+        Some(operator) => Some(OperatorSocket::bind(rt, operator, config.patience)?),
+        None => None,
+    };
+    Ok((listener, operator))
 }
 
 /// A socket that waits in `accept`, with the longest queue of connections that the system allows, whose peers the

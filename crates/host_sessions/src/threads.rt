@@ -7,17 +7,21 @@ use std::sync::{Arc, Wait};
 use std::thread;
 use std::thread::{JoinHandle, SpawnError, Threads};
 use std::time::Clock;
-use tenant_registry::{Gate, Registry, Seat};
-use tenant_scheduler::{BESIDE_WORKERS, Jobs, Service, ServingThread, Shared, open};
+use tenant_registry::{Gate, Seat};
+use tenant_scheduler::{BESIDE_WORKERS, Jobs, Service, ServingThread, Shared};
+
+/// How many of so many seats are workers', beside so many loops.
+pub(crate) fn workers_of(seats: usize, loops: usize) -> usize {
+    seats.saturating_sub(loops.saturating_add(BESIDE_WORKERS))
+}
 
 /// Runs a function that brings connections, or their calls, and serves them by a thread for each seat: the clock, the
 /// pump, the catch-up worker, the event loops that are given, and workers. It gives the seats back.
 pub(crate) fn run_threads<'x, R, G, B>(
     rt: R,
-    registry: &'x Registry,
+    opened: (Jobs<R>, Arc<Shared<R>>),
     seats: Vec<Seat>,
     gate: &'x G,
-    budgets: &[usize],
     loops: Vec<SocketLoop>,
     bring: B,
 ) -> Result<Vec<Seat>, ServeFault>
@@ -29,11 +33,8 @@ where
 {
     let alloc = rt.alloc();
     let roles = seats.len();
-    let workers = roles.saturating_sub(BESIDE_WORKERS + loops.len());
     let mut loops = loops;
-    let Ok((jobs, shared)) = open(alloc, registry, budgets, roles, workers) else {
-        return Err(ServeFault::Memory);
-    };
+    let (jobs, shared) = opened;
     thread::scope(thread::scope_env(), &rt, |scope| {
         let mut group = ThreadGroup::new(alloc);
         for (place, seat) in seats.into_iter().enumerate() {
@@ -44,7 +45,7 @@ where
                 break;
             };
             let ends = role.ends();
-            let thread = ServingThread::new(rt, registry, gate, seat, own);
+            let thread = ServingThread::new(rt, place, gate, seat, own);
             let made = scope.spawn(move || serve(rt, alloc, role, thread));
             if !group.keep(ends, made) {
                 break;
@@ -59,7 +60,7 @@ where
         };
         let (mut back, served) = group.join(&rt, alloc, &shared, roles);
         brought.and(served)?;
-        shared.free_slots(rt, registry, gate, &mut back);
+        shared.free_slots(rt, gate, &mut back);
         Ok(back)
     })
 }

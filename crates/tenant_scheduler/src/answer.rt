@@ -10,6 +10,8 @@ use std::sync::Wait;
 #[derive(Drop)]
 pub struct Answer<R: Wait + Drop> {
     pub status: u16,
+    /// Why the call was refused, if it was.
+    pub refusal: Option<Refusal>,
     pub body: AnswerBody<R>,
 }
 
@@ -44,10 +46,11 @@ pub enum AnswerBody<R: Wait + Drop> {
 }
 
 impl<R: Wait + Drop> Answer<R> {
-    /// A status and a text of its own.
-    pub(crate) fn text(status: u16, text: MadeText) -> Answer<R> {
+    /// A status and a text of its own, of a refusal or of what was asked for.
+    pub(crate) fn text(status: u16, refusal: Option<Refusal>, text: MadeText) -> Answer<R> {
         Answer {
             status,
+            refusal,
             body: AnswerBody::Text(Text::Made(text)),
         }
     }
@@ -55,7 +58,7 @@ impl<R: Wait + Drop> Answer<R> {
     /// The answer of a refusal, or out of memory where there is none for its text.
     pub fn refused(alloc: Global, refusal: Refusal) -> Answer<R> {
         match write_reply(alloc, &Reply::Refused(refusal)) {
-            Ok((status, text)) => Answer::text(status, MadeText::short(text)),
+            Ok((status, text)) => Answer::text(status, Some(refusal), MadeText::short(text)),
             Err(_) => Answer::no_memory(),
         }
     }
@@ -64,6 +67,7 @@ impl<R: Wait + Drop> Answer<R> {
     pub fn no_memory() -> Answer<R> {
         Answer {
             status: Refusal::Memory.status(),
+            refusal: Some(Refusal::Memory),
             body: AnswerBody::Text(Text::OutOfMemory),
         }
     }

@@ -30,6 +30,9 @@ const OBJECT: u64 = 1024;
 
 const VALUE: u64 = 96;
 
+/// The most bytes of a tree that takes no share: each worker has one such tree at a time.
+pub(crate) const SMALL_TREE: u64 = 1_048_576;
+
 /// The budget of a tenant that none is told for: room for eight of the longest bodies.
 pub const DEFAULT_BUDGET: usize = 16_777_216;
 
@@ -94,13 +97,13 @@ impl Budget {
     }
 
     /// Takes so many bytes, and owes those that are not left.
-    fn take(&self, bytes: usize) {
+    pub(crate) fn take(&self, bytes: usize) {
         let there = self.left.forget_permits(bytes);
         self.owed.fetch_add(bytes - there, Ordering::SeqCst);
     }
 
     /// Gives so many bytes back, less what is owed.
-    fn give_back(&self, bytes: usize) {
+    pub(crate) fn give_back(&self, bytes: usize) {
         let owed = self.owed.swap(0, Ordering::SeqCst);
         let paid = owed.min(bytes);
         if owed > paid {

@@ -1,4 +1,4 @@
-//! A thread's way into the registry.
+//! A thread's way to the tenants.
 use crate::answer::Answer;
 use crate::budget::{LONGEST_ROW, Share, may_be_long};
 use crate::clients::Clients;
@@ -7,30 +7,27 @@ use etcd_types::{Refusal, Step};
 use std::alloc::Global;
 use std::rt::Clock;
 use std::sync::Wait;
-use tenant_registry::{Gate, Hint, Receipt, Registry, Seat};
+use tenant_registry::{Gate, Hint, Key, Receipt, Seat};
 
-/// The registry, and the seat of the thread that calls it.
+/// The seat of a thread that calls tenants by their keys.
 #[derive(Drop)]
 pub(crate) struct Caller<'x, R, G> {
     rt: R,
-    registry: &'x Registry,
     gate: &'x G,
     seat: Seat,
 }
 
 impl<'x, R: Wait + Clock + Drop, G: Gate> Caller<'x, R, G> {
-    pub(crate) fn new(rt: R, registry: &'x Registry, gate: &'x G, seat: Seat) -> Caller<'x, R, G> {
-        Caller {
-            rt,
-            registry,
-            gate,
-            seat,
-        }
+    pub(crate) fn new(rt: R, gate: &'x G, seat: Seat) -> Caller<'x, R, G> {
+        Caller { rt, gate, seat }
     }
 
-    pub(crate) fn call(&mut self, tenant: &[u8], step: Step) -> Result<Receipt, Refusal> {
-        self.registry
-            .call(&self.rt, &mut self.seat, self.gate, tenant, step)
+    /// One step of the tenant that has the key. Without a key there is no such tenant.
+    pub(crate) fn call(&mut self, key: &Option<Key>, step: Step) -> Result<Receipt, Refusal> {
+        match key {
+            Some(key) => key.call(&self.rt, &mut self.seat, self.gate, step),
+            None => Err(Refusal::NoTenant),
+        }
     }
 
     /// What a step is answered that opens nothing. It is refused before it is planned where its answer may be long and
@@ -40,8 +37,9 @@ impl<'x, R: Wait + Clock + Drop, G: Gate> Caller<'x, R, G> {
             return self.answer_within(alloc, clients, step, None);
         }
         match self.reserve(clients, &step) {
-            Some(share) => self.answer_within(alloc, clients, step, Some(share)),
-            None => Answer::no_memory(),
+            Ok(Some(share)) => self.answer_within(alloc, clients, step, Some(share)),
+            Ok(None) => Answer::no_memory(),
+            Err(refusal) => Answer::refused(alloc, refusal),
         }
     }
 
@@ -52,26 +50,32 @@ impl<'x, R: Wait + Clock + Drop, G: Gate> Caller<'x, R, G> {
         step: Step,
         reserved: Option<Share>,
     ) -> Answer<R> {
-        match self.call(clients.name.as_slice(), step) {
+        match self.call(&clients.key, step) {
             Ok(receipt) => {
-                let status = receipt.status();
-                Answer::text(status, clients.budget.charge(reserved, receipt.into_body()))
+                let (status, refusal) = (receipt.status(), receipt.refusal());
+                let text = clients.budget.charge(reserved, receipt.into_body());
+                Answer::text(status, refusal, text)
             }
             Err(refusal) => Answer::refused(alloc, refusal),
         }
     }
 
-    /// The share of what a step may take until its answer is sent.
-    fn reserve(&self, clients: &Clients<R>, step: &Step) -> Option<Share> {
-        let name = clients.name.as_slice();
+    /// The share of what a step may take until its answer is sent, if the budget has so much.
+    fn reserve(&self, clients: &Clients<R>, step: &Step) -> Result<Option<Share>, Refusal> {
+        let Some(key) = &clients.key else {
+            return Err(Refusal::NoTenant);
+        };
         let enough = clients.budget.left() as u64;
-        let weight = self.registry.weight(&self.rt, name, step, enough).ok()?;
-        clients.budget.reserve(weight)
+        let weight = key.weight(&self.rt, step, enough)?;
+        Ok(clients.budget.reserve(weight))
     }
 
     /// Which takes of a tenant's watches may not be quiet.
-    pub(crate) fn hint(&self, tenant: &[u8]) -> Option<Hint> {
-        self.registry.hint(&self.rt, tenant)
+    pub(crate) fn hint(&self, key: &Option<Key>) -> Option<Hint> {
+        match key {
+            Some(key) => key.hint(&self.rt),
+            None => None,
+        }
     }
 
     pub(crate) fn into_seat(self) -> Seat {

@@ -2,11 +2,15 @@
 use crate::answer::Answer;
 use crate::budget::{Budget, Share};
 use crate::clock::Running;
-use crate::scheduler::{Scheduler, Work};
+use crate::counts::TenantCounts;
+use crate::scheduler::{Scheduler, TenantTurns, Work};
+use crate::stopwatch::Stopwatch;
 use crate::watch_texts::TextSender;
-use etcd_types::{Call, Step};
+use etcd_types::{Call, Refusal, Step};
 use futures::channel::oneshot;
-use std::sync::Wait;
+use std::alloc::Global;
+use std::sync::{Arc, Wait};
+use tenant_registry::Key;
 use tokio::sync::mpsc;
 
 /// What a call asks.
@@ -45,6 +49,10 @@ impl Ask {
 pub(crate) struct Job<R: Wait + Drop> {
     pub(crate) call: Call,
     pub(crate) ask: Ask,
+    /// How many bytes its body has.
+    pub(crate) length: usize,
+    /// Since it was left in the queue.
+    pub(crate) waiting: Stopwatch,
     pub(crate) reply: oneshot::Sender<Answer<R>>,
 }
 
@@ -58,8 +66,10 @@ pub(crate) struct OpenWatch {
 /// The clients of one tenant, for whoever has the turn there.
 #[derive(Drop)]
 pub(crate) struct Clients<R: Wait + Drop> {
-    pub(crate) name: Vec<u8>,
+    /// By which the tenant is called. None where it is not there yet, or was removed.
+    pub(crate) key: Option<Key>,
     pub(crate) budget: Budget,
+    pub(crate) counts: Arc<TenantCounts>,
     pub(crate) jobs: mpsc::Receiver<Job<R>>,
     pub(crate) watches: Vec<OpenWatch>,
     /// At which place of the watches the pump goes on.
@@ -73,9 +83,24 @@ pub(crate) struct Clients<R: Wait + Drop> {
 
 impl<R: Wait + Drop> Clients<R> {
     /// Has the pump take for the tenant's watches, if there are any.
-    pub(crate) fn schedule_takes(&self, rt: &R, scheduler: &Scheduler, tenant: usize) {
+    pub(crate) fn schedule_takes(&self, rt: &R, scheduler: &Scheduler, turns: &TenantTurns) {
         if !self.watches.is_empty() {
-            scheduler.schedule(rt, tenant, Work::Takes);
+            scheduler.schedule(rt, turns, Work::Takes);
+        }
+    }
+}
+
+impl<R: Wait + Copy + Drop> Clients<R> {
+    /// The tenant was removed: its jobs are answered that it is not there, and its watches end.
+    pub(crate) fn end(&mut self, alloc: Global) {
+        self.key = None;
+        self.watches.clear();
+        self.jobs.close();
+        for _ in 0..u64::MAX {
+            let Ok(job) = self.jobs.try_recv() else {
+                return;
+            };
+            drop(job.reply.send(Answer::refused(alloc, Refusal::NoTenant)));
         }
     }
 }

@@ -1,8 +1,8 @@
 //! The clock: a tick a second to each tenant.
 use crate::caller::Caller;
-use crate::scheduler::{Turn, Work};
+use crate::scheduler::{Scheduler, Turn, Work};
 use crate::serving::ServingThread;
-use crate::shared::Shared;
+use crate::tenants::ServedTenant;
 use crossbeam_channel::RecvTimeoutError;
 use etcd_types::Step;
 use std::rt::Clock;
@@ -23,24 +23,27 @@ const MAX_SECONDS_A_TICK: u64 = 2;
 #[derive(Clone, Copy, Drop)]
 pub(crate) struct Running {
     /// When the last tick came, on the server's clock.
-    ticked: Duration,
+    ticked: Option<Duration>,
     ran: Duration,
 }
 
 impl Running {
-    /// It begins with the server's clock.
+    /// It begins now; the first tick counts a second.
     pub(crate) fn new() -> Running {
         Running {
-            ticked: Duration::from_secs(0),
+            ticked: None,
             ran: Duration::from_secs(0),
         }
     }
 
     /// The moment of a tick that comes now, in whole seconds.
     fn tick(&mut self, now: Duration) -> u64 {
-        let passed = now.saturating_sub(self.ticked);
+        let passed = match self.ticked {
+            Some(ticked) => now.saturating_sub(ticked),
+            None => Duration::from_secs(SECONDS_A_TICK),
+        };
         let counted = passed.min(Duration::from_secs(MAX_SECONDS_A_TICK));
-        self.ticked = now;
+        self.ticked = Some(now);
         self.ran = self.ran.saturating_add(counted);
         self.ran.as_secs()
     }
@@ -51,7 +54,7 @@ impl Running {
 pub(crate) fn keep_time<R: Wait + Clock + Copy + Drop, G: Gate>(
     thread: ServingThread<'_, R, G>,
 ) -> Seat {
-    let (rt, mut caller, shared) = thread.into_parts();
+    let (rt, place, mut caller, shared) = thread.into_parts();
     let Ok(start) = Instant::now(&rt) else {
         return caller.into_seat();
     };
@@ -63,16 +66,17 @@ pub(crate) fn keep_time<R: Wait + Clock + Copy + Drop, G: Gate>(
             .clock
             .recv_timeout(&rt, due.saturating_sub(now));
         now = start.elapsed(&rt).unwrap_or(due);
+        shared.beats.beat(&rt, place);
         match turn {
             Ok(Turn::On(tenant)) => {
-                tick(&rt, &mut caller, &shared, tenant, now);
-                shared.scheduler.finish(&rt, tenant, Work::Tick);
+                if let Some(tenant) = shared.numbered(&rt, tenant) {
+                    tick(&rt, &mut caller, &shared.scheduler, &tenant, now);
+                    shared.scheduler.finish(&rt, tenant.turns(), Work::Tick);
+                }
             }
             Ok(Turn::Over) | Err(RecvTimeoutError::Disconnected) => break,
             Err(RecvTimeoutError::Timeout) => {
-                for tenant in 0..shared.clients.len() {
-                    shared.scheduler.schedule(&rt, tenant, Work::Tick);
-                }
+                shared.schedule_all(&rt, Work::Tick);
                 due = next_due(due, now);
             }
         }
@@ -95,14 +99,12 @@ fn next_due(due: Duration, now: Duration) -> Duration {
 fn tick<R: Wait + Clock + Drop, G: Gate>(
     rt: &R,
     caller: &mut Caller<'_, R, G>,
-    shared: &Shared<R>,
-    tenant: usize,
+    scheduler: &Scheduler,
+    tenant: &ServedTenant<R>,
     now: Duration,
 ) {
-    if let Some(clients) = shared.clients.get(tenant) {
-        let mut clients = clients.lock(rt);
-        let moment = clients.running.tick(now);
-        let _ = caller.call(clients.name.as_slice(), Step::Tick(moment));
-        clients.schedule_takes(rt, &shared.scheduler, tenant);
-    }
+    let mut clients = tenant.clients.lock(rt);
+    let moment = clients.running.tick(now);
+    let _ = caller.call(&clients.key, Step::Tick(moment));
+    clients.schedule_takes(rt, scheduler, tenant.turns());
 }

@@ -10,10 +10,12 @@ use crate::answer::Answer;
 use crate::caller::Caller;
 use crate::clients::Clients;
 use crate::jobs::Route;
-use crate::scheduler::Work;
+use crate::scheduler::{Scheduler, Work};
 use crate::serving::ServingThread;
+use crate::stopwatch::Stopwatch;
+use crate::tenants::ServedTenant;
 use crate::worker::may_give;
-use etcd_types::Step;
+use etcd_types::{Call, Step};
 use futures::channel::oneshot;
 use futures::ready;
 use futures::task::{Context, Poll};
@@ -36,6 +38,8 @@ const CALLS_LEFT: u32 = 256;
 pub struct InlineCall<R: Wait + Drop> {
     pub(crate) route: Route,
     pub(crate) step: Step,
+    /// How many bytes its body had.
+    pub(crate) length: usize,
     pub(crate) reply: oneshot::Sender<InlineOutcome<R>>,
 }
 
@@ -44,15 +48,26 @@ impl<R: Wait + Drop> Drop for InlineCall<R> {
         let InlineCall {
             route: _,
             step: _,
+            length: _,
             reply: _,
         } = self;
     }
 }
 
 impl<R: Wait + Drop> InlineCall<R> {
-    pub(crate) fn into_parts(self) -> (Route, Step, oneshot::Sender<InlineOutcome<R>>) {
-        let InlineCall { route, step, reply } = self;
-        (route, step, reply)
+    pub(crate) fn into_step(self) -> Step {
+        let (_, step, _, _) = self.into_parts();
+        step
+    }
+
+    fn into_parts(self) -> (Route, Step, usize, oneshot::Sender<InlineOutcome<R>>) {
+        let InlineCall {
+            route,
+            step,
+            length,
+            reply,
+        } = self;
+        (route, step, length, reply)
     }
 }
 
@@ -64,9 +79,21 @@ pub(crate) enum InlineOutcome<R: Wait + Drop> {
     Busy(Step),
 }
 
+impl<R: Wait + Drop> InlineOutcome<R> {
+    /// Counts the call with a body of so many bytes, if it was answered.
+    fn count(self, tenant: &ServedTenant<R>, call: Call, length: usize) -> InlineOutcome<R> {
+        if let InlineOutcome::Answered(answer) = &self {
+            tenant.counts().add(call, length, answer);
+        }
+        self
+    }
+}
+
 /// Where an event loop receives the brief calls of its connections, and serves them.
 pub struct InlineCalls<'x, R: Wait + Drop, G> {
     alloc: Global,
+    /// The part of the directory that is read here.
+    shard: usize,
     thread: ServingThread<'x, R, G>,
     calls: UnboundedReceiver<InlineCall<R>>,
 }
@@ -75,6 +102,7 @@ impl<'x, R: Wait + Drop, G> Drop for InlineCalls<'x, R, G> {
     fn drop(self) {
         let InlineCalls {
             alloc: _,
+            shard: _,
             thread: _,
             calls: _,
         } = self;
@@ -82,13 +110,16 @@ impl<'x, R: Wait + Drop, G> Drop for InlineCalls<'x, R, G> {
 }
 
 impl<'x, R: Wait + Clock + Copy + Drop, G: Gate> InlineCalls<'x, R, G> {
+    /// Those of the event loop of that number.
     pub fn new(
         alloc: Global,
+        number: usize,
         thread: ServingThread<'x, R, G>,
         calls: UnboundedReceiver<InlineCall<R>>,
     ) -> InlineCalls<'x, R, G> {
         InlineCalls {
             alloc,
+            shard: number,
             thread,
             calls,
         }
@@ -110,33 +141,41 @@ impl<'x, R: Wait + Clock + Copy + Drop, G: Gate> InlineCalls<'x, R, G> {
 
     /// Serves a call if nobody has the turn on its tenant, and else gives it back.
     fn serve(&mut self, call: InlineCall<R>) {
-        let (route, step, reply) = call.into_parts();
-        let ServingThread { rt, caller, shared } = &mut self.thread;
-        let tenant = route.tenant;
-        let outcome = if shared.scheduler.try_begin(tenant) {
-            let outcome = match shared.clients.get(tenant) {
-                Some(clients) => {
-                    let mut clients = clients.lock(rt);
-                    let outcome = answer(self.alloc, caller, &mut *clients, step);
-                    if may_give(route.call) {
-                        clients.schedule_takes(rt, &shared.scheduler, tenant);
-                    }
-                    outcome
+        let (route, step, length, reply) = call.into_parts();
+        let ServingThread {
+            rt,
+            place: _,
+            caller,
+            shared,
+        } = &mut self.thread;
+        let outcome = match shared.tenants().numbered(rt, self.shard, route.tenant) {
+            Some(tenant) if Scheduler::try_begin(tenant.turns()) => {
+                let stopwatch = Stopwatch::start(rt);
+                let mut clients = tenant.clients.lock(rt);
+                let outcome = answer(self.alloc, caller, &mut *clients, step);
+                if may_give(route.call) {
+                    clients.schedule_takes(rt, &shared.scheduler, tenant.turns());
                 }
-                None => InlineOutcome::Busy(step),
-            };
-            shared.scheduler.finish(rt, tenant, Work::Jobs);
-            outcome
-        } else {
-            InlineOutcome::Busy(step)
+                drop(clients);
+                shared.scheduler.finish(rt, tenant.turns(), Work::Jobs);
+                tenant.counts().turns.add(stopwatch.passed(rt));
+                outcome.count(&tenant, route.call, length)
+            }
+            _ => InlineOutcome::Busy(step),
         };
         // Where the client has gone, the call stays made.
         drop(reply.send(outcome));
     }
 
+    /// The loop moves.
+    pub fn beat(&self) {
+        self.thread.beat();
+    }
+
     pub fn into_seat(self) -> Seat {
         let InlineCalls {
             alloc: _,
+            shard: _,
             thread,
             calls: _,
         } = self;

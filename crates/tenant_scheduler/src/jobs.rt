@@ -1,12 +1,13 @@
 //! Where calls go in: to the event loop that has read them, or into their tenant's queue.
 ghost use Rattle.tokio.specs.Channels.{CanReserve};
 
-use crate::budget::{BodyShare, Budget, SHORT};
+use crate::answer::Answer;
+use crate::budget::{BodyShare, SHORT};
 use crate::clients::Job;
+use crate::entrances::{Entrance, Entrances};
 use crate::inline_calls::InlineCall;
-use crate::scheduler::{Scheduler, Work};
-use etcd_types::{Call, Mem};
-use indexmap::IndexMap;
+use crate::scheduler::Work;
+use etcd_types::{Call, Mem, Refusal};
 use std::alloc::Global;
 use std::sync::{Arc, Wait};
 use tokio::sync::mpsc::error::TrySendError;
@@ -17,7 +18,7 @@ use tokio::sync::mpsc::{
 /// A call that a client may make, and the number of the tenant that it names.
 #[derive(Clone, Copy, Drop)]
 pub struct Route {
-    pub tenant: usize,
+    pub tenant: u64,
     pub call: Call,
 }
 
@@ -27,8 +28,8 @@ pub(crate) enum Offered<R: Wait + Drop> {
     Queued,
     /// The queue is full.
     Full(HeldBack<R>),
-    /// There is no such queue, or no memory.
-    Refused,
+    /// The tenant was removed, or there is no memory.
+    Refused(Refusal),
 }
 
 impl<R: Wait + Drop> Offered<R> {
@@ -39,7 +40,7 @@ impl<R: Wait + Drop> Offered<R> {
                 room: queue.reserve_owned(),
                 job,
             }),
-            Err(_) => Offered::Refused,
+            Err(_) => Offered::Refused(Refusal::Memory),
         }
     }
 }
@@ -52,55 +53,64 @@ pub(crate) struct HeldBack<R: Wait + Drop> {
     pub(crate) ghost may_wait: { CanReserve room },
 }
 
-/// Where a tenant's calls go in.
+/// An event loop, for its connections.
 #[derive(Drop)]
-pub(crate) struct Entrance<R: Wait + Drop> {
-    pub(crate) queue: mpsc::Sender<Job<R>>,
-    pub(crate) budget: Budget,
-}
-
-/// Each tenant's entrance by its name, in the order of the tenants' numbers, and the scheduler of their turns.
-#[derive(Drop)]
-pub(crate) struct Directory<R: Wait + Drop> {
-    pub(crate) entrances: IndexMap<Vec<u8>, Entrance<R>>,
-    pub(crate) scheduler: Arc<Scheduler>,
+pub(crate) struct LoopEntrance<R: Wait + Drop> {
+    calls: UnboundedSender<InlineCall<R>>,
+    /// The part of the directory that is read here.
+    shard: usize,
 }
 
 /// Where calls go in, which connections share.
 pub struct Jobs<R: Wait + Drop> {
-    pub(crate) directory: Arc<Directory<R>>,
+    entrances: Arc<Entrances<R>>,
     /// Where the connections of an event loop hand it brief calls.
-    pub(crate) inline: Option<Arc<UnboundedSender<InlineCall<R>>>>,
+    inline: Option<Arc<LoopEntrance<R>>>,
 }
 
 impl<R: Wait + Drop> Drop for Jobs<R> {
     fn drop(self) {
         let Jobs {
-            directory: _,
+            entrances: _,
             inline: _,
         } = self;
     }
 }
 
 impl<R: Wait + Drop> Jobs<R> {
-    /// The number of the tenant of that name.
-    pub fn tenant(&self, name: &[u8]) -> Option<usize> {
-        self.directory.entrances.get_index_of(name)
+    pub(crate) fn new(entrances: Arc<Entrances<R>>) -> Jobs<R> {
+        Jobs {
+            entrances,
+            inline: None,
+        }
     }
 
-    /// How many tenants there are.
-    pub fn tenants(&self) -> usize {
-        self.directory.entrances.len()
+    /// The part of the directory that is read here.
+    fn shard(&self) -> usize {
+        match &self.inline {
+            Some(inline) => inline.shard,
+            None => 0,
+        }
+    }
+
+    /// The number of the tenant of that name.
+    pub fn tenant(&self, rt: &R, name: &[u8]) -> Option<u64> {
+        self.entrances.number_of(rt, self.shard(), name)
+    }
+
+    /// The entrance of the tenant of that number, unless it was removed.
+    fn entrance(&self, rt: &R, tenant: u64) -> Option<Arc<Entrance<R>>> {
+        self.entrances.numbered(rt, self.shard(), tenant)
     }
 
     /// The share of a tenant's budget for a body of so many bytes at the most.
-    pub fn body_share(&self, tenant: usize, bytes: usize) -> BodyShare {
-        let Some((_, entrance)) = self.directory.entrances.get_index(tenant) else {
-            return BodyShare::None;
-        };
+    pub fn body_share(&self, rt: &R, tenant: u64, bytes: usize) -> BodyShare {
         if bytes <= SHORT {
             return BodyShare::None;
         }
+        let Some(entrance) = self.entrance(rt, tenant) else {
+            return BodyShare::None;
+        };
         match entrance.budget.promise(bytes) {
             Some(awaited) => BodyShare::Awaited(awaited),
             None => BodyShare::None,
@@ -108,29 +118,51 @@ impl<R: Wait + Drop> Jobs<R> {
     }
 
     /// Leaves a job in a tenant's queue, if there is room, and has a worker serve it.
-    pub(crate) fn offer(&self, rt: &R, tenant: usize, job: Job<R>) -> Offered<R> {
-        let Some((_, entrance)) = self.directory.entrances.get_index(tenant) else {
-            return Offered::Refused;
+    pub(crate) fn offer(&self, rt: &R, tenant: u64, job: Job<R>) -> Offered<R> {
+        let Some(entrance) = self.entrance(rt, tenant) else {
+            return Offered::Refused(Refusal::NoTenant);
         };
         match entrance.queue.try_send(job) {
             Ok(()) => {
-                self.schedule(rt, tenant);
+                self.entrances.schedule(rt, &entrance, Work::Jobs);
                 Offered::Queued
             }
             Err(TrySendError::Full(job)) => Offered::held_back(&entrance.queue, job),
-            Err(_) => Offered::Refused,
+            Err(TrySendError::Closed(_)) => Offered::Refused(Refusal::NoTenant),
+            Err(TrySendError::OutOfMemory(_)) => Offered::Refused(Refusal::Memory),
         }
     }
 
     /// Has a worker serve a tenant that has jobs.
-    pub(crate) fn schedule(&self, rt: &R, tenant: usize) {
-        self.directory.scheduler.schedule(rt, tenant, Work::Jobs);
+    pub(crate) fn schedule(&self, rt: &R, tenant: u64) {
+        if let Some(entrance) = self.entrance(rt, tenant) {
+            self.entrances.schedule(rt, &entrance, Work::Jobs);
+        }
+    }
+
+    /// The answer of a call that is refused before it goes in, by a body of so many bytes; the call is counted.
+    pub fn refused(
+        &self,
+        rt: &R,
+        alloc: Global,
+        route: Route,
+        length: usize,
+        refusal: Refusal,
+    ) -> Answer<R> {
+        let answer = Answer::refused(alloc, refusal);
+        if let Some(entrance) = self.entrance(rt, route.tenant) {
+            entrance.counts.add(route.call, length, &answer);
+        }
+        answer
     }
 
     /// Hands a brief call to the event loop of its connection, or gives it back where there is none.
     pub(crate) fn hand(&self, call: InlineCall<R>) -> Result<(), InlineCall<R>> {
         match &self.inline {
-            Some(inline) => inline.send(call).map_err(|error| error.into_inner()),
+            Some(inline) => {
+                let sent = inline.calls.send(call);
+                sent.map_err(|error| error.into_inner())
+            }
             None => Err(call),
         }
     }
@@ -146,19 +178,24 @@ impl<R: Wait + Drop> Jobs<R> {
             None => None,
         };
         Ok(Jobs {
-            directory: Arc::try_clone(&self.directory)?,
+            entrances: Arc::try_clone(&self.entrances)?,
             inline,
         })
     }
 
-    /// The same for the connections of an event loop, and where it receives their brief calls.
+    /// The same for the connections of the event loop of that number, and where it receives their brief calls.
     pub fn with_inline_calls(
         &self,
         alloc: Global,
+        number: usize,
     ) -> Mem<(Jobs<R>, UnboundedReceiver<InlineCall<R>>)> {
-        let (inline, calls) = unbounded_channel(alloc)?;
+        let (sender, calls) = unbounded_channel(alloc)?;
+        let inline = LoopEntrance {
+            calls: sender,
+            shard: number,
+        };
         let jobs = Jobs {
-            directory: Arc::try_clone(&self.directory)?,
+            entrances: Arc::try_clone(&self.entrances)?,
             inline: Some(Arc::new(alloc, inline)?),
         };
         Ok((jobs, calls))

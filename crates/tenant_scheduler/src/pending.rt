@@ -7,14 +7,17 @@ use crate::budget::SHORT;
 use crate::clients::{Ask, Job, RequestBody};
 use crate::inline_calls::{InlineCall, InlineOutcome, is_brief};
 use crate::jobs::{HeldBack, Jobs, Offered, Route};
-use etcd_types::Step;
+use crate::stopwatch::Stopwatch;
+use etcd_types::{Refusal, Step};
 use futures::channel::oneshot;
 use futures::task::{Context, Poll};
 use futures::{Future, ready};
 use gateway_json::read_step;
 use std::alloc::Global;
 use std::mem;
+use std::rt::Clock;
 use std::sync::Wait;
+use tokio::sync::mpsc::error::SendError;
 
 /// A call that was begun, or its answer where nothing is left to wait for.
 #[derive(Drop)]
@@ -27,7 +30,8 @@ pub enum Begun<R: Wait + Drop> {
 pub struct PendingCall<R: Wait + Drop> {
     rt: R,
     alloc: Global,
-    jobs: Jobs<R>,
+    /// How many bytes its body has.
+    length: usize,
     stage: Stage<R>,
 }
 
@@ -36,7 +40,7 @@ impl<R: Wait + Drop> Drop for PendingCall<R> {
         let PendingCall {
             rt: _,
             alloc: _,
-            jobs: _,
+            length: _,
             stage: _,
         } = self;
     }
@@ -61,14 +65,14 @@ struct Inline<R: Wait + Drop> {
 #[derive(Drop)]
 struct Queueing<R: Wait + Drop> {
     held: HeldBack<R>,
-    tenant: usize,
+    tenant: u64,
     answer: oneshot::Receiver<Answer<R>>,
 }
 
 impl<R: Wait + Drop> Queueing<R> {
-    /// Leaves the job in the queue once there is room: the stage that follows, and `false` where there is no memory
-    /// for it.
-    fn poll_left(self, cx: &mut Context<'_>) -> (Stage<R>, Poll<bool>)
+    /// Leaves the job in the queue once there is room: the stage that follows, and the tenant that has a job then; or why
+    /// there is none, which was removed, or for want of memory.
+    fn poll_left(self, cx: &mut Context<'_>) -> (Stage<R>, Poll<Result<u64, Refusal>>)
         ensures registered { OnPending result.1 (IsArmed cx.new) }
         ensures kept { Keeps cx.old cx.new }
     {
@@ -90,46 +94,59 @@ impl<R: Wait + Drop> Queueing<R> {
             }
             Poll::Ready(Ok(permit)) => {
                 drop(permit.send(job));
-                (Stage::Waiting(answer), Poll::Ready(true))
+                (Stage::Waiting(answer), Poll::Ready(Ok(tenant)))
             }
-            Poll::Ready(Err(_)) => (Stage::Over, Poll::Ready(false)),
+            Poll::Ready(Err(SendError::Closed(()))) => {
+                (Stage::Over, Poll::Ready(Err(Refusal::NoTenant)))
+            }
+            Poll::Ready(Err(SendError::OutOfMemory(()))) => {
+                (Stage::Over, Poll::Ready(Err(Refusal::Memory)))
+            }
         }
     }
 }
 
-impl<R: Wait + Copy + Drop> PendingCall<R> {
+impl<R: Wait + Clock + Copy + Drop> PendingCall<R> {
     /// Begins a call by the body that was read: hands it to the event loop, leaves it in its tenant's queue, or
     /// refuses it.
-    pub fn begin(rt: R, alloc: Global, jobs: Jobs<R>, route: Route, body: RequestBody) -> Begun<R> {
+    pub fn begin(
+        rt: R,
+        alloc: Global,
+        jobs: &Jobs<R>,
+        route: Route,
+        body: RequestBody,
+    ) -> Begun<R> {
         let mut pending = PendingCall {
             rt,
             alloc,
-            jobs,
+            length: body.bytes.len(),
             stage: Stage::Over,
         };
-        match pending.ask(route, body) {
+        match pending.ask(jobs, route, body) {
             Some(answer) => Begun::Answered(answer),
             None => Begun::Pending(pending),
         }
     }
 
     /// Reads the step of a short body, and hands the call on; its answer, if there is one already.
-    fn ask(&mut self, route: Route, body: RequestBody) -> Option<Answer<R>> {
-        if body.bytes.len() > SHORT {
-            return self.queue(route, Ask::Body(body));
+    fn ask(&mut self, jobs: &Jobs<R>, route: Route, body: RequestBody) -> Option<Answer<R>> {
+        if self.length > SHORT {
+            return self.queue(jobs, route, Ask::Body(body));
         }
         match read_step(self.alloc, route.call, body.bytes.as_slice()) {
-            Ok(step) if is_brief(&step) => self.hand(route, step),
-            Ok(step) => self.queue(route, Ask::Step(step)),
-            Err(refusal) => Some(Answer::refused(self.alloc, refusal)),
+            Ok(step) if is_brief(&step) => self.hand(jobs, route, step),
+            Ok(step) => self.queue(jobs, route, Ask::Step(step)),
+            Err(refusal) => {
+                Some(jobs.refused(&self.rt, self.alloc, route, self.length, refusal))
+            }
         }
     }
 
     /// Hands a brief call to the event loop, or leaves it in its tenant's queue where there is no loop.
-    fn hand(&mut self, route: Route, step: Step) -> Option<Answer<R>> {
-        match self.handed(route, step) {
+    fn hand(&mut self, jobs: &Jobs<R>, route: Route, step: Step) -> Option<Answer<R>> {
+        match self.handed(jobs, route, step) {
             Some(Ok(inline)) => self.go_on(Stage::Inline(inline)),
-            Some(Err(step)) => self.queue(route, Ask::Step(step)),
+            Some(Err(step)) => self.queue(jobs, route, Ask::Step(step)),
             None => Some(Answer::no_memory()),
         }
     }
@@ -141,52 +158,64 @@ impl<R: Wait + Copy + Drop> PendingCall<R> {
     }
 
     /// What waits for the event loop, or the step given back where there is no loop; none where there is no memory.
-    fn handed(&self, route: Route, step: Step) -> Option<Result<Inline<R>, Step>> {
+    fn handed(&self, jobs: &Jobs<R>, route: Route, step: Step) -> Option<Result<Inline<R>, Step>> {
         let (reply, outcome) = oneshot::channel(self.alloc).ok()?;
-        match self.jobs.hand(InlineCall { route, step, reply }) {
+        let call = InlineCall {
+            route,
+            step,
+            length: self.length,
+            reply,
+        };
+        match jobs.hand(call) {
             Ok(()) => Some(Ok(Inline { route, outcome })),
-            Err(call) => {
-                let (_, step, _) = call.into_parts();
-                Some(Err(step))
-            }
+            Err(call) => Some(Err(call.into_step())),
         }
     }
 
     /// Leaves a job in a tenant's queue, or waits for room there.
-    fn queue(&mut self, route: Route, ask: Ask) -> Option<Answer<R>> {
-        match self.queued(route, ask) {
-            Some(stage) => self.go_on(stage),
-            None => Some(Answer::no_memory()),
+    fn queue(&mut self, jobs: &Jobs<R>, route: Route, ask: Ask) -> Option<Answer<R>> {
+        match self.queued(jobs, route, ask) {
+            Ok(stage) => self.go_on(stage),
+            Err(refusal) => Some(Answer::refused(self.alloc, refusal)),
         }
     }
 
-    /// The stage of a job that was left in a tenant's queue, or waits for room there; none where there is no memory.
-    fn queued(&self, route: Route, ask: Ask) -> Option<Stage<R>> {
-        let (reply, answer) = oneshot::channel(self.alloc).ok()?;
+    /// The stage of a job that was left in a tenant's queue, or waits for room there.
+    fn queued(&self, jobs: &Jobs<R>, route: Route, ask: Ask) -> Result<Stage<R>, Refusal> {
+        let Ok((reply, answer)) = oneshot::channel(self.alloc) else {
+            return Err(Refusal::Memory);
+        };
         let Route { tenant, call } = route;
-        match self.jobs.offer(&self.rt, tenant, Job { call, ask, reply }) {
-            Offered::Queued => Some(Stage::Waiting(answer)),
-            Offered::Full(held) => Some(Stage::Queueing(Queueing {
+        let job = Job {
+            call,
+            ask,
+            length: self.length,
+            waiting: Stopwatch::start(&self.rt),
+            reply,
+        };
+        match jobs.offer(&self.rt, tenant, job) {
+            Offered::Queued => Ok(Stage::Waiting(answer)),
+            Offered::Full(held) => Ok(Stage::Queueing(Queueing {
                 held,
                 tenant,
                 answer,
             })),
-            Offered::Refused => None,
+            Offered::Refused(refusal) => Err(refusal),
         }
     }
 
     /// The answer; none where the server ended before the call was served.
-    pub fn poll_answer(&mut self, cx: &mut Context<'_>) -> Poll<Option<Answer<R>>>
+    pub fn poll_answer(&mut self, jobs: &Jobs<R>, cx: &mut Context<'_>) -> Poll<Option<Answer<R>>>
         ensures registered { OnPending result (IsArmed cx.new) }
         ensures kept { Keeps cx.old cx.new }
     {
-        if let Some(answer) = ready!(self.poll_inline(cx)) {
+        if let Some(answer) = ready!(self.poll_inline(jobs, cx)) {
             return Poll::Ready(Some(answer));
         }
         if let Stage::Queueing(_) = &self.stage
-            && !ready!(self.poll_room(cx))
+            && let Some(refusal) = ready!(self.poll_room(jobs, cx))
         {
-            return Poll::Ready(Some(Answer::no_memory()));
+            return Poll::Ready(Some(Answer::refused(self.alloc, refusal)));
         }
         let Stage::Waiting(answer) = &mut self.stage else {
             return Poll::Ready(None);
@@ -199,7 +228,7 @@ impl<R: Wait + Copy + Drop> PendingCall<R> {
 
     /// The answer of a call that the event loop has served, if it did. One whose tenant is busy is left in its
     /// tenant's queue.
-    fn poll_inline(&mut self, cx: &mut Context<'_>) -> Poll<Option<Answer<R>>>
+    fn poll_inline(&mut self, jobs: &Jobs<R>, cx: &mut Context<'_>) -> Poll<Option<Answer<R>>>
         ensures registered { OnPending result (IsArmed cx.new) }
         ensures kept { Keeps cx.old cx.new }
     {
@@ -210,26 +239,28 @@ impl<R: Wait + Copy + Drop> PendingCall<R> {
         let route = inline.route;
         Poll::Ready(match outcome {
             Ok(InlineOutcome::Answered(answer)) => Some(answer),
-            Ok(InlineOutcome::Busy(step)) => self.queue(route, Ask::Step(step)),
+            Ok(InlineOutcome::Busy(step)) => self.queue(jobs, route, Ask::Step(step)),
             // The loop ended for want of memory.
             Err(_) => self.go_on(Stage::Over),
         })
     }
 
-    /// Leaves the job in the queue once there is room; `false` where there is no memory for it.
-    fn poll_room(&mut self, cx: &mut Context<'_>) -> Poll<bool>
+    /// Leaves the job in the queue once there is room, or tells why not.
+    fn poll_room(&mut self, jobs: &Jobs<R>, cx: &mut Context<'_>) -> Poll<Option<Refusal>>
         ensures registered { OnPending result (IsArmed cx.new) }
         ensures kept { Keeps cx.old cx.new }
     {
         let Stage::Queueing(queueing) = mem::replace(&mut self.stage, Stage::Over) else {
-            return Poll::Ready(false);
+            return Poll::Ready(None);
         };
-        let tenant = queueing.tenant;
-        let (stage, is_left) = queueing.poll_left(cx);
+        let (stage, left) = queueing.poll_left(cx);
         self.stage = stage;
-        if let Poll::Ready(true) = &is_left {
-            self.jobs.schedule(&self.rt, tenant);
-        }
-        is_left
+        Poll::Ready(match ready!(left) {
+            Ok(tenant) => {
+                jobs.schedule(&self.rt, tenant);
+                None
+            }
+            Err(refusal) => Some(refusal),
+        })
     }
 }

@@ -2,14 +2,15 @@
 use crate::budget::Budget;
 use crate::caller::Caller;
 use crate::clients::{Clients, OpenWatch};
-use crate::scheduler::{Scheduler, Turn, Work};
+use crate::counts::TenantCounts;
+use crate::scheduler::{Scheduler, TenantTurns, Work};
 use crate::serving::ServingThread;
 use crate::stopwatch::Stopwatch;
 use crate::watch_texts::NoRoom;
 use etcd_types::Step;
 use std::rt::Clock;
 use std::sync::Wait;
-use tenant_registry::{Gate, Hint, Seat};
+use tenant_registry::{Gate, Hint, Key, Seat};
 
 /// After how many milliseconds a turn ends, once the take at hand is served.
 const MILLIS_A_TURN: u64 = 1;
@@ -18,16 +19,18 @@ const MILLIS_A_TURN: u64 = 1;
 pub(crate) fn pump<R: Wait + Clock + Copy + Drop, G: Gate>(
     thread: ServingThread<'_, R, G>,
 ) -> Seat {
-    let (rt, mut caller, shared) = thread.into_parts();
+    let (rt, place, mut caller, shared) = thread.into_parts();
     for _ in rt.forever() {
-        let Ok(Turn::On(tenant)) = shared.turns.pump.recv(&rt) else {
+        let Some(tenant) = shared.next_turn(&rt, place, &shared.turns.pump) else {
             break;
         };
-        if let Some(clients) = shared.clients.get(tenant) {
-            let mut clients = clients.lock(&rt);
-            take_turn(&rt, &mut caller, &shared.scheduler, tenant, &mut *clients);
+        if let Some(tenant) = shared.numbered(&rt, tenant) {
+            let turns = tenant.turns();
+            let mut clients = tenant.clients.lock(&rt);
+            take_turn(&rt, &mut caller, &shared.scheduler, turns, &mut *clients);
+            drop(clients);
+            shared.scheduler.finish(&rt, turns, Work::Takes);
         }
-        shared.scheduler.finish(&rt, tenant, Work::Takes);
     }
     caller.into_seat()
 }
@@ -38,18 +41,18 @@ fn take_turn<R: Wait + Clock + Drop, G: Gate>(
     rt: &R,
     caller: &mut Caller<'_, R, G>,
     scheduler: &Scheduler,
-    tenant: usize,
+    turns: &TenantTurns,
     clients: &mut Clients<R>,
 ) {
     drop_closed(caller, clients);
     if clients.watches.is_empty() {
         return;
     }
-    let Some(hint) = caller.hint(clients.name.as_slice()) else {
+    let Some(hint) = caller.hint(&clients.key) else {
         return;
     };
     let all_answered = take_hinted(rt, caller, clients, &hint);
-    let Some(left) = caller.hint(clients.name.as_slice()) else {
+    let Some(left) = caller.hint(&clients.key) else {
         return;
     };
     let mut has_more = false;
@@ -58,12 +61,12 @@ fn take_turn<R: Wait + Clock + Drop, G: Gate>(
             has_more = true;
             // Where a take found no memory, the clock schedules the next turn.
             if watch.texts.promise_more() && all_answered {
-                scheduler.schedule(rt, tenant, Work::Takes);
+                scheduler.schedule(rt, turns, Work::Takes);
             }
         }
     }
     if has_more && all_answered {
-        scheduler.schedule(rt, tenant, Work::CatchUp);
+        scheduler.schedule(rt, turns, Work::CatchUp);
     }
 }
 
@@ -106,7 +109,7 @@ pub(crate) fn take_all<R: Wait + Clock + Drop, G: Gate>(
     if clients.watches.is_empty() {
         return true;
     }
-    let Some(hint) = caller.hint(clients.name.as_slice()) else {
+    let Some(hint) = caller.hint(&clients.key) else {
         return false;
     };
     let mut all_answered = true;
@@ -130,7 +133,13 @@ fn take_at<R: Wait + Clock + Drop, G: Gate>(
         return true;
     };
     let taken = if meant.has(hint, &clients.budget, watch) {
-        take(caller, clients.name.as_slice(), &clients.budget, watch)
+        take(
+            caller,
+            &clients.key,
+            &clients.budget,
+            &clients.counts,
+            watch,
+        )
     } else {
         TakeOutcome::Open
     };
@@ -147,7 +156,8 @@ fn take_at<R: Wait + Clock + Drop, G: Gate>(
 /// Which watches are taken for.
 #[derive(Clone, Copy)]
 enum Meant {
-    /// Those that may have something to give and whose clients have read what they were told.
+    /// Those that may have something to give and whose clients have read what they were told. One that is far behind is
+    /// caught up first.
     Waiting,
     /// All, as far as the budget goes; one that has nothing to give takes none.
     All,
@@ -157,7 +167,9 @@ impl Meant {
     fn has(self, hint: &Hint, budget: &Budget, watch: &OpenWatch) -> bool {
         let may_give = hint.has(watch.slot);
         match self {
-            Meant::Waiting => may_give && watch.texts.is_read(),
+            Meant::Waiting => {
+                may_give && !hint.is_far_behind(watch.slot) && watch.texts.is_read()
+            }
             Meant::All => !may_give || budget.left() > 0,
         }
     }
@@ -175,8 +187,9 @@ enum TakeOutcome {
 /// Takes once, if there is room for a text.
 fn take<R: Wait + Clock + Drop, G: Gate>(
     caller: &mut Caller<'_, R, G>,
-    tenant: &[u8],
+    key: &Option<Key>,
     budget: &Budget,
+    counts: &TenantCounts,
     watch: &OpenWatch,
 ) -> TakeOutcome {
     let permit = match watch.texts.permit() {
@@ -184,7 +197,7 @@ fn take<R: Wait + Clock + Drop, G: Gate>(
         Err(NoRoom::Unread) => return TakeOutcome::Open,
         Err(NoRoom::Memory) => return TakeOutcome::NoMemory,
     };
-    let Ok(receipt) = caller.call(tenant, Step::Take(watch.slot)) else {
+    let Ok(receipt) = caller.call(key, Step::Take(watch.slot)) else {
         return TakeOutcome::NoMemory;
     };
     if receipt.body().is_empty() {
@@ -195,7 +208,9 @@ fn take<R: Wait + Clock + Drop, G: Gate>(
     } else {
         TakeOutcome::Open
     };
-    permit.send(budget.charge(None, receipt.into_body()));
+    let text = receipt.into_body();
+    counts.add_out(text.len());
+    permit.send(budget.charge(None, text));
     taken
 }
 
@@ -205,7 +220,7 @@ pub(crate) fn drop_closed<R: Wait + Clock + Drop, G: Gate>(
     caller: &mut Caller<'_, R, G>,
     clients: &mut Clients<R>,
 ) {
-    let name = clients.name.as_slice();
+    let key = &clients.key;
     let watches = &mut clients.watches;
     let mut at = 0;
     for _ in 0..watches.len() {
@@ -213,7 +228,7 @@ pub(crate) fn drop_closed<R: Wait + Clock + Drop, G: Gate>(
             break;
         }
         let watch = &watches[at];
-        if watch.texts.is_closed() && caller.call(name, Step::DropWatch(watch.slot)).is_ok() {
+        if watch.texts.is_closed() && caller.call(key, Step::DropWatch(watch.slot)).is_ok() {
             let _ = watches.swap_remove(at);
         } else {
             at += 1;

@@ -8,10 +8,13 @@ use crate::slow_tenants::SlowTenants;
 use crossbeam_channel::{Receiver, Sender, bounded};
 use crossbeam_utils::CachePadded;
 use etcd_types::Mem;
+use etcd_types::limits::MAX_TENANTS;
 use std::alloc::Global;
-use std::hint;
+use std::rt::Clock;
 use std::sync::Wait;
 use std::sync::atomic::{AtomicU64, Ordering};
+use std::time::Duration;
+use std::{hint, thread};
 
 /// How often an event loop looks whether a tenant is idle: for as long as a brief call takes.
 const LOOKS: u32 = 64;
@@ -65,8 +68,8 @@ impl Work {
 /// What a thread that serves tenants is told.
 #[derive(Clone, Copy)]
 pub(crate) enum Turn {
-    /// It has the turn on this tenant.
-    On(usize),
+    /// It has the turn on the tenant of this number.
+    On(u64),
     /// There are no more turns.
     Over,
 }
@@ -76,16 +79,44 @@ pub(crate) enum Turn {
 /// to do with each other.
 type Marks = CachePadded<AtomicU64>;
 
+/// The turns on one tenant.
+#[derive(Drop)]
+pub(crate) struct TenantTurns {
+    /// The tenant's. No other tenant ever has it.
+    number: u64,
+    marks: Marks,
+    /// The pump's channel, for the watches of its clients.
+    pump: Sender<Turn>,
+}
+
+impl TenantTurns {
+    /// The watches of its clients may have something to give, or one has gone.
+    pub(crate) fn schedule_takes<R: Wait>(&self, rt: &R) {
+        if Scheduler::mark_or_begin(&self.marks, Work::Takes) {
+            let _ = self.pump.send(rt, Turn::On(self.number));
+        }
+    }
+
+    pub(crate) fn number(&self) -> u64 {
+        self.number
+    }
+}
+
 /// Nobody has the turn, and nothing is due.
 const IDLE: u64 = 0;
 
 /// Somebody has the turn, and nothing else is due.
 const RUNNING: u64 = 1;
 
-/// The marks of each tenant, and the channels to the threads that wait for turns.
+/// The tenant was removed: no turn begins there any more.
+const RETIRED: u64 = 32;
+
+/// How many milliseconds lie between two looks whether the last turn on a tenant has ended.
+const MILLIS_A_LOOK: u64 = 1;
+
+/// The channels to the threads that wait for turns.
 #[derive(Drop)]
 pub(crate) struct Scheduler {
-    marks: Vec<Marks>,
     clock: Sender<Turn>,
     pump: Sender<Turn>,
     catch_up: Sender<Turn>,
@@ -103,25 +134,17 @@ pub(crate) struct Turns {
 }
 
 impl Scheduler {
-    /// A scheduler of so many tenants and threads, with nothing due. So many of the threads are workers.
-    pub(crate) fn new(
-        alloc: Global,
-        tenants: usize,
-        threads: usize,
-        workers: usize,
-    ) -> Mem<(Scheduler, Turns)> {
-        let mut marks = Vec::with_capacity(alloc, tenants)?;
-        for _ in 0..tenants {
-            marks.push(CachePadded::new(AtomicU64::new(IDLE)))?;
-        }
-        // A tenant is in one channel at most, and each thread is told once that there are no more turns.
-        let room = tenants.saturating_add(threads);
+    /// A scheduler of so many threads, with nothing due. So many of the threads are workers.
+    pub(crate) fn new(alloc: Global, threads: usize, workers: usize) -> Mem<(Scheduler, Turns)> {
+        // A tenant is in one channel at most, one that is being removed too, and each thread is told once that there are
+        // no more turns.
+        let tenants = MAX_TENANTS + 1;
+        let room = threads.saturating_add(tenants);
         let (clock, clock_turns) = bounded(alloc, room)?;
         let (pump, pump_turns) = bounded(alloc, room)?;
         let (catch_up, catch_up_turns) = bounded(alloc, room)?;
         let (jobs, job_turns) = bounded(alloc, room)?;
         let scheduler = Scheduler {
-            marks,
             clock,
             pump,
             catch_up,
@@ -137,13 +160,19 @@ impl Scheduler {
         Ok((scheduler, turns))
     }
 
+    /// The turns of the tenant that has this number, with nothing due.
+    pub(crate) fn turns_of(&self, number: u64) -> Mem<TenantTurns> {
+        Ok(TenantTurns {
+            number,
+            marks: CachePadded::new(AtomicU64::new(IDLE)),
+            pump: self.pump.clone()?,
+        })
+    }
+
     /// Work is due on a tenant. Where nobody has the turn, it is given now.
-    pub(crate) fn schedule<R: Wait>(&self, rt: &R, tenant: usize, work: Work) {
-        let Some(marks) = self.marks.get(tenant) else {
-            return;
-        };
-        if Scheduler::mark_or_begin(marks, work) {
-            self.give(rt, tenant, work);
+    pub(crate) fn schedule<R: Wait>(&self, rt: &R, turns: &TenantTurns, work: Work) {
+        if Scheduler::mark_or_begin(&turns.marks, work) {
+            self.give(rt, turns.number, work);
         }
     }
 
@@ -153,19 +182,20 @@ impl Scheduler {
         if before & RUNNING != 0 {
             return false;
         }
+        if before & RETIRED != 0 {
+            marks.fetch_and(!RUNNING, Ordering::SeqCst);
+            return false;
+        }
         // The turn that begins now is for all that was left until here.
         marks.fetch_and(!work.mark(), Ordering::SeqCst);
         true
     }
 
     /// Takes the turn on a tenant where nobody has it and nothing is due.
-    pub(crate) fn try_begin(&self, tenant: usize) -> bool {
-        let Some(marks) = self.marks.get(tenant) else {
-            return false;
-        };
+    pub(crate) fn try_begin(turns: &TenantTurns) -> bool {
         for _ in 0..LOOKS {
-            let is_idle = marks.load(Ordering::SeqCst) == IDLE;
-            if is_idle && Scheduler::moves(marks, IDLE, RUNNING) {
+            let is_idle = turns.marks.load(Ordering::SeqCst) == IDLE;
+            if is_idle && Scheduler::moves(&turns.marks, IDLE, RUNNING) {
                 return true;
             }
             hint::spin_loop();
@@ -180,12 +210,9 @@ impl Scheduler {
     }
 
     /// Ends a turn; the tenant goes on to the work that is due next.
-    pub(crate) fn finish<R: Wait>(&self, rt: &R, tenant: usize, done: Work) {
-        let Some(marks) = self.marks.get(tenant) else {
-            return;
-        };
-        if let Some(work) = Scheduler::end_or_go_on(marks, done) {
-            self.give(rt, tenant, work);
+    pub(crate) fn finish<R: Wait>(&self, rt: &R, turns: &TenantTurns, done: Work) {
+        if let Some(work) = Scheduler::end_or_go_on(&turns.marks, done) {
+            self.give(rt, turns.number, work);
         }
     }
 
@@ -194,14 +221,30 @@ impl Scheduler {
         if Scheduler::moves(marks, RUNNING, IDLE) {
             return None;
         }
-        let next = done.next_of(marks.load(Ordering::SeqCst))?;
+        let due = marks.load(Ordering::SeqCst);
+        if due & RETIRED != 0 {
+            marks.fetch_and(!RUNNING, Ordering::SeqCst);
+            return None;
+        }
+        let next = done.next_of(due)?;
         marks.fetch_and(!next.mark(), Ordering::SeqCst);
         Some(next)
     }
 
+    /// Lets no more turns begin on a tenant, and waits until the last one has ended.
+    pub(crate) fn retire<R: Wait + Clock>(rt: &R, turns: &TenantTurns) {
+        turns.marks.fetch_or(RETIRED, Ordering::SeqCst);
+        for _ in rt.forever() {
+            if turns.marks.load(Ordering::SeqCst) & RUNNING == 0 {
+                return;
+            }
+            thread::sleep(rt, Duration::from_millis(MILLIS_A_LOOK));
+        }
+    }
+
     /// A worker that has the turn on a slow tenant may serve it; else the tenant waits with its turn until it may.
-    pub(crate) fn begin_slow<R: Wait>(&self, rt: &R, tenant: usize) -> bool {
-        let may_begin = self.slow.begin(rt, tenant);
+    pub(crate) fn begin_slow<R: Wait>(&self, rt: &R, turns: &TenantTurns) -> bool {
+        let may_begin = self.slow.begin(rt, turns.number);
         if !may_begin {
             self.give_waiting(rt);
         }
@@ -220,7 +263,7 @@ impl Scheduler {
         }
     }
 
-    fn give<R: Wait>(&self, rt: &R, tenant: usize, work: Work) {
+    fn give<R: Wait>(&self, rt: &R, tenant: u64, work: Work) {
         let to = match work {
             Work::Tick => &self.clock,
             Work::Takes => &self.pump,

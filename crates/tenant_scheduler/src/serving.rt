@@ -8,14 +8,16 @@ use crate::worker::work;
 use std::alloc::Global;
 use std::rt::Clock;
 use std::sync::{Arc, Wait};
-use tenant_registry::{Gate, Registry, Seat};
+use tenant_registry::{Gate, Seat};
 
 /// How many threads serve neither clients nor connections: the clock, the pump, the catch-up worker.
 pub const BESIDE_WORKERS: usize = 3;
 
-/// What a thread serves tenants with: its way into the registry, and what all threads share.
+/// What a thread serves tenants with: its way to them, and what all threads share.
 pub struct ServingThread<'x, R: Wait + Drop, G> {
     pub(crate) rt: R,
+    /// Which of the threads it is.
+    pub(crate) place: usize,
     pub(crate) caller: Caller<'x, R, G>,
     pub(crate) shared: Arc<Shared<R>>,
 }
@@ -24,6 +26,7 @@ impl<'x, R: Wait + Drop, G> Drop for ServingThread<'x, R, G> {
     fn drop(self) {
         let ServingThread {
             rt: _,
+            place: _,
             caller: _,
             shared: _,
         } = self;
@@ -31,29 +34,40 @@ impl<'x, R: Wait + Drop, G> Drop for ServingThread<'x, R, G> {
 }
 
 impl<'x, R: Wait + Clock + Copy + Drop, G: Gate> ServingThread<'x, R, G> {
-    /// That of the thread which has a seat.
+    /// That of the thread at a place, from 0 on, which has a seat.
     pub fn new(
         rt: R,
-        registry: &'x Registry,
+        place: usize,
         gate: &'x G,
         seat: Seat,
         shared: Arc<Shared<R>>,
     ) -> ServingThread<'x, R, G> {
         ServingThread {
             rt,
-            caller: Caller::new(rt, registry, gate, seat),
+            place,
+            caller: Caller::new(rt, gate, seat),
             shared,
         }
     }
 
     /// What it works with, for the one service that it does.
-    pub(crate) fn into_parts(self) -> (R, Caller<'x, R, G>, Arc<Shared<R>>) {
-        let ServingThread { rt, caller, shared } = self;
-        (rt, caller, shared)
+    pub(crate) fn into_parts(self) -> (R, usize, Caller<'x, R, G>, Arc<Shared<R>>) {
+        let ServingThread {
+            rt,
+            place,
+            caller,
+            shared,
+        } = self;
+        (rt, place, caller, shared)
+    }
+
+    /// It moves.
+    pub(crate) fn beat(&self) {
+        self.shared.beats.beat(&self.rt, self.place);
     }
 
     pub fn into_seat(self) -> Seat {
-        let (_, caller, _) = self.into_parts();
+        let (_, _, caller, _) = self.into_parts();
         caller.into_seat()
     }
 }

@@ -1,28 +1,32 @@
 //! What the threads that serve tenants share.
-use crate::budget::{Budget, DEFAULT_BUDGET};
+use crate::beats::Beats;
 use crate::caller::Caller;
-use crate::clients::Clients;
-use crate::clock::Running;
-use crate::jobs::{Directory, Entrance, Jobs};
+use crate::entrances::Entrances;
+use crate::jobs::Jobs;
 use crate::pump::drop_closed;
-use crate::scheduler::{Scheduler, Turns};
+use crate::scheduler::{Scheduler, Turn, Turns, Work};
+use crate::tenants::{ServedTenant, Tenants};
+use crossbeam_channel::{Receiver, RecvTimeoutError};
 use etcd_types::Mem;
 use etcd_types::limits::MAX_TENANTS;
-use indexmap::IndexMap;
-use std::alloc::Global;
+use std::alloc::{AllocError, Global};
 use std::rt::Clock;
-use std::sync::{Arc, Mutex, Wait};
-use tenant_registry::{Gate, Registry, Seat};
-use tokio::sync::mpsc;
+use std::sync::{Arc, Wait};
+use std::time::Duration;
+use tenant_registry::{Gate, Key, Registry, Seat};
 
-/// How many jobs wait for one tenant before its callers are held back.
-const WAITING: usize = 256;
+/// The part of the directory that the threads read which have no event loop; those of the loops come before it.
+const SHARD: usize = 7;
 
-/// Whose turn it is, where the turns arrive, and each tenant's clients, in the order of the registry.
+/// How many seconds a thread waits for a turn before it shows that it moves.
+const SECONDS_A_BEAT: u64 = 1;
+
+/// Whose turn it is, where the turns arrive, and the tenants.
 pub struct Shared<R: Wait + Drop> {
     pub(crate) scheduler: Arc<Scheduler>,
     pub(crate) turns: Turns,
-    pub(crate) clients: Vec<Mutex<Clients<R>>>,
+    pub(crate) beats: Beats,
+    tenants: Arc<Tenants<R>>,
 }
 
 impl<R: Wait + Drop> Drop for Shared<R> {
@@ -30,8 +34,47 @@ impl<R: Wait + Drop> Drop for Shared<R> {
         let Shared {
             scheduler: _,
             turns: _,
-            clients: _,
+            beats: _,
+            tenants: _,
         } = self;
+    }
+}
+
+impl<R: Wait + Drop> Shared<R> {
+    /// The tenant of that number.
+    pub(crate) fn numbered(&self, rt: &R, number: u64) -> Option<Arc<ServedTenant<R>>> {
+        self.tenants.numbered(rt, SHARD, number)
+    }
+
+    /// Work is due on all tenants.
+    pub(crate) fn schedule_all(&self, rt: &R, work: Work) {
+        self.tenants.schedule_all(rt, SHARD, work);
+    }
+
+    /// The tenants, for whoever takes some in or out.
+    pub fn tenants(&self) -> &Arc<Tenants<R>> {
+        &self.tenants
+    }
+}
+
+impl<R: Wait + Clock + Drop> Shared<R> {
+    /// The tenant whose turn comes next, for the thread at a place; none once there are no more turns. The thread moves
+    /// at least once a second, whether a turn comes or not.
+    pub(crate) fn next_turn(&self, rt: &R, place: usize, turns: &Receiver<Turn>) -> Option<u64> {
+        for _ in rt.forever() {
+            self.beats.beat(rt, place);
+            match turns.recv_timeout(rt, Duration::from_secs(SECONDS_A_BEAT)) {
+                Ok(Turn::On(tenant)) => return Some(tenant),
+                Ok(Turn::Over) | Err(RecvTimeoutError::Disconnected) => return None,
+                Err(RecvTimeoutError::Timeout) => {}
+            }
+        }
+        unreachable!()
+    }
+
+    /// Each thread has moved within so many seconds.
+    pub fn have_moved(&self, rt: &R, seconds: u64) -> bool {
+        self.beats.are_within(rt, seconds)
     }
 }
 
@@ -42,70 +85,60 @@ impl<R: Wait + Clock + Copy + Drop> Shared<R> {
     }
 
     /// Frees the slots of watches that ended after the pump did, by one of the seats that came back.
-    pub fn free_slots<G: Gate>(&self, rt: R, registry: &Registry, gate: &G, seats: &mut Vec<Seat>) {
+    pub fn free_slots<G: Gate>(&self, rt: R, gate: &G, seats: &mut Vec<Seat>) {
         let Some(seat) = seats.pop() else {
             return;
         };
-        let mut caller = Caller::new(rt, registry, gate, seat);
-        for clients in self.clients.as_slice() {
-            drop_closed(&mut caller, &mut *clients.lock(&rt));
+        let mut caller = Caller::new(rt, gate, seat);
+        for place in 0..MAX_TENANTS {
+            let Some(tenant) = self.tenants.at(&rt, SHARD, place) else {
+                break;
+            };
+            drop_closed(&mut caller, &mut *tenant.clients.lock(&rt));
         }
         let _ = seats.push(caller.into_seat());
     }
 }
 
-/// Empty queues for each tenant of a registry, and budgets of so many bytes in the order of the tenants, or by default:
-/// where calls go in, and what so many threads share that serve them, of which so many are workers.
-pub fn open<R: Wait + Drop>(
+/// A key to each tenant of a registry, in their order.
+fn keys(alloc: Global, registry: &Registry) -> Mem<Vec<Key>> {
+    let mut keys = Vec::new(alloc);
+    for place in 0..MAX_TENANTS {
+        let Some(name) = registry.name_at(place) else {
+            break;
+        };
+        let Some(key) = registry.key(Vec::from_slice(alloc, name)?)? else {
+            return Err(AllocError);
+        };
+        keys.push(key)?;
+    }
+    Ok(keys)
+}
+
+/// The tenants of a registry, with nothing under way, and budgets of so many bytes in the order of the tenants, or by
+/// default: where calls go in, and what so many threads share that serve them, of which so many are workers.
+pub fn open<R: Wait + Clock + Drop>(
+    rt: &R,
     alloc: Global,
     registry: &Registry,
     budgets: &[usize],
     threads: usize,
     workers: usize,
 ) -> Mem<(Jobs<R>, Arc<Shared<R>>)> {
-    let mut entrances = IndexMap::new(alloc);
-    let mut clients = Vec::new(alloc);
-    for number in 0..MAX_TENANTS {
-        let Some(name) = registry.name_at(number) else {
-            break;
-        };
-        let (queue, jobs) = mpsc::channel(alloc, WAITING)?;
-        let budget = budgets.get(number).copied().unwrap_or(DEFAULT_BUDGET);
-        let budget = Budget::new(alloc, budget)?;
-        let entrance = Entrance {
-            queue,
-            budget: budget.share()?,
-        };
-        entrances.insert(Vec::from_slice(alloc, name)?, entrance)?;
-        clients.push(Mutex::new(Clients {
-            name: Vec::from_slice(alloc, name)?,
-            budget,
-            jobs,
-            watches: Vec::new(alloc),
-            next_take: 0,
-            running: Running::new(),
-            is_slow: false,
-            left_to_workers: 0,
-        }))?;
-    }
-    let (scheduler, turns) = Scheduler::new(alloc, clients.len(), threads, workers)?;
+    let (scheduler, turns) = Scheduler::new(alloc, threads, workers)?;
     let scheduler = Arc::new(alloc, scheduler)?;
+    let keys = keys(alloc, registry)?;
+    let entrances = Entrances::new(alloc, Arc::try_clone(&scheduler)?)?;
+    let entrances = Arc::new(alloc, entrances)?;
+    let tenants = Tenants::new(alloc, Arc::try_clone(&entrances)?)?;
+    tenants.admit_all(rt, alloc, keys, budgets)?;
+    let tenants = Arc::new(alloc, tenants)?;
+    let jobs = Jobs::new(entrances);
     let shared = Shared {
-        scheduler: Arc::try_clone(&scheduler)?,
-        turns,
-        clients,
-    };
-    let shared = Arc::new(alloc, shared)?;
-    let directory = Directory {
-        entrances,
         scheduler,
+        turns,
+        beats: Beats::new(rt, alloc, threads)?,
+        tenants,
     };
-    let directory = Arc::new(alloc, directory)?;
-    Ok((
-        Jobs {
-            directory,
-            inline: None,
-        },
-        shared,
-    ))
+    Ok((jobs, Arc::new(alloc, shared)?))
 }

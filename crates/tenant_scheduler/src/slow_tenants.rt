@@ -12,8 +12,8 @@ use std::sync::atomic::{AtomicUsize, Ordering};
 pub(crate) struct SlowTenants {
     most: usize,
     served: CachePadded<AtomicUsize>,
-    wait: Sender<usize>,
-    waiting: Receiver<usize>,
+    wait: Sender<u64>,
+    waiting: Receiver<u64>,
 }
 
 impl SlowTenants {
@@ -29,7 +29,7 @@ impl SlowTenants {
     }
 
     /// A worker may serve a slow tenant now; else the tenant waits.
-    pub(crate) fn begin<R: Wait>(&self, rt: &R, tenant: usize) -> bool {
+    pub(crate) fn begin<R: Wait>(&self, rt: &R, tenant: u64) -> bool {
         if self.served.fetch_add(1, Ordering::SeqCst) < self.most {
             return true;
         }
@@ -46,7 +46,7 @@ impl SlowTenants {
 
     /// A tenant that need not wait on. It is asked for after each `end`, and after each tenant that began to wait,
     /// since the last of those served may have ended just before.
-    pub(crate) fn next<R: Wait>(&self, rt: &R) -> Option<usize> {
+    pub(crate) fn next<R: Wait>(&self, rt: &R) -> Option<u64> {
         if self.served.load(Ordering::SeqCst) >= self.most {
             return None;
         }

@@ -15,14 +15,16 @@ impl Stopwatch {
         }
     }
 
+    /// How long it is since then.
+    pub(crate) fn passed(&self, rt: &impl Clock) -> Duration {
+        match &self.begun {
+            Some(begun) => begun.elapsed(rt).unwrap_or(Duration::ZERO),
+            None => Duration::ZERO,
+        }
+    }
+
     /// So many milliseconds have passed.
     pub(crate) fn is_past(&self, rt: &impl Clock, millis: u64) -> bool {
-        match &self.begun {
-            Some(begun) => match begun.elapsed(rt) {
-                Ok(passed) => passed >= Duration::from_millis(millis),
-                Err(_) => false,
-            },
-            None => false,
-        }
+        self.passed(rt) >= Duration::from_millis(millis)
     }
 }

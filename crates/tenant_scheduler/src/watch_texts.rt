@@ -7,7 +7,7 @@ ghost use Rattle.futures.specs.Task.{IsArmed, Keeps};
 ghost use Rattle.futures.specs.Poll.{OnPending};
 
 use crate::budget::MadeText;
-use crate::scheduler::{Scheduler, Work};
+use crate::scheduler::TenantTurns;
 use etcd_types::Mem;
 use futures::ready;
 use futures::task::{Context, Poll};
@@ -40,8 +40,7 @@ pub struct WatchTexts<R: Wait + Drop> {
     rt: R,
     texts: mpsc::Receiver<MadeText>,
     may_have_more: Arc<AtomicBool>,
-    scheduler: Arc<Scheduler>,
-    tenant: usize,
+    turns: Arc<TenantTurns>,
 }
 
 impl TextSender {
@@ -49,8 +48,7 @@ impl TextSender {
     pub(crate) fn new<R: Wait + Drop>(
         rt: R,
         alloc: Global,
-        scheduler: &Arc<Scheduler>,
-        tenant: usize,
+        turns: &Arc<TenantTurns>,
     ) -> Mem<(TextSender, WatchTexts<R>)> {
         let (to, texts) = mpsc::channel(alloc, ROOM)?;
         let may_have_more = Arc::new(alloc, AtomicBool::new(false))?;
@@ -62,8 +60,7 @@ impl TextSender {
             rt,
             texts,
             may_have_more,
-            scheduler: Arc::try_clone(scheduler)?,
-            tenant,
+            turns: Arc::try_clone(turns)?,
         };
         Ok((sender, texts))
     }
@@ -103,7 +100,7 @@ impl<R: Wait + Drop> WatchTexts<R> {
     {
         let text = ready!(self.texts.poll_recv(cx));
         if self.may_have_more.swap(false, Ordering::SeqCst) {
-            self.scheduler.schedule(&self.rt, self.tenant, Work::Takes);
+            self.turns.schedule_takes(&self.rt);
         }
         Poll::Ready(text)
     }
@@ -115,10 +112,9 @@ impl<R: Wait + Drop> Drop for WatchTexts<R> {
             rt,
             texts,
             may_have_more: _,
-            scheduler,
-            tenant,
+            turns,
         } = self;
         drop(texts);
-        scheduler.schedule(&rt, tenant, Work::Takes);
+        turns.schedule_takes(&rt);
     }
 }

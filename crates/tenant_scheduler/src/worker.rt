@@ -1,12 +1,13 @@
 //! The workers: the calls of clients.
 use crate::answer::{Answer, AnswerBody, Text};
-use crate::budget::{MadeText, tree_weight};
+use crate::budget::{MadeText, SMALL_TREE, tree_weight};
 use crate::caller::Caller;
 use crate::clients::{Ask, Clients, Job, OpenWatch};
 use crate::pump::take_all;
-use crate::scheduler::{Scheduler, Turn, Work};
+use crate::scheduler::{Scheduler, Work};
 use crate::serving::ServingThread;
 use crate::stopwatch::Stopwatch;
+use crate::tenants::ServedTenant;
 use crate::watch_texts::{TextSender, WatchTexts};
 use etcd_types::{Call, Refusal, Step};
 use gateway_json::read_step;
@@ -30,51 +31,63 @@ pub(crate) fn work<R: Wait + Clock + Copy + Drop, G: Gate>(
     alloc: Global,
     thread: ServingThread<'_, R, G>,
 ) -> Seat {
-    let (rt, mut caller, shared) = thread.into_parts();
+    let (rt, place, mut caller, shared) = thread.into_parts();
     for _ in rt.forever() {
-        let Ok(Turn::On(tenant)) = shared.turns.workers.recv(&rt) else {
+        let Some(tenant) = shared.next_turn(&rt, place, &shared.turns.workers) else {
             break;
         };
-        let Some(clients) = shared.clients.get(tenant) else {
+        let Some(tenant) = shared.numbered(&rt, tenant) else {
             continue;
         };
-        let turn = WorkerTurn {
-            rt,
-            alloc,
-            scheduler: &shared.scheduler,
-            tenant,
-        };
-        if turn.run(&mut caller, &mut *clients.lock(&rt)) {
-            shared.scheduler.finish(&rt, tenant, Work::Jobs);
-        }
+        take_turn(rt, alloc, &mut caller, &shared.scheduler, &tenant);
     }
     caller.into_seat()
 }
 
-/// A worker's turn on a tenant.
-#[derive(Clone, Copy)]
-struct WorkerTurn<'a, R> {
+/// Serves a tenant's turn, which goes on to what is due next; a slow tenant may have to wait with it.
+fn take_turn<R: Wait + Clock + Copy + Drop, G: Gate>(
     rt: R,
     alloc: Global,
-    scheduler: &'a Arc<Scheduler>,
-    tenant: usize,
+    caller: &mut Caller<'_, R, G>,
+    scheduler: &Arc<Scheduler>,
+    tenant: &ServedTenant<R>,
+) {
+    let turn = WorkerTurn {
+        rt,
+        alloc,
+        scheduler,
+        tenant,
+    };
+    turn.run(caller);
 }
 
-impl<R: Wait + Clock + Copy + Drop> WorkerTurn<'_, R> {
-    /// Serves a few of a tenant's jobs, unless the tenant was slow and has to wait with its turn. It tells whether it
-    /// served them.
-    fn run<G: Gate>(&self, caller: &mut Caller<'_, R, G>, clients: &mut Clients<R>) -> bool {
+/// A worker's turn on a tenant.
+#[derive(Clone, Copy)]
+struct WorkerTurn<'s, 't, R: Wait + Drop> {
+    rt: R,
+    alloc: Global,
+    scheduler: &'s Arc<Scheduler>,
+    tenant: &'t ServedTenant<R>,
+}
+
+impl<R: Wait + Clock + Copy + Drop> WorkerTurn<'_, '_, R> {
+    /// Serves a few of a tenant's jobs, unless the tenant was slow and has to wait with its turn.
+    fn run<G: Gate>(&self, caller: &mut Caller<'_, R, G>) {
+        let mut clients = self.tenant.clients.lock(&self.rt);
         let was_slow = clients.is_slow;
-        if was_slow && !self.scheduler.begin_slow(&self.rt, self.tenant) {
-            return false;
+        if was_slow && !self.scheduler.begin_slow(&self.rt, self.tenant.turns()) {
+            return;
         }
         let stopwatch = Stopwatch::start(&self.rt);
-        self.serve_jobs(caller, clients, &stopwatch);
+        self.serve_jobs(caller, &mut *clients, &stopwatch);
+        clients.counts.turns.add(stopwatch.passed(&self.rt));
         clients.is_slow = stopwatch.is_past(&self.rt, MILLIS_A_TURN);
         if was_slow {
             self.scheduler.end_slow(&self.rt);
         }
-        true
+        drop(clients);
+        self.scheduler
+            .finish(&self.rt, self.tenant.turns(), Work::Jobs);
     }
 
     /// Serves a few of a tenant's jobs. If there may be more, the tenant comes again behind the others.
@@ -92,17 +105,26 @@ impl<R: Wait + Clock + Copy + Drop> WorkerTurn<'_, R> {
             let Ok(job) = clients.jobs.try_recv() else {
                 return;
             };
-            let Job { call, ask, reply } = job;
+            let Job {
+                call,
+                ask,
+                length,
+                waiting,
+                reply,
+            } = job;
+            clients.counts.waits.add(waiting.passed(&self.rt));
             bytes = bytes.saturating_add(ask.len());
             let answer = self.answer(caller, clients, call, ask);
+            clients.counts.add(call, length, &answer);
             bytes = bytes.saturating_add(answer.len());
             // Where the client has gone, the call stays made.
             drop(reply.send(answer));
             if may_give(call) {
-                clients.schedule_takes(&self.rt, self.scheduler, self.tenant);
+                clients.schedule_takes(&self.rt, self.scheduler, self.tenant.turns());
             }
         }
-        self.scheduler.schedule(&self.rt, self.tenant, Work::Jobs);
+        self.scheduler
+            .schedule(&self.rt, self.tenant.turns(), Work::Jobs);
     }
 
     fn answer<G: Gate>(
@@ -133,9 +155,14 @@ impl<R: Wait + Clock + Copy + Drop> WorkerTurn<'_, R> {
         }
     }
 
-    /// The step of a long body. It is refused where the tenant's budget has no room for the tree that is made of it.
+    /// The step of a long body. It is refused where the tree that is made of it is large, and the tenant's budget has no
+    /// room for it.
     fn read(&self, clients: &Clients<R>, call: Call, body: &[u8]) -> Result<Step, Refusal> {
-        let Some(tree) = clients.budget.reserve(tree_weight(body)) else {
+        let weight = tree_weight(body);
+        if weight <= SMALL_TREE {
+            return read_step(self.alloc, call, body);
+        }
+        let Some(tree) = clients.budget.reserve(weight) else {
             return Err(Refusal::Memory);
         };
         let step = read_step(self.alloc, call, body);
@@ -153,11 +180,10 @@ impl<R: Wait + Clock + Copy + Drop> WorkerTurn<'_, R> {
         if clients.watches.reserve(1).is_err() {
             return Answer::no_memory();
         }
-        let Ok((sender, texts)) = TextSender::new(self.rt, self.alloc, self.scheduler, self.tenant)
-        else {
+        let Ok((sender, texts)) = TextSender::new(self.rt, self.alloc, self.tenant.turns()) else {
             return Answer::no_memory();
         };
-        match caller.call(clients.name.as_slice(), step) {
+        match caller.call(&clients.key, step) {
             Ok(receipt) => opened(caller, clients, receipt, sender, texts),
             Err(refusal) => Answer::refused(self.alloc, refusal),
         }
@@ -172,20 +198,21 @@ fn opened<R: Wait + Clock + Copy + Drop, G: Gate>(
     sender: TextSender,
     texts: WatchTexts<R>,
 ) -> Answer<R> {
-    let status = receipt.status();
+    let (status, refusal) = (receipt.status(), receipt.refusal());
     let Some(slot) = receipt.slot() else {
-        return Answer::text(status, MadeText::short(receipt.into_body()));
+        return Answer::text(status, refusal, MadeText::short(receipt.into_body()));
     };
     let watch = OpenWatch {
         slot,
         texts: sender,
     };
     if clients.watches.push(watch).is_err() {
-        let _ = caller.call(clients.name.as_slice(), Step::DropWatch(slot));
+        let _ = caller.call(&clients.key, Step::DropWatch(slot));
         return Answer::no_memory();
     }
     Answer {
         status,
+        refusal,
         body: AnswerBody::Watch {
             created: Text::Made(MadeText::short(receipt.into_body())),
             texts,

@@ -1,27 +1,23 @@
 //! What the server is told at its start.
-use crate::connections::LOOPS;
-use crate::peers::{MAX_PATIENCE, Patience};
-use etcd_types::limits::{CELL_BYTES, DEFAULT_SEGMENTS, MAX_CONFIG, MAX_WORKERS};
+use crate::members::{ConfigFault, member, number, object_of, text_of};
+use crate::patience::{MAX_PATIENCE, Patience};
+use crate::tenants::{Allowance, allowance_of, open_connections_of, tenant_of};
+use etcd_types::limits::{DEFAULT_SEGMENTS, MAX_CONFIG, MAX_WORKERS};
 use gateway_json::read_unsigned;
 use serde_json::Value;
-use std::alloc::{AllocError, Global};
+use std::alloc::Global;
+use std::net::SocketAddr;
 use tenant_registry::{TenantConfig, check};
-use tenant_scheduler::{BESIDE_WORKERS, DEFAULT_BUDGET};
+use tenant_scheduler::BESIDE_WORKERS;
+
+/// How many event loops read and write sockets.
+pub const LOOPS: usize = 4;
 
 /// How many workers there are where nothing is said.
 const DEFAULT_WORKERS: u64 = 4;
 
-/// The least bytes that a budget may be told to have: twice those of the longest body.
-const MIN_BUDGET: u64 = 4_194_304;
-
-/// The most bytes that a budget may be told to have: a tebibyte.
-const MAX_BUDGET: u64 = 1_099_511_627_776;
-
-/// How many times the bytes of its quota a tenant's budget has beside `DEFAULT_BUDGET`, where none is told.
-const QUOTAS_A_BUDGET: u64 = 4;
-
 /// Where to listen, with how many workers, and which tenants there are.
-#[derive(Debug, Drop)]
+#[derive(Debug)]
 pub struct Config {
     /// An address and a port, as `127.0.0.1:2379`.
     pub listen: String,
@@ -31,21 +27,41 @@ pub struct Config {
     pub workers: usize,
     /// How many connections are served before the end; without it there is none.
     pub connections: Option<u32>,
+    /// How long a peer may keep a connection waiting.
     pub patience: Patience,
     /// How many connections may be open at once; without it as many as the system allows descriptors, less 64.
     pub open_connections: Option<usize>,
+    /// The tenants that are there from the start.
     pub tenants: Vec<TenantConfig>,
     /// What the clients of each tenant may take, in the order of the tenants.
     pub allowances: Vec<Allowance>,
+    /// Where the operator is served; without it nowhere.
+    pub operator: Option<OperatorConfig>,
 }
 
-/// What the clients of a tenant may take.
-#[derive(Clone, Copy, Debug)]
-pub struct Allowance {
-    /// How many bytes of bodies and answers may be under way.
-    pub budget: usize,
-    /// How many connections may be open; without it a quarter of those of all.
-    pub open_connections: Option<usize>,
+impl Drop for Config {
+    fn drop(self) {
+        let Config {
+            listen: _,
+            segments: _,
+            workers: _,
+            connections: _,
+            patience: _,
+            open_connections: _,
+            tenants: _,
+            allowances: _,
+            operator: _,
+        } = self;
+    }
+}
+
+/// Where and for whom the operator is served. Without a token the address is one of this machine alone.
+#[derive(Debug, Drop)]
+pub struct OperatorConfig {
+    /// An address and a port.
+    pub listen: SocketAddr,
+    /// What each request has to bring.
+    pub token: Option<Vec<u8>>,
 }
 
 impl Config {
@@ -53,21 +69,6 @@ impl Config {
     /// catch-up worker, and for each of the four event loops that read and write sockets.
     pub fn seats(&self) -> usize {
         self.workers.saturating_add(BESIDE_WORKERS + LOOPS)
-    }
-}
-
-/// Why there is no configuration.
-#[derive(Clone, Copy, Debug, PartialEq, Eq)]
-pub enum ConfigFault {
-    /// It is too long, no JSON object, or a member is not what it has to be.
-    Unreadable,
-    /// It can't be held.
-    Memory,
-}
-
-impl From<AllocError> for ConfigFault {
-    fn from(_: AllocError) -> ConfigFault {
-        ConfigFault::Memory
     }
 }
 
@@ -87,6 +88,7 @@ fn config_of(alloc: Global, object: &Value) -> Result<Config, ConfigFault> {
     let connections = connections_of(object)?;
     let patience = patience_of(object)?;
     let open_connections = open_connections_of(object)?;
+    let operator = operator_of(alloc, object)?;
     let mut allowances = Vec::new(alloc);
     let tenants = tenants_of(alloc, object, &mut allowances)?;
     if check(segments, tenants.as_slice()).is_err() {
@@ -101,36 +103,8 @@ fn config_of(alloc: Global, object: &Value) -> Result<Config, ConfigFault> {
         open_connections,
         tenants,
         allowances,
+        operator,
     })
-}
-
-fn object_of(alloc: Global, text: &[u8]) -> Result<Value, ConfigFault> {
-    match Value::from_slice(alloc, text) {
-        Ok(value) if value.is_object() => Ok(value),
-        Err(error) if error.is_memory() => Err(ConfigFault::Memory),
-        _ => Err(ConfigFault::Unreadable),
-    }
-}
-
-/// The member of that name; a null is none.
-fn member<'v>(object: &'v Value, name: &str) -> Option<&'v Value> {
-    object.get(name).filter(|member| !member.is_null())
-}
-
-/// A number, as a number or as a text, or what an absent one stands for.
-fn number(object: &Value, name: &str, absent: u64) -> Result<u64, ConfigFault> {
-    match member(object, name) {
-        None => Ok(absent),
-        member => read_unsigned(member).map_err(|_| ConfigFault::Unreadable),
-    }
-}
-
-/// A text that has to be there.
-fn text_of(alloc: Global, object: &Value, name: &str) -> Result<String, ConfigFault> {
-    match member(object, name) {
-        Some(Value::String(text)) => Ok(String::from_str(alloc, text.as_str())?),
-        _ => Err(ConfigFault::Unreadable),
-    }
 }
 
 fn segments_of(object: &Value) -> Result<u32, ConfigFault> {
@@ -198,45 +172,24 @@ fn tenants_of(
     Ok(tenants)
 }
 
-fn tenant_of(alloc: Global, object: &Value) -> Result<TenantConfig, ConfigFault> {
-    let Ok(audit) = u32::try_from(number(object, "audit", 0)?) else {
+/// Where the operator is served. An address that others reach has to have a token.
+fn operator_of(alloc: Global, object: &Value) -> Result<Option<OperatorConfig>, ConfigFault> {
+    if member(object, "operator").is_none() {
+        return Ok(None);
+    }
+    let Ok(listen) = text_of(alloc, object, "operator")?.parse::<SocketAddr>() else {
         return Err(ConfigFault::Unreadable);
     };
-    Ok(TenantConfig {
-        name: text_of(alloc, object, "name")?.into_bytes(),
-        cluster: number(object, "cluster_id", 0)?,
-        quota: number(object, "quota", 0)?,
-        first: number(object, "first", 1)?,
-        audit,
-    })
-}
-
-fn allowance_of(object: &Value, quota: u64) -> Result<Allowance, ConfigFault> {
-    Ok(Allowance {
-        budget: budget_of(object, quota)?,
-        open_connections: open_connections_of(object)?,
-    })
-}
-
-/// A number of connections, from one to those that numbers of 32 bits have.
-fn open_connections_of(object: &Value) -> Result<Option<usize>, ConfigFault> {
-    match member(object, "open_connections") {
-        None => Ok(None),
-        member => match read_unsigned(member).map(u32::try_from) {
-            Ok(Ok(connections)) if connections >= 1 => Ok(Some(connections as usize)),
-            _ => Err(ConfigFault::Unreadable),
-        },
-    }
-}
-
-fn budget_of(object: &Value, quota: u64) -> Result<usize, ConfigFault> {
-    let of_quota = quota.saturating_mul(CELL_BYTES * QUOTAS_A_BUDGET);
-    let absent = of_quota
-        .saturating_add(DEFAULT_BUDGET as u64)
-        .min(MAX_BUDGET);
-    let budget = number(object, "budget", absent)?;
-    if budget < MIN_BUDGET || budget > MAX_BUDGET {
+    let token = match member(object, "operator_token") {
+        None => None,
+        Some(_) => Some(text_of(alloc, object, "operator_token")?.into_bytes()),
+    };
+    let is_safe = match &token {
+        Some(token) => !token.is_empty(),
+        None => listen.ip().is_loopback(),
+    };
+    if !is_safe {
         return Err(ConfigFault::Unreadable);
     }
-    Ok(budget as usize)
+    Ok(Some(OperatorConfig { listen, token }))
 }

@@ -31,26 +31,54 @@ const PIECES_A_POLL: usize = 128;
 const MAX_PASSED: u32 = 4096;
 
 /// Begins an exchange for each request of a connection.
-#[derive(Drop)]
-pub(crate) struct Gateway<R: Wait + Clock + Drop> {
-    pub(crate) rt: R,
-    pub(crate) alloc: Global,
-    pub(crate) jobs: Option<Jobs<R>>,
+pub struct Gateway<R: Wait + Clock + Drop> {
+    /// The runtime.
+    pub rt: R,
+    /// What takes memory.
+    pub alloc: Global,
+    /// Where calls go in; none where there was no memory to share it.
+    pub jobs: Option<Jobs<R>>,
     /// None where the connection is in no table.
-    pub(crate) requests: Option<Requests<R>>,
+    pub requests: Option<Requests<R>>,
     /// None where a body is waited for however long it takes.
-    pub(crate) timers: Option<time::Handle>,
+    pub timers: Option<time::Handle>,
     /// How long the next piece of a body is waited for.
-    pub(crate) body_patience: Duration,
+    pub body_patience: Duration,
+}
+
+impl<R: Wait + Clock + Drop> Drop for Gateway<R> {
+    fn drop(self) {
+        let Gateway {
+            rt: _,
+            alloc: _,
+            jobs: _,
+            requests: _,
+            timers: _,
+            body_patience: _,
+        } = self;
+    }
 }
 
 /// The exchange of one request.
-#[derive(Drop)]
-pub(crate) struct Exchange<I, R: Wait + Clock + Drop> {
+pub struct Exchange<I, R: Wait + Clock + Drop> {
     rt: R,
     alloc: Global,
+    /// None where there was no memory to share them.
+    jobs: Option<Jobs<R>>,
     standing: Standing<R>,
     stage: Stage<I, R>,
+}
+
+impl<I: Drop, R: Wait + Clock + Drop> Drop for Exchange<I, R> {
+    fn drop(self) {
+        let Exchange {
+            rt: _,
+            alloc: _,
+            jobs: _,
+            standing: _,
+            stage: _,
+        } = self;
+    }
 }
 
 /// How a request's connection stands to its tenant.
@@ -74,7 +102,6 @@ enum Stage<I, R: Wait + Drop> {
 /// A request whose body is being read.
 #[derive(Drop)]
 struct Reading<I, R: Wait + Drop> {
-    jobs: Option<Jobs<R>>,
     route: Result<Route, Refusal>,
     body: Limited<Incoming<I>>,
     read: Vec<u8>,
@@ -103,15 +130,15 @@ impl<I: Drop, R: Wait + Clock + Copy + Drop> Service<Request<Incoming<I>>> for G
         let bound = bound_of(req.body());
         let lost = refusal_of(req.headers(), bound);
         let share = match (&jobs, &route, lost) {
-            (Some(jobs), Ok(route), None) => jobs.body_share(route.tenant, bound),
+            (Some(jobs), Ok(route), None) => { jobs.body_share(&self.rt, route.tenant, bound) }
             _ => BodyShare::None,
         };
         Exchange {
             rt: self.rt,
             alloc: self.alloc,
+            jobs,
             standing,
             stage: Stage::Reading(Reading {
-                jobs,
                 route,
                 body: Limited::new(req.into_body(), MAX_BODY),
                 read: Vec::new(self.alloc),
@@ -136,7 +163,7 @@ impl<R: Wait + Clock + Copy + Drop> Gateway<R> {
             return (Err(Refusal::Memory), Standing::Free);
         };
         let method = req.method().as_str().as_bytes();
-        let route = match route(jobs, method, req.uri().path().as_bytes()) {
+        let route = match route(&self.rt, jobs, method, req.uri().path().as_bytes()) {
             Ok(route) => route,
             Err(refusal) => return (Err(refusal), Standing::Free),
         };
@@ -264,9 +291,8 @@ impl<I: Drop, R: Wait + Clock + Copy + Drop> Reading<I, R> {
     }
 
     /// Begins the call of a request that was read, or refuses it.
-    fn begin(self, rt: R, alloc: Global) -> Begun<R> {
+    fn begin(self, rt: R, alloc: Global, jobs: &Option<Jobs<R>>) -> Begun<R> {
         let Reading {
-            jobs,
             route,
             body: _,
             read,
@@ -281,7 +307,10 @@ impl<I: Drop, R: Wait + Clock + Copy + Drop> Reading<I, R> {
                 let share = share.for_body(read.len());
                 PendingCall::begin(rt, alloc, jobs, route, RequestBody { bytes: read, share })
             }
-            (Err(refusal), _, _) | (Ok(_), Some(refusal), _) => {
+            (Ok(route), Some(refusal), Some(jobs)) => {
+                Begun::Answered(jobs.refused(&rt, alloc, route, read.len(), refusal))
+            }
+            (Err(refusal), _, _) | (Ok(_), Some(refusal), None) => {
                 Begun::Answered(Answer::refused(alloc, refusal))
             }
             (Ok(_), None, None) => Begun::Answered(Answer::no_memory()),
@@ -304,10 +333,13 @@ impl<I: Drop, R: Wait + Clock + Copy + Drop> Future for Exchange<I, R> {
                 return Poll::Ready(self.respond(answer));
             }
         }
+        let Some(jobs) = &self.jobs else {
+            return Poll::Ready(Err(hyper::Error::from(AllocError)));
+        };
         let Stage::Pending(call) = &mut self.stage else {
             return Poll::Ready(Err(hyper::Error::from(AllocError)));
         };
-        match ready!(call.poll_answer(cx)) {
+        match ready!(call.poll_answer(jobs, cx)) {
             Some(answer) => Poll::Ready(self.respond(answer)),
             None => Poll::Ready(Err(hyper::Error::from(AllocError))),
         }
@@ -328,7 +360,7 @@ impl<I: Drop, R: Wait + Clock + Copy + Drop> Exchange<I, R> {
         let Stage::Reading(reading) = mem::replace(&mut self.stage, Stage::Over) else {
             return None;
         };
-        match reading.begin(self.rt, self.alloc) {
+        match reading.begin(self.rt, self.alloc, &self.jobs) {
             Begun::Answered(answer) => Some(answer),
             Begun::Pending(call) => {
                 self.stage = Stage::Pending(call);

@@ -17,13 +17,23 @@ use tenant_scheduler::{Answer, AnswerBody, MadeText, Share, Text, WatchTexts};
 const PIECE: usize = 65_536;
 
 /// The body of a response: a text, and behind that of a watch the texts that follow.
-#[derive(Drop)]
-pub(crate) struct ResponseBody<R: Wait + Clock + Drop> {
+pub struct ResponseBody<R: Wait + Clock + Drop> {
     first: Option<Unsent>,
     following: Option<WatchTexts<R>>,
     sending: Option<Sending>,
     /// The request is under way until all was handed over.
     standing: Standing<R>,
+}
+
+impl<R: Wait + Clock + Drop> Drop for ResponseBody<R> {
+    fn drop(self) {
+        let ResponseBody {
+            first: _,
+            following: _,
+            sending: _,
+            standing: _,
+        } = self;
+    }
 }
 
 /// What is left of an answer's text.
@@ -48,7 +58,11 @@ pub(crate) fn respond<R: Wait + Clock + Drop>(
     answer: Answer<R>,
     standing: Standing<R>,
 ) -> Result<Response<ResponseBody<R>>, hyper::Error> {
-    let Answer { status, body } = answer;
+    let Answer {
+        status,
+        refusal: _,
+        body,
+    } = answer;
     let ends = matches!(standing, Standing::OneTooMany);
     let mut response = Response::new(alloc, ResponseBody::of(body, standing)?);
     if let Ok(status) = StatusCode::from_u16(status) {

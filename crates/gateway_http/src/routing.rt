@@ -6,6 +6,7 @@ use tenant_scheduler::{Jobs, Route};
 
 /// The route of a request: the path, the tenant and the method are looked at in this order.
 pub(crate) fn route<R: Wait + Drop>(
+    rt: &R,
     jobs: &Jobs<R>,
     method: &[u8],
     path: &[u8],
@@ -16,7 +17,7 @@ pub(crate) fn route<R: Wait + Drop>(
     let Some(call) = call_of(target.path) else {
         return Err(Refusal::NoPath);
     };
-    let Some(tenant) = jobs.tenant(target.tenant) else {
+    let Some(tenant) = jobs.tenant(rt, target.tenant) else {
         return Err(Refusal::NoTenant);
     };
     if method != b"POST".as_slice() {

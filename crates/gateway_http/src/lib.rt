@@ -1,0 +1,16 @@
+//! Requests and responses of HTTP/1.1, between hyper and the scheduler.
+//!
+//! 1. Hyper reads a head, and `Gateway::call` begins an `Exchange` (`exchange`). `route` says which call it is, of
+//!    which tenant (`routing`), whose the connection is from then on. The body is read, whether the request is to be refused
+//!    or not; one that stops coming ends its connection (`stall`).
+//! 2. `PendingCall::begin` hands the call to the scheduler, and the exchange waits for its answer, which `respond`
+//!    makes a response (`response`). The body of a watch's response goes on with the texts of its watch.
+#![tactic(auto)]
+
+mod exchange;
+mod response;
+mod routing;
+mod stall;
+
+pub use exchange::{Exchange, Gateway};
+pub use response::ResponseBody;

@@ -1,0 +1,48 @@
+//! How long something took, each time: how many times it took no longer than this or that.
+use std::array;
+use std::sync::atomic::{AtomicU64, Ordering};
+use std::time::Duration;
+
+/// The ends of the first parts, in microseconds; the last part has none.
+pub const ENDS: [u64; 6] = [10, 100, 1_000, 10_000, 100_000, 1_000_000];
+
+/// As many parts as ends, and one behind them.
+const PARTS: usize = 7;
+
+/// Durations, by the part that each lies in.
+#[derive(Drop)]
+pub struct Durations {
+    parts: [AtomicU64; PARTS],
+    nanos: AtomicU64,
+}
+
+impl Durations {
+    /// None.
+    pub(crate) fn new() -> Durations {
+        Durations {
+            parts: array::from_fn(|_| AtomicU64::new(0)),
+            nanos: AtomicU64::new(0),
+        }
+    }
+
+    /// One more.
+    pub(crate) fn add(&self, duration: Duration) {
+        let nanos = u64::try_from(duration.as_nanos()).unwrap_or(u64::MAX);
+        let place = ENDS.iter().filter(|end| **end * 1_000 < nanos).count();
+        if let Some(part) = self.parts.get(place) {
+            part.fetch_add(1, Ordering::Relaxed);
+        }
+        self.nanos.fetch_add(nanos, Ordering::Relaxed);
+    }
+
+    /// How many lie in the part at this place, behind the last of which there is none.
+    pub fn part(&self, place: usize) -> Option<u64> {
+        let part = self.parts.get(place)?;
+        Some(part.load(Ordering::Relaxed))
+    }
+
+    /// Their sum in nanoseconds.
+    pub fn nanos(&self) -> u64 {
+        self.nanos.load(Ordering::Relaxed)
+    }
+}

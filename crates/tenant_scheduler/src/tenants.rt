@@ -1,0 +1,270 @@
+//! The tenants that are served, found by number where a turn comes in.
+//!
+//! A tenant's number is the registry's, which gives it once: no other tenant has it before or after. What a call, a turn or a watch keeps of
+//! a tenant is that number, or its turns, and the tenant is called by the key that lies with them. So nothing that was
+//! begun for a tenant reaches another one, also where the tenant was removed and others came since.
+//!
+//! A removal ends the tenant in this order: no request finds it by its name; no turn begins, and the last one has ended;
+//! its key is gone, the jobs that wait are answered that it is not there, and its watches end; its number finds nothing.
+use crate::budget::{Budget, DEFAULT_BUDGET};
+use crate::clients::Clients;
+use crate::clock::Running;
+use crate::counts::TenantCounts;
+use crate::entrances::{Entrance, Entrances};
+use crate::scheduler::{Scheduler, TenantTurns, Work};
+use crossbeam_utils::sync::ShardedLock;
+use etcd_types::Mem;
+use etcd_types::limits::MAX_TENANTS;
+use indexmap::IndexMap;
+use std::alloc::Global;
+use std::rt::Clock;
+use std::sync::{Arc, Mutex, Wait};
+use tenant_registry::Key;
+use tokio::sync::mpsc;
+
+/// How many jobs wait for one tenant before its callers are held back.
+const WAITING: usize = 256;
+
+/// A tenant as it is served.
+pub struct ServedTenant<R: Wait + Drop> {
+    pub(crate) entrance: Arc<Entrance<R>>,
+    pub(crate) clients: Mutex<Clients<R>>,
+}
+
+impl<R: Wait + Drop> Drop for ServedTenant<R> {
+    fn drop(self) {
+        let ServedTenant {
+            entrance: _,
+            clients: _,
+        } = self;
+    }
+}
+
+impl<R: Wait + Drop> ServedTenant<R> {
+    /// The tenant with these turns, whose clients may have so many bytes under way. Without a key it is not there yet.
+    fn new(
+        alloc: Global,
+        turns: TenantTurns,
+        budget: usize,
+        key: Option<Key>,
+    ) -> Mem<ServedTenant<R>> {
+        let (queue, jobs) = mpsc::channel(alloc, WAITING)?;
+        let budget = Budget::new(alloc, budget)?;
+        let counts = Arc::new(alloc, TenantCounts::new())?;
+        let clients = Clients {
+            key,
+            budget: budget.share()?,
+            counts: Arc::try_clone(&counts)?,
+            jobs,
+            watches: Vec::new(alloc),
+            next_take: 0,
+            running: Running::new(),
+            is_slow: false,
+            left_to_workers: 0,
+        };
+        let entrance = Entrance {
+            turns: Arc::new(alloc, turns)?,
+            queue,
+            budget,
+            counts,
+        };
+        Ok(ServedTenant {
+            entrance: Arc::new(alloc, entrance)?,
+            clients: Mutex::new(clients),
+        })
+    }
+
+    /// Its number, which no other tenant ever has.
+    pub fn number(&self) -> u64 {
+        self.turns().number()
+    }
+
+    pub(crate) fn turns(&self) -> &Arc<TenantTurns> {
+        &self.entrance.turns
+    }
+
+    /// How many bytes of its budget are left.
+    pub fn budget_left(&self) -> usize {
+        self.entrance.budget.left()
+    }
+
+    /// How many watches its clients have open; none where somebody has the turn there.
+    pub fn open_watches(&self) -> Option<usize> {
+        let clients = self.clients.try_lock()?;
+        Some(clients.watches.len())
+    }
+
+    /// What is counted of it.
+    pub fn counts(&self) -> &TenantCounts {
+        &self.entrance.counts
+    }
+
+    /// Gives its clients another budget than they had. What they have under way beyond it is owed.
+    pub fn change_budget(&self, before: usize, bytes: usize) {
+        if bytes > before {
+            self.entrance.budget.give_back(bytes - before);
+        } else {
+            self.entrance.budget.take(before - bytes);
+        }
+    }
+}
+
+/// The tenants by their numbers.
+type Served<R> = IndexMap<u64, Arc<ServedTenant<R>>>;
+
+/// All tenants that are served. They are read by every turn, and written where a tenant comes or goes.
+pub struct Tenants<R: Wait + Drop> {
+    entrances: Arc<Entrances<R>>,
+    served: ShardedLock<Served<R>>,
+}
+
+impl<R: Wait + Drop> Drop for Tenants<R> {
+    fn drop(self) {
+        let Tenants {
+            entrances: _,
+            served: _,
+        } = self;
+    }
+}
+
+/// A tenant for which all memory is taken, and which only needs its key.
+pub struct NewTenant<R: Wait + Drop> {
+    name: Vec<u8>,
+    tenant: Arc<ServedTenant<R>>,
+}
+
+impl<R: Wait + Drop> Drop for NewTenant<R> {
+    fn drop(self) {
+        let NewTenant { name: _, tenant: _ } = self;
+    }
+}
+
+impl<R: Wait + Drop> NewTenant<R> {
+    /// The number that it will have.
+    pub fn number(&self) -> u64 {
+        self.tenant.number()
+    }
+
+    fn into_parts(self) -> (Vec<u8>, Arc<ServedTenant<R>>) {
+        let NewTenant { name, tenant } = self;
+        (name, tenant)
+    }
+}
+
+impl<R: Wait + Drop> Tenants<R> {
+    /// None, with where their calls go in.
+    pub(crate) fn new(alloc: Global, entrances: Arc<Entrances<R>>) -> Mem<Tenants<R>> {
+        Ok(Tenants {
+            entrances,
+            served: ShardedLock::new(alloc, IndexMap::new(alloc))?,
+        })
+    }
+
+    /// Serves tenants by their keys, and for each the bytes that its clients may have under way.
+    pub(crate) fn admit_all(
+        &self,
+        rt: &R,
+        alloc: Global,
+        keys: Vec<Key>,
+        budgets: &[usize],
+    ) -> Mem<()> {
+        for (place, key) in keys.into_iter().enumerate() {
+            let budget = budgets.get(place).copied().unwrap_or(DEFAULT_BUDGET);
+            let new = self.prepare(rt, alloc, key.number(), key.name(), budget)?;
+            self.admit(rt, new, key);
+        }
+        Ok(())
+    }
+
+    /// The tenant of that name.
+    pub fn named(&self, rt: &R, shard: usize, name: &[u8]) -> Option<Arc<ServedTenant<R>>> {
+        let number = self.entrances.number_of(rt, shard, name)?;
+        self.numbered(rt, shard, number)
+    }
+
+    /// The tenant of that number. Threads with different shards don't disturb each other.
+    pub(crate) fn numbered(
+        &self,
+        rt: &R,
+        shard: usize,
+        number: u64,
+    ) -> Option<Arc<ServedTenant<R>>> {
+        let served = self.served.read(rt, shard);
+        Arc::try_clone(served.get(&number)?).ok()
+    }
+
+    /// Work is due on all tenants.
+    pub(crate) fn schedule_all(&self, rt: &R, shard: usize, work: Work) {
+        let served = self.served.read(rt, shard);
+        for tenant in served.values() {
+            self.entrances.schedule(rt, &tenant.entrance, work);
+        }
+    }
+
+    /// The tenant at a place, as long as none comes or goes.
+    pub(crate) fn at(&self, rt: &R, shard: usize, place: usize) -> Option<Arc<ServedTenant<R>>> {
+        let served = self.served.read(rt, shard);
+        let (_, tenant) = served.get_index(place)?;
+        Arc::try_clone(tenant).ok()
+    }
+
+    /// Ends all watches that are open, since the server ends.
+    pub fn end_watches(&self, rt: &R, shard: usize) {
+        for place in 0..MAX_TENANTS {
+            let Some(tenant) = self.at(rt, shard, place) else {
+                break;
+            };
+            tenant.clients.lock(rt).watches.clear();
+        }
+    }
+
+    /// Takes all memory that a tenant of that number and name needs, whose clients may have so many bytes under way.
+    pub fn prepare(
+        &self,
+        rt: &R,
+        alloc: Global,
+        number: u64,
+        name: &[u8],
+        budget: usize,
+    ) -> Mem<NewTenant<R>> {
+        let turns = self.entrances.turns_of(number)?;
+        let tenant = ServedTenant::new(alloc, turns, budget, None)?;
+        let new = NewTenant {
+            name: Vec::from_slice(alloc, name)?,
+            tenant: Arc::new(alloc, tenant)?,
+        };
+        self.entrances.make_room(rt)?;
+        self.served.write(rt).reserve(1)?;
+        Ok(new)
+    }
+
+    /// Serves a new tenant, which has this key; a key of another number opens nothing.
+    pub fn admit(&self, rt: &R, new: NewTenant<R>, key: Key) {
+        let (name, tenant) = new.into_parts();
+        let number = tenant.number();
+        if key.number() != number {
+            return;
+        }
+        tenant.clients.lock(rt).key = Some(key);
+        // There is room for both.
+        if let Ok(entrance) = Arc::try_clone(&tenant.entrance) {
+            let _ = self.served.write(rt).insert(number, tenant);
+            let _ = self.entrances.insert(rt, name, entrance);
+        }
+    }
+}
+
+impl<R: Wait + Clock + Copy + Drop> Tenants<R> {
+    /// Serves a tenant no more that was removed. It waits until the turn that somebody may have there has ended.
+    pub fn retire(&self, rt: &R, shard: usize, alloc: Global, name: &[u8]) {
+        let Some(number) = self.entrances.remove(rt, name) else {
+            return;
+        };
+        let Some(tenant) = self.numbered(rt, shard, number) else {
+            return;
+        };
+        Scheduler::retire(rt, tenant.turns());
+        tenant.clients.lock(rt).end(alloc);
+        let _ = self.served.write(rt).swap_remove(&number);
+    }
+}
