@@ -66,6 +66,53 @@ def a_watch_from_the_past_is_told_at_once(host):
             watch.expect_line(events_line([put_event("YQ==", 2, 22, "MQ==", 21)], 22))
 
 
+def put_often(client, tenant, revision, count):
+    """So many puts of the key `b`, some in one write; gives the last revision."""
+    for _ in range(count // 100):
+        client.send(request(path(tenant, "kv/put"), OTHER) * 100)
+        for _ in range(100):
+            revision += 1
+            client.answer().check(done(revision))
+    return revision
+
+
+def made_long_ago(client, tenant):
+    """Five thousand revisions and more. One of them has more changes than a watch has notes."""
+    revision = put_often(client, tenant, 1, 2500)
+    for first in range(0, 300, 100):
+        keys = ",".join(f'{{"request_put":{{"key":"{text(b"k%03d" % number)}"}}}}' for number in range(first, first + 100))
+        want(client.call(tenant, "kv/txn", f'{{"success":[{keys}]}}').status == 200, "a transaction is refused")
+    deleted = client.call(tenant, "kv/deleterange", f'{{"key":"{text(b"k")}","range_end":"{text(b"l")}"}}')
+    want(b'"deleted":"300"' in deleted.body, f"told {deleted}")
+    revision = put_often(client, tenant, revision + 4, 2500)
+    client.expect(tenant, "kv/put", PUT, done(revision + 1))
+    return revision + 1
+
+
+def a_watch_from_far_behind_is_told_all(host):
+    """Of each change once, in order, and of the last one alone where it is of that key. The tenants beside it are told of
+    theirs meanwhile."""
+    beside, tenant = [host.tenant(), host.tenant()], host.large()
+    with host.connect() as client, host.watch(beside[0], KEY) as one, host.watch(beside[1], KEY) as other:
+        last = made_long_ago(client, tenant)
+        for watch in (one, other):
+            watch.expect_line(created_line(1))
+        with host.watch(tenant, '{"key":"YQ==","start_revision":"2"}') as of_one, \
+                host.watch(tenant, f'{{{ALL},"start_revision":"2"}}') as of_all:
+            for watch in (of_one, of_all):
+                watch.expect_line(created_line(last))
+            for name, watch in zip(beside, (one, other)):
+                client.expect(name, "kv/put", PUT, done(2))
+                watch.expect_line(events_line([put_event("YQ==", 2, 2, "MQ==", 1)], 2))
+            of_one.expect_line(events_line([put_event("YQ==", last, last, "MQ==", 1)], last))
+            events = of_all.events(2500 + 300 + 300 + 2500 + 1)
+            revisions = [int(event["kv"]["mod_revision"]) for event in events]
+            want(revisions == sorted(revisions) and len(set(revisions)) == last - 1, "not each revision is told, in order")
+            told = [(event["kv"]["mod_revision"], event["kv"]["key"]) for event in events]
+            want(len(set(told)) == len(told), "a change is told twice")
+            of_all.expect_quiet(1.5)
+
+
 def a_watch_from_the_future_waits(host):
     tenant = host.tenant()
     with host.connect() as client, host.watch(tenant, '{"key":"YQ==","start_revision":"4"}') as watch:
@@ -282,7 +329,7 @@ def watches_keep_no_worker(host):
 
 
 TESTS = [a_watch_is_told_of_puts_and_deletes, a_watch_with_all_members, a_watch_from_the_past_is_told_at_once,
-         a_watch_from_the_future_waits, a_compaction_ends_a_watch_from_before_it, an_idle_watch_stands_compactions,
+         a_watch_from_far_behind_is_told_all, a_watch_from_the_future_waits, a_compaction_ends_a_watch_from_before_it, an_idle_watch_stands_compactions,
          an_idle_watch_stands_compactions_in_one_write, sixty_four_watches_and_no_more, places_are_free_after_clients_go,
          places_are_free_after_cancels, a_slow_reader_loses_nothing,
          many_watches_are_told_alike, a_watch_of_http_1_0, a_watch_asked_for_in_chunks, watches_keep_no_worker]
