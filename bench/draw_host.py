@@ -80,10 +80,10 @@ def draw_threads(drawing):
     drawing.box(20, 48, 410, 38, PAPER, EDGE, 8)
     drawing.text(34, 72, "a client", NORMAL, weight="bold")
     drawing.text(104, 72, "POST /t/one/v3/kv/put", SMALL, INK, family=CODE)
-    sessions = Zone(drawing, "host_sessions")
+    sessions = Zone(drawing, "gateway_http")
     sessions.frame(20, 130, 410, 128, THREADS, "connections")
     sessions.stop((64, 166, 322, 80), "1", "An event loop, one of four, reads the request", [
-        ("host_sessions", "exchange", "Gateway::call"), ("host_sessions", "routing", "route")],
+        ("gateway_http", "exchange", "Gateway::call"), ("gateway_http", "routing", "route")],
         ["the path names the tenant"])
     scheduler = Zone(drawing, "tenant_scheduler")
     scheduler.frame(20, 270, 410, 434, THREADS, "turns, queues and threads")

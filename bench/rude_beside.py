@@ -14,17 +14,19 @@ PACE = 100
 
 
 class Times(NamedTuple):
-    """Seconds of each put and each range, and from a put's answer to its event."""
+    """Seconds of each put and each range, from a put's answer to its event, and of another program's fixed answer."""
 
     puts: list
     ranges: list
     events: list
+    fixed: list
 
 
 class Neighbour(contextlib.ExitStack):
-    """A client of the other tenant, which looks at each answer."""
+    """A client of the other tenant, which looks at each answer. It may ask another program beside it, at `fixed`, which
+    answers at once: so it shows what the machine alone takes of the time."""
 
-    def __init__(self, place):
+    def __init__(self, place, fixed=None):
         super().__init__()
         fill(place, rows=0)
         self.putting, self.reading = (self.enter_context(Connection(place)) for _ in range(2))
@@ -33,6 +35,8 @@ class Neighbour(contextlib.ExitStack):
             raise Wrong(f"another tenant's watch is answered {self.watch.status}")
         self.put, self.range = (place.message(call, body_of(body)) for call, body in [put(KEY), ranges()[0]])
         self.revision, self.rows = self.putting.revision(), None
+        self.asking = self.enter_context(Connection(fixed)) if fixed else None
+        self.asked = fixed.message("kv/put", b"{}") if fixed else None
 
     def answer(self, connection, message):
         """An answer as it is read, and the seconds that it took."""
@@ -64,10 +68,12 @@ class Neighbour(contextlib.ExitStack):
         self.rows = self.rows or told["kvs"]
         if told["kvs"] != self.rows:
             raise Wrong("a range has other rows than before")
+        if self.asking:
+            times.fixed.append(self.answer(self.asking, self.asked)[1])
 
     def measured(self, seconds):
         """The times of so many seconds of rounds, at an even pace."""
-        times = Times([], [], [])
+        times = Times([], [], [], [])
         began = time.monotonic()
         try:
             while (now := time.monotonic()) < began + seconds:

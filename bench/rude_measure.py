@@ -13,11 +13,13 @@ PATIENCE, AFTER, LOOK = 20, 1, 0.05
 
 
 class Outcome(NamedTuple):
-    """What came of an attack. `alone` and `beside` are the other tenant's times, `slots` the attacked one's watches."""
+    """What came of an attack. `alone` and `beside` are the other tenant's times, `idle` is the part of all processors that
+    nobody used beside, `slots` are the attacked one's watches."""
 
     did: str
     alone: Times
     beside: Times
+    idle: float
     before: Held
     peak: int
     after: Held
@@ -69,19 +71,28 @@ def slots_after(host, seconds):
     return slots
 
 
-def measured(program, attack, count, seconds, seconds_alone, is_given_back=lambda before, after: False, after_it=AFTER):
+def processor_time():
+    """How long all processors were idle since the machine began, and how long they were anything, in the system's ticks."""
+    with open("/proc/stat", encoding="ascii") as file:
+        ticks = [int(word) for word in file.readline().split()[1:9]]
+    return ticks[3] + ticks[4], sum(ticks)
+
+
+def measured(program, attack, count, seconds, seconds_alone, is_given_back=lambda before, after: False, after_it=AFTER, fixed=None):
     """The outcome of an attack of so many seconds. It need not be waited for what is given back already."""
     with contextlib.ExitStack() as stack:
         host = stack.enter_context(Host(program, attack.workers))
         attack.before(host.attacked, count)
-        neighbour = stack.enter_context(Neighbour(host.other))
+        neighbour = stack.enter_context(Neighbour(host.other, fixed))
         alone = neighbour.measured(seconds_alone)
         if attack.descriptors:
             host.leave_descriptors(attack.descriptors)
         before = host.held()
         host.forget_peak()
         with attacked(attack, host.attacked, seconds, count) as did:
+            began = processor_time()
             beside = neighbour.measured(seconds)
+            idle, whole = (now - then for now, then in zip(processor_time(), began))
         after, peak = held_after(host, before, is_given_back, after_it), host.peak()
         host.look()
-        return Outcome(did[0], alone, beside, before, peak, after, slots_after(host, after_it))
+        return Outcome(did[0], alone, beside, idle / max(1, whole), before, peak, after, slots_after(host, after_it))

@@ -102,16 +102,16 @@ class Program:
 
 
 class Ours(Program):
-    """The proved server, with tenants of one quota."""
+    """The proved server, with tenants of one quota, and more members of its configuration if there are any."""
 
-    def __init__(self, path, workers, quota):
+    def __init__(self, path, workers, quota, **members):
         super().__init__("ours")
         try:
             segments = len(TENANTS) * -(-quota // SEGMENT_CELLS)
             tenants = [
                 {"name": name, "cluster_id": str(number), "quota": quota} for number, name in enumerate(TENANTS, 7)
             ]
-            given = {"listen": "127.0.0.1:0", "segments": segments, "workers": workers, "tenants": tenants}
+            given = {"listen": "127.0.0.1:0", "segments": segments, "workers": workers, "tenants": tenants, **members}
             self.start([path], json.dumps(given).encode() + b"\n")
             told = self.until(lambda: re.search(r"listening on 127\.0\.0\.1:(\d+)\s", self.printed("out")))
             self.place, self.beside = (Place("ours", int(told[1]), f"/t/{name}/v3/") for name in TENANTS)
