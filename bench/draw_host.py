@@ -89,13 +89,13 @@ def draw_threads(drawing):
     scheduler.frame(20, 270, 410, 434, THREADS, "turns, queues and threads")
     scheduler.stop((64, 306, 322, 96), "2", "A brief call takes the turn, if nobody has it", [
         ("tenant_scheduler", "pending", "PendingCall::begin"), ("gateway_json", "call", "read_step"),
-        ("tenant_scheduler", "scheduler", "Scheduler::try_begin"),
+        ("fair_turns", "scheduler", "Scheduler::try_begin"),
         ("tenant_scheduler", "inline_calls", "InlineCalls::serve")])
     scheduler.stop((64, 458, 322, 52), "2a", "Else it is a job in the tenant's queue", [
         ("tenant_scheduler", "jobs", "Jobs::offer")])
     scheduler.stop((64, 560, 322, 66), "2b", "A worker takes the turn, and the job", [
         ("tenant_scheduler", "worker", "work")], ["and reads the step of a long body"])
-    ends = code_of("tenant_scheduler", "scheduler", "Scheduler::finish")
+    ends = code_of("fair_turns", "scheduler", "Scheduler::finish")
     tell(drawing, 64, 650, [f"At a turn's end {ends} gives the tenant to the", "work that is due there next: "
                             "a tick of the clock, its watches, a", "catch-up, or more jobs."])
 
@@ -112,7 +112,7 @@ def draw_ways(drawing):
     drawing.arrow([(225, 402), (225, 458)], PATH)
     tell(drawing, 234, 426, ["the tenant is busy, or had long answers", "lately; no brief call; a long body"], PATH)
     drawing.arrow([(225, 510), (225, 560)], PATH)
-    schedules = code_of("tenant_scheduler", "scheduler", "Scheduler::schedule")
+    schedules = code_of("fair_turns", "scheduler", "Scheduler::schedule")
     tell(drawing, 234, 540, [f"{schedules} marks it"], PATH)
     drawing.line([(386, 593), (452, 593), (452, 354)], PATH, 1.5)
     drawing.arrow([(386, 354), (452, 354), (452, 150), (500, 150)], PATH)

@@ -8,6 +8,7 @@ use crate::stall::{BodyTimer, Stall};
 use connection_table::{Requests, UnderWay};
 use etcd_types::Refusal;
 use etcd_types::limits::MAX_BODY;
+use fair_turns::{Answer, BodyShare};
 use futures::task::{Context, Poll};
 use futures::{Future, ready};
 use http_body_util::{Limited, LimitedError};
@@ -20,11 +21,15 @@ use std::mem;
 use std::rt::Clock;
 use std::sync::Wait;
 use std::time::Duration;
-use tenant_scheduler::{Answer, Begun, BodyShare, Jobs, PendingCall, RequestBody, Route};
+use tenant_scheduler::{Begun, Jobs, PendingCall, RequestBody, Route};
 use tokio::time;
 
 /// How many pieces of a body are read in one poll.
 const PIECES_A_POLL: usize = 128;
+
+/// How many bytes of a body are read before the other connections of the loop come. They would wait for milliseconds for
+/// some long bodies that are there at once.
+const BYTES_A_POLL: usize = 16_384;
 
 /// How many pieces of a body that is too long are passed over before it is answered. A client that still
 /// writes when its connection closes may never see the answer.
@@ -109,6 +114,8 @@ struct Reading<I, R: Wait + Drop> {
     bound: usize,
     share: BodyShare,
     stall: Stall<R>,
+    /// Much of it was read: the next piece is left for a later turn of its loop.
+    rests: bool,
     /// Why the body is read on and thrown away.
     lost: Option<Refusal>,
     passed: u32,
@@ -145,6 +152,7 @@ impl<I: Drop, R: Wait + Clock + Copy + Drop> Service<Request<Incoming<I>>> for G
                 bound,
                 share,
                 stall: Stall::new(self.rt, self.body_timer()),
+                rests: false,
                 lost,
                 passed: 0,
             }),
@@ -221,6 +229,11 @@ impl<I: Drop, R: Wait + Clock + Copy + Drop> Reading<I, R> {
         ensures kept { Keeps cx.old cx.new }
     {
         ready!(self.poll_share(cx));
+        if self.rests {
+            self.rests = false;
+            return cx.yield_now();
+        }
+        let mut bytes = 0usize;
         for _ in 0..PIECES_A_POLL {
             let Poll::Ready(frame) = self.body.poll_frame(cx) else {
                 ready!(self.stall.poll_over(cx));
@@ -230,6 +243,7 @@ impl<I: Drop, R: Wait + Clock + Copy + Drop> Reading<I, R> {
             match frame {
                 Some(Ok(frame)) => {
                     if let Ok(data) = frame.into_data() {
+                        bytes = bytes.saturating_add(data.as_slice().len());
                         self.keep(data.as_slice());
                     }
                 }
@@ -242,6 +256,10 @@ impl<I: Drop, R: Wait + Clock + Copy + Drop> Reading<I, R> {
                 if self.passed > MAX_PASSED {
                     return Poll::Ready(Ok(()));
                 }
+            }
+            if bytes >= BYTES_A_POLL {
+                self.rests = true;
+                break;
             }
         }
         cx.yield_now()
@@ -299,6 +317,7 @@ impl<I: Drop, R: Wait + Clock + Copy + Drop> Reading<I, R> {
             bound: _,
             share,
             stall: _,
+            rests: _,
             lost,
             passed: _,
         } = self;

@@ -1,6 +1,7 @@
 //! An answer as HTTP sends it.
 use crate::exchange::Standing;
 use bytes::Bytes;
+use fair_turns::{Answer, AnswerBody, MadeText, Share, Text, WatchTexts};
 use futures::ready;
 use futures::task::{Context, Poll};
 use gateway_text::memory_text;
@@ -10,7 +11,6 @@ use hyper::{Response, StatusCode};
 use std::alloc::{AllocError, Global};
 use std::rt::Clock;
 use std::sync::Wait;
-use tenant_scheduler::{Answer, AnswerBody, MadeText, Share, Text, WatchTexts};
 
 /// How many bytes of an answer are handed to the connection at once, which copies them. So a long text is held here,
 /// with its share of the tenant's budget, until the last piece of it is taken.
@@ -19,6 +19,8 @@ const PIECE: usize = 65_536;
 /// The body of a response: a text, and behind that of a watch the texts that follow.
 pub struct ResponseBody<R: Wait + Clock + Drop> {
     first: Option<Unsent>,
+    /// A piece of it was handed over: before the next one the other connections of the loop come.
+    rests: bool,
     following: Option<WatchTexts<R>>,
     sending: Option<Sending>,
     /// The request is under way until all was handed over.
@@ -29,6 +31,7 @@ impl<R: Wait + Clock + Drop> Drop for ResponseBody<R> {
     fn drop(self) {
         let ResponseBody {
             first: _,
+            rests: _,
             following: _,
             sending: _,
             standing: _,
@@ -58,11 +61,8 @@ pub(crate) fn respond<R: Wait + Clock + Drop>(
     answer: Answer<R>,
     standing: Standing<R>,
 ) -> Result<Response<ResponseBody<R>>, hyper::Error> {
-    let Answer {
-        status,
-        refusal: _,
-        body,
-    } = answer;
+    let status = answer.status();
+    let body = answer.into_body();
     let ends = matches!(standing, Standing::OneTooMany);
     let mut response = Response::new(alloc, ResponseBody::of(body, standing)?);
     if let Ok(status) = StatusCode::from_u16(status) {
@@ -87,10 +87,11 @@ fn set(headers: &mut HeaderMap, name: HeaderName, value: HeaderValue) -> Result<
 impl Unsent {
     fn of(text: Text) -> Result<Unsent, AllocError> {
         match text {
-            Text::Made(MadeText { bytes, share }) => Ok(Unsent {
-                text: shared(bytes)?,
-                share,
-            }),
+            Text::Made(text) => {
+                let (bytes, share) = text.into_parts();
+                let text = shared(bytes)?;
+                Ok(Unsent { text, share })
+            }
             Text::OutOfMemory => Ok(Unsent {
                 text: Bytes::from_static(memory_text()),
                 share: None,
@@ -114,27 +115,25 @@ fn shared(bytes: Vec<u8>) -> Result<Bytes, AllocError> {
 
 impl<R: Wait + Clock + Drop> ResponseBody<R> {
     fn of(body: AnswerBody<R>, standing: Standing<R>) -> Result<ResponseBody<R>, AllocError> {
-        match body {
-            AnswerBody::Text(text) => Ok(ResponseBody {
-                first: Some(Unsent::of(text)?),
-                following: None,
-                sending: None,
-                standing,
-            }),
-            AnswerBody::Watch { created, texts } => Ok(ResponseBody {
-                first: Some(Unsent::of(created)?),
-                following: Some(texts),
-                sending: None,
-                standing,
-            }),
-        }
+        let (first, following) = match body {
+            AnswerBody::Text(text) => (text, None),
+            AnswerBody::Watch { created, texts } => (created, Some(texts)),
+        };
+        Ok(ResponseBody {
+            first: Some(Unsent::of(first)?),
+            rests: false,
+            following,
+            sending: None,
+            standing,
+        })
     }
 
     /// The next piece of the first text.
     fn first_piece(&mut self) -> Option<Result<Bytes, AllocError>> {
         let first = self.first.as_mut()?;
         let piece = first.next_piece();
-        if first.text.is_empty() {
+        self.rests = !first.text.is_empty();
+        if !self.rests {
             self.first = None;
         }
         Some(piece)
@@ -152,7 +151,7 @@ impl<R: Wait + Clock + Drop> ResponseBody<R> {
     /// A text of a watch, whole. One that can't be shared ends the connection: what was taken of a watch is not given
     /// again.
     fn watched(&mut self, text: MadeText) -> Result<Bytes, AllocError> {
-        let MadeText { bytes, share } = text;
+        let (bytes, share) = text.into_parts();
         let text = shared(bytes)?;
         if let Some(share) = share {
             self.keep(text.clone()?, share);
@@ -179,6 +178,10 @@ impl<R: Wait + Clock + Drop> Body for ResponseBody<R> {
         &mut self,
         cx: &mut Context<'_>,
     ) -> Poll<Option<Result<Frame<Bytes>, AllocError>>> {
+        if self.rests {
+            self.rests = false;
+            return cx.yield_now();
+        }
         if let Some(piece) = self.first_piece() {
             return Poll::Ready(Some(framed(piece)));
         }

@@ -3,12 +3,12 @@ use crate::members::{ConfigFault, member, number, object_of, text_of};
 use crate::patience::{MAX_PATIENCE, Patience};
 use crate::tenants::{Allowance, allowance_of, open_connections_of, tenant_of};
 use etcd_types::limits::{DEFAULT_SEGMENTS, MAX_CONFIG, MAX_WORKERS};
+use fair_turns::BESIDE_WORKERS;
 use gateway_json::read_unsigned;
 use serde_json::Value;
 use std::alloc::Global;
 use std::net::SocketAddr;
 use tenant_registry::{TenantConfig, check};
-use tenant_scheduler::BESIDE_WORKERS;
 
 /// How many event loops read and write sockets.
 pub const LOOPS: usize = 4;

@@ -1,11 +1,11 @@
 //! What a tenant is told to have: its quota, its audit, and what its clients may take.
 use crate::members::{ConfigFault, member, number, text_of};
 use etcd_types::limits::CELL_BYTES;
+use fair_turns::DEFAULT_BUDGET;
 use gateway_json::read_unsigned;
 use serde_json::Value;
 use std::alloc::Global;
 use tenant_registry::TenantConfig;
-use tenant_scheduler::DEFAULT_BUDGET;
 
 /// The least bytes that a budget may be told to have: twice those of the longest body.
 const MIN_BUDGET: u64 = 4_194_304;

@@ -1,9 +1,10 @@
 //! What a dashboard is told of the tenants, in the text format of Prometheus.
 use etcd_types::{Call, Mem};
+use fair_turns::{CALLS, Durations, ENDS, LAST_REFUSAL, STATUSES};
 use std::alloc::Global;
 use std::sync::{Arc, Wait};
 use tenant_registry::Usage;
-use tenant_scheduler::{CALLS, Durations, ENDS, LAST_REFUSAL, STATUSES, ServedTenant};
+use tenant_scheduler::ServedTenant;
 
 /// What a tenant uses, as far as it could be told without waiting for it.
 #[derive(Drop)]

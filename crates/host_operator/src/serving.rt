@@ -1,9 +1,10 @@
 //! The operator's loop: it accepts his connections, and reads and answers their requests.
-ghost use Rattle.std.specs.Prelude.{IfSome};
+ghost use Rattle.std.specs.Prelude.{IfOk, IfSome};
 
 use crate::calls::OperatorCall;
 use crate::operator::Operator;
 use crate::requests::{OperatorEntrance, OperatorGateway, OperatorRequest};
+use etcd_types::Mem;
 use futures::executor::TaskSet;
 use futures::task::{Context, Poll};
 use futures::{Future, ready};
@@ -109,17 +110,31 @@ impl Drop for Counted {
     }
 }
 
-/// A connection of the operator as a task.
+/// A connection of the operator as a task. It stands on the heap, since a set of tasks moves a task each time it polls it.
 #[derive(Drop)]
-struct Served<F> {
-    connection: Option<F>,
+struct Served<C> {
+    connection: Option<Box<C>>,
     counted: Option<Counted>,
 }
 
-impl<F: Future<Output = hyper::Result<()>>> Future for Served<F> {
+impl<C: Future> Served<C> {
+    /// None where there is no memory.
+    fn of(alloc: Global, connection: C, counted: Option<Counted>) -> Mem<Served<C>>
+        requires { C.can_poll connection }
+        ensures { IfOk result (λ served. IfSome served.connection (λ connection. C.can_poll connection.value)) }
+    {
+        let connection = Box::new(alloc, connection)?;
+        Ok(Served {
+            connection: Some(connection),
+            counted,
+        })
+    }
+}
+
+impl<C: Future<Output = hyper::Result<()>>> Future for Served<C> {
     type Output = ();
 
-    ghost can_poll = { λ s. IfSome s.connection F.can_poll };
+    ghost can_poll = { λ s. IfSome s.connection (λ connection. C.can_poll connection.value) };
 
     fn poll(&mut self, cx: &mut Context<'_>) -> Poll<()> {
         if let Some(connection) = &mut self.connection {
@@ -148,13 +163,13 @@ struct Accepting<'a, 'x, R: Wait + Drop, F, T: Future> {
 impl<R, F, T> Future for Accepting<'_, '_, R, F, T>
 where
     R: Wait + Clock + Files + AllocGlobal + Copy + Drop,
-    F: Fn(TcpStream) -> T + Drop,
+    F: Fn(TcpStream) -> Mem<T> + Drop,
     T: Future<Output = ()>,
 {
     type Output = ();
 
     ghost can_poll = { λ a. F.IsAlwaysCallable a.make
-        × ((stream : _) (task : _) → F.post a.make stream task → T.can_poll task) };
+        × ((stream : _) (made : _) → F.post a.make stream made → IfOk made T.can_poll) };
 
     fn poll(&mut self, cx: &mut Context<'_>) -> Poll<()> {
         if self.ended.poll_recv(cx).is_ready() {
@@ -168,8 +183,10 @@ where
             Ok((stream, _)) => {
                 let make = &self.make;
                 // One too many is closed.
-                if self.open.load(Ordering::SeqCst) < MOST {
-                    drop(self.tasks.spawn(make(stream)));
+                if self.open.load(Ordering::SeqCst) < MOST
+                    && let Ok(served) = make(stream)
+                {
+                    drop(self.tasks.spawn(served));
                 }
             }
             Err(_) => thread::sleep(&self.rt, Duration::from_millis(PAUSE)),
@@ -227,10 +244,8 @@ where
             alloc,
             entrance: OperatorEntrance::share(&entrance),
         };
-        Served {
-            connection: Some(http.serve_connection(stream, gateway)),
-            counted: Counted::of(&counted),
-        }
+        let connection = http.serve_connection(stream, gateway);
+        Served::of(alloc, connection, Counted::of(&counted))
     };
     let arriving = Arriving {
         listener,
@@ -260,10 +275,10 @@ fn run_tasks<R, F, T>(
 ) -> io::Result<()>
 where
     R: Wait + Clock + RandomSource + AllocGlobal + Files + Copy + Drop,
-    F: Fn(TcpStream) -> T + Drop,
+    F: Fn(TcpStream) -> Mem<T> + Drop,
     T: Future<Output = ()>,
     requires callable { F.IsAlwaysCallable make }
-    requires pollable { (stream : _) (task : _) → F.post make stream task → T.can_poll task }
+    requires pollable { (stream : _) (made : _) → F.post make stream made → IfOk made T.can_poll }
 {
     let Arriving {
         listener,

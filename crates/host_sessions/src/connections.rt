@@ -1,5 +1,5 @@
 //! The event loops: each has its share of the connections, and serves each as a task.
-ghost use Rattle.std.specs.Prelude.{IfSome};
+ghost use Rattle.std.specs.Prelude.{◌≡◌, IfOk, IfSome, None};
 
 use crate::fault::ServeFault;
 use crate::threads::Ended;
@@ -22,7 +22,7 @@ use std::sync::Wait;
 use std::time::{Clock, Duration, Instant};
 use std::{io, net, thread};
 use tenant_registry::Gate;
-use tenant_scheduler::{InlineCall, InlineCalls, Jobs, ServingThread};
+use tenant_scheduler::{InlineCalls, Jobs, ServingThread};
 use tokio::net::TcpStream;
 use tokio::runtime::LocalRuntime;
 use tokio::sync::mpsc::error::SendError;
@@ -36,6 +36,10 @@ const MAX_UNSENT: usize = 65_536;
 /// How many milliseconds no connection is accepted after one could not be, for want of a file descriptor most
 /// likely.
 const PAUSE: u64 = 50;
+
+/// How many connections each loop has room for from its start on. What a set of tasks keeps of one is never given back,
+/// and would lie between what comes and goes with connections.
+const ROOMS: usize = 512;
 
 /// How many seconds lie between two moves by which a loop shows that it is not stuck.
 const SECONDS_A_BEAT: u64 = 1;
@@ -163,17 +167,42 @@ pub(crate) fn end_connections<R: Wait + Clock + Drop>(rt: &R, table: &Connection
     table.end_all();
 }
 
-/// A connection as a task: its end, whatever it is, is the end of the task and of nothing else.
+/// A connection as a task: its end, whatever it is, is the end of the task and of nothing else. It stands on the heap: a
+/// set of tasks moves a task each time it polls it, and keeps a place for as many as it ever had at once.
 #[derive(Drop)]
-struct Served<F> {
+struct Served<C> {
     open: Option<OpenConnection>,
-    connection: Option<F>,
+    connection: Option<Box<C>>,
 }
 
-impl<F: Future<Output = hyper::Result<()>>> Future for Served<F> {
+impl<C: Future> Served<C> {
+    /// A task with nothing to do.
+    fn ended() -> Served<C>
+        ensures { result.connection ≡ None }
+    {
+        Served {
+            open: None,
+            connection: None,
+        }
+    }
+
+    /// None where there is no memory.
+    fn of(alloc: Global, open: OpenConnection, connection: C) -> Mem<Served<C>>
+        requires { C.can_poll connection }
+        ensures { IfOk result (λ served. IfSome served.connection (λ connection. C.can_poll connection.value)) }
+    {
+        let connection = Box::new(alloc, connection)?;
+        Ok(Served {
+            open: Some(open),
+            connection: Some(connection),
+        })
+    }
+}
+
+impl<E: Drop, C: Future<Output = Result<(), E>>> Future for Served<C> {
     type Output = ();
 
-    ghost can_poll = { λ s. IfSome s.connection F.can_poll };
+    ghost can_poll = { λ s. IfSome s.connection (λ connection. C.can_poll connection.value) };
 
     fn poll(&mut self, cx: &mut Context<'_>) -> Poll<()> {
         if let Some(connection) = &mut self.connection {
@@ -212,13 +241,13 @@ impl<R, G, F, T> Future for Connections<'_, '_, R, G, F, T>
 where
     R: Wait + Clock + Copy + Drop,
     G: Gate,
-    F: Fn(Arrived) -> T + Drop,
+    F: Fn(Option<Arrived>) -> Mem<T> + Drop,
     T: Future<Output = ()>,
 {
     type Output = ();
 
     ghost can_poll = { λ a. IfSome a.make (λ make. F.IsAlwaysCallable make
-        × ((arrived : _) (task : _) → F.post make arrived task → T.can_poll task)) };
+        × ((arrived : _) (made : _) → F.post make arrived made → IfOk made T.can_poll)) };
 
     fn poll(&mut self, cx: &mut Context<'_>) -> Poll<()> {
         if let Some(beats) = &mut self.beats
@@ -232,7 +261,7 @@ where
                 Poll::Ready(Some(Accepted { open, socket })) => {
                     if let Ok(stream) = TcpStream::from_std(socket, &self.reactor) {
                         let _ = stream.set_nodelay(true);
-                        if self.tasks.spawn(make(Arrived { open, stream })).is_err() {
+                        if !begin(self.tasks, make(Some(Arrived { open, stream }))) {
                             self.losses.add();
                         }
                     }
@@ -246,26 +275,31 @@ where
     }
 }
 
+/// Begins to serve a connection; `false` where there is no memory for it.
+fn begin<T: Future<Output = ()>>(tasks: &TaskSet<T>, made: Mem<T>) -> bool
+    requires { IfOk made T.can_poll }
+{
+    match made {
+        Ok(served) => tasks.spawn(served).is_ok(),
+        Err(_) => false,
+    }
+}
+
 /// What a loop works with, beside its sockets.
 #[derive(Drop)]
-struct Tools<R: Wait + Drop> {
+struct Tools<R> {
     http: http1::Builder<TokioTimer<R>>,
     timers: time::Handle,
     reactor: reactor::Handle,
-    jobs: Jobs<R>,
-    inline_calls: UnboundedReceiver<InlineCall<R>>,
 }
 
-impl<R: Wait + Clock + RandomSource + Copy + Drop> Tools<R> {
+impl<R: Clock + RandomSource + Copy + Drop> Tools<R> {
     fn new(
         rt: R,
         alloc: Global,
         runtime: &LocalRuntime,
-        jobs: &Jobs<R>,
-        number: usize,
         patience: Patience,
     ) -> io::Result<Tools<R>> {
-        let (jobs, inline_calls) = jobs.with_inline_calls(alloc, number)?;
         let keys = RandomState::new(&rt)?;
         let timers = runtime.handle().time();
         let mut http = http1::Builder::new(alloc, keys).timer(TokioTimer::new(rt, timers.clone()?));
@@ -275,8 +309,6 @@ impl<R: Wait + Clock + RandomSource + Copy + Drop> Tools<R> {
             http,
             timers: timers.clone()?,
             reactor: runtime.handle().reactor().clone()?,
-            jobs,
-            inline_calls,
         })
     }
 }
@@ -293,31 +325,48 @@ where
     R: Wait + Clock + RandomSource + AllocGlobal + Copy + Drop,
     G: Gate,
 {
+    let Ok((jobs, inline_calls)) = jobs.with_inline_calls(alloc, own.number) else {
+        return (thread.into_seat(), Err(ServeFault::Memory));
+    };
+    let mut inline_calls = InlineCalls::new(alloc, own.number, thread, inline_calls);
+    let served = serve_sockets(rt, alloc, own, jobs, &mut inline_calls);
+    let served = served.map_err(|error| ServeFault::of(&error));
+    (inline_calls.into_seat(), served)
+}
+
+/// Runs a loop's connections as tasks.
+fn serve_sockets<R, G>(
+    rt: R,
+    alloc: Global,
+    own: SocketLoop,
+    jobs: Jobs<R>,
+    inline_calls: &mut InlineCalls<'_, R, G>,
+) -> io::Result<()>
+where
+    R: Wait + Clock + RandomSource + AllocGlobal + Copy + Drop,
+    G: Gate,
+{
     let SocketLoop {
         mut runtime,
-        number,
+        number: _,
         sockets,
         patience,
         start,
         losses,
         ready,
     } = own;
-    let Ok(tools) = Tools::new(rt, alloc, &runtime, &jobs, number, patience) else {
-        return (thread.into_seat(), Err(ServeFault::Memory));
-    };
     let Tools {
         http,
         timers,
         reactor,
-        jobs,
-        inline_calls,
-    } = tools;
+    } = Tools::new(rt, alloc, &runtime, patience)?;
     let beats = timers
         .interval(&rt, Duration::from_secs(SECONDS_A_BEAT))
         .ok();
-    let mut inline_calls = InlineCalls::new(alloc, number, thread, inline_calls);
     let make = move |arrived| {
-        let Arrived { open, stream } = arrived;
+        let Some(Arrived { open, stream }) = arrived else {
+            return Ok(Served::ended());
+        };
         let gateway = Gateway {
             rt,
             alloc,
@@ -326,10 +375,7 @@ where
             timers: timers.clone().ok(),
             body_patience: patience.for_body(),
         };
-        Served {
-            open: Some(open),
-            connection: Some(http.serve_connection(stream, gateway)),
-        }
+        Served::of(alloc, open, http.serve_connection(stream, gateway))
     };
     let arriving = Arriving {
         sockets,
@@ -338,9 +384,7 @@ where
         beats,
         ready,
     };
-    let served = run_tasks(&rt, &mut runtime, &mut inline_calls, arriving, make);
-    let served = served.map_err(|error| ServeFault::of(&error));
-    (inline_calls.into_seat(), served)
+    run_tasks(&rt, &mut runtime, inline_calls, arriving, make)
 }
 
 /// What a loop's connections come by.
@@ -353,7 +397,7 @@ struct Arriving {
     ready: Sender<()>,
 }
 
-/// Runs a loop's connections as tasks that a function makes.
+/// Runs a loop's connections as tasks that a function makes; without a connection it makes one that has ended.
 fn run_tasks<R, G, F, T>(
     rt: &R,
     runtime: &mut LocalRuntime,
@@ -364,10 +408,10 @@ fn run_tasks<R, G, F, T>(
 where
     R: Wait + Clock + RandomSource + AllocGlobal + Copy + Drop,
     G: Gate,
-    F: Fn(Arrived) -> T + Drop,
+    F: Fn(Option<Arrived>) -> Mem<T> + Drop,
     T: Future<Output = ()>,
     requires callable { F.IsAlwaysCallable make }
-    requires pollable { (arrived : _) (task : _) → F.post make arrived task → T.can_poll task }
+    requires pollable { (arrived : _) (made : _) → F.post make arrived made → IfOk made T.can_poll }
 {
     let Arriving {
         sockets,
@@ -377,6 +421,9 @@ where
         ready,
     } = arriving;
     let tasks = runtime.task_set(rt)?;
+    for _ in 0..ROOMS {
+        let _ = begin(&tasks, make(None));
+    }
     let _ = ready.send(rt, ());
     drop(ready);
     let connections = Connections {

@@ -333,7 +333,6 @@ impl Sessions {
         let Ok(keys) = RandomState::new(&rt) else {
             return End::Fault;
         };
-        let http = http1::Builder::new(alloc, keys);
         let jobs = jobs.share();
         let gateway = Gateway {
             rt,
@@ -343,6 +342,7 @@ impl Sessions {
             timers: None,
             body_patience: Patience::DEFAULT.for_body(),
         };
+        let http = http1::Builder::new(alloc, keys);
         let connection = http.serve_connection(io, gateway);
         match block_on(&rt, connection) {
             Ok(Ok(())) => End::Finished,

@@ -1,6 +1,7 @@
 //! The threads of the server: the event loops, and those that serve tenants beside them.
 use crate::connections::{SocketLoop, serve_connections};
 use crate::fault::ServeFault;
+use fair_turns::BESIDE_WORKERS;
 use std::alloc::{AllocGlobal, Global};
 use std::random::RandomSource;
 use std::sync::{Arc, Wait};
@@ -8,7 +9,7 @@ use std::thread;
 use std::thread::{JoinHandle, SpawnError, Threads};
 use std::time::Clock;
 use tenant_registry::{Gate, Seat};
-use tenant_scheduler::{BESIDE_WORKERS, Jobs, Service, ServingThread, Shared};
+use tenant_scheduler::{Jobs, Service, ServingThread, Shared};
 
 /// How many of so many seats are workers', beside so many loops.
 pub(crate) fn workers_of(seats: usize, loops: usize) -> usize {

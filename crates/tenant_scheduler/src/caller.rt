@@ -1,9 +1,8 @@
 //! A thread's way to the tenants.
-use crate::answer::Answer;
-use crate::budget::{LONGEST_ROW, Share, may_be_long};
 use crate::clients::Clients;
 use crate::inline_calls::is_brief;
 use etcd_types::{Refusal, Step};
+use fair_turns::{Answer, LONGEST_ROW, Share, may_be_long};
 use std::alloc::Global;
 use std::rt::Clock;
 use std::sync::Wait;

@@ -1,11 +1,10 @@
 //! The catch-up worker: moves watches on that are behind.
 use crate::caller::Caller;
 use crate::clients::Clients;
-use crate::scheduler::Work;
 use crate::serving::ServingThread;
-use crate::stopwatch::Stopwatch;
 use crate::tenants::ServedTenant;
 use etcd_types::Step;
+use fair_turns::{Stopwatch, Work};
 use std::rt::Clock;
 use std::sync::Wait;
 use tenant_registry::{Gate, Seat};

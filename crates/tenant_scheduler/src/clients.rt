@@ -1,12 +1,9 @@
 //! What the clients of a tenant have under way: jobs that wait, and open watches.
-use crate::answer::Answer;
-use crate::budget::{Budget, Share};
 use crate::clock::Running;
-use crate::counts::TenantCounts;
-use crate::scheduler::{Scheduler, TenantTurns, Work};
-use crate::stopwatch::Stopwatch;
-use crate::watch_texts::TextSender;
 use etcd_types::{Call, Refusal, Step};
+use fair_turns::{
+    Answer, Budget, Scheduler, Share, Stopwatch, TenantCounts, TenantTurns, TextSender, Work,
+};
 use futures::channel::oneshot;
 use std::alloc::Global;
 use std::sync::{Arc, Wait};
@@ -77,6 +74,8 @@ pub(crate) struct Clients<R: Wait + Drop> {
     pub(crate) running: Running,
     /// Its last turn with a worker was long.
     pub(crate) is_slow: bool,
+    /// How many of its next takes are left to the workers, since one was long.
+    pub(crate) takes_left: u32,
     /// How many of its brief calls the event loops leave to the workers, since an answer was long.
     pub(crate) left_to_workers: u32,
 }

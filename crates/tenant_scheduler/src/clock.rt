@@ -1,10 +1,10 @@
 //! The clock: a tick a second to each tenant.
 use crate::caller::Caller;
-use crate::scheduler::{Scheduler, Turn, Work};
 use crate::serving::ServingThread;
 use crate::tenants::ServedTenant;
 use crossbeam_channel::RecvTimeoutError;
 use etcd_types::Step;
+use fair_turns::{Scheduler, Turn, Work};
 use std::rt::Clock;
 use std::sync::Wait;
 use std::time::{Duration, Instant};

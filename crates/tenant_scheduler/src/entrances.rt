@@ -1,12 +1,10 @@
 //! Where the calls of each tenant go in: found by the tenant's name once, and then by its number.
 //!
 //! It knows no tenant's key: what connections hold reaches queues alone.
-use crate::budget::Budget;
 use crate::clients::Job;
-use crate::counts::TenantCounts;
-use crate::scheduler::{Scheduler, TenantTurns, Work};
 use crossbeam_utils::sync::ShardedLock;
 use etcd_types::Mem;
+use fair_turns::{Budget, Scheduler, TenantCounts, TenantTurns, Work};
 use indexmap::IndexMap;
 use std::alloc::Global;
 use std::sync::{Arc, Wait};

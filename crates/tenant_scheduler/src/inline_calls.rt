@@ -6,16 +6,14 @@
 ghost use Rattle.futures.specs.Task.{IsArmed, Keeps};
 ghost use Rattle.futures.specs.Poll.{OnPending};
 
-use crate::answer::Answer;
 use crate::caller::Caller;
 use crate::clients::Clients;
 use crate::jobs::Route;
-use crate::scheduler::{Scheduler, Work};
 use crate::serving::ServingThread;
-use crate::stopwatch::Stopwatch;
 use crate::tenants::ServedTenant;
 use crate::worker::may_give;
 use etcd_types::{Call, Step};
+use fair_turns::{Answer, Scheduler, Stopwatch, Work};
 use futures::channel::oneshot;
 use futures::ready;
 use futures::task::{Context, Poll};
@@ -158,7 +156,7 @@ impl<'x, R: Wait + Clock + Copy + Drop, G: Gate> InlineCalls<'x, R, G> {
                 }
                 drop(clients);
                 shared.scheduler.finish(rt, tenant.turns(), Work::Jobs);
-                tenant.counts().turns.add(stopwatch.passed(rt));
+                tenant.counts().turns().add(stopwatch.passed(rt));
                 outcome.count(&tenant, route.call, length)
             }
             _ => InlineOutcome::Busy(step),

@@ -1,13 +1,11 @@
 //! Where calls go in: to the event loop that has read them, or into their tenant's queue.
 ghost use Rattle.tokio.specs.Channels.{CanReserve};
 
-use crate::answer::Answer;
-use crate::budget::{BodyShare, SHORT};
 use crate::clients::Job;
 use crate::entrances::{Entrance, Entrances};
 use crate::inline_calls::InlineCall;
-use crate::scheduler::Work;
 use etcd_types::{Call, Mem, Refusal};
+use fair_turns::{Answer, BodyShare, SHORT, Work};
 use std::alloc::Global;
 use std::sync::{Arc, Wait};
 use tokio::sync::mpsc::error::TrySendError;

@@ -2,13 +2,11 @@
 ghost use Rattle.futures.specs.Task.{IsArmed, Keeps};
 ghost use Rattle.futures.specs.Poll.{OnPending};
 
-use crate::answer::Answer;
-use crate::budget::SHORT;
 use crate::clients::{Ask, Job, RequestBody};
 use crate::inline_calls::{InlineCall, InlineOutcome, is_brief};
 use crate::jobs::{HeldBack, Jobs, Offered, Route};
-use crate::stopwatch::Stopwatch;
 use etcd_types::{Refusal, Step};
+use fair_turns::{Answer, SHORT, Stopwatch};
 use futures::channel::oneshot;
 use futures::task::{Context, Poll};
 use futures::{Future, ready};

@@ -1,19 +1,22 @@
 //! The pump: from a tenant's watches to their clients.
-use crate::budget::Budget;
 use crate::caller::Caller;
 use crate::clients::{Clients, OpenWatch};
-use crate::counts::TenantCounts;
-use crate::scheduler::{Scheduler, TenantTurns, Work};
 use crate::serving::ServingThread;
-use crate::stopwatch::Stopwatch;
-use crate::watch_texts::NoRoom;
+use crate::tenants::ServedTenant;
 use etcd_types::Step;
+use fair_turns::{Budget, NoRoom, Scheduler, Stopwatch, TenantCounts, TenantTurns, Work};
 use std::rt::Clock;
 use std::sync::Wait;
 use tenant_registry::{Gate, Hint, Key, Seat};
 
 /// After how many milliseconds a turn ends, once the take at hand is served.
 const MILLIS_A_TURN: u64 = 1;
+
+/// How many milliseconds make a turn a long one.
+const LONG: u64 = 2;
+
+/// How many turns are left to the workers after a long one.
+const TURNS_LEFT: u32 = 256;
 
 /// Takes for the open watches of each tenant where that is due, until there are no more turns.
 pub(crate) fn pump<R: Wait + Clock + Copy + Drop, G: Gate>(
@@ -25,33 +28,62 @@ pub(crate) fn pump<R: Wait + Clock + Copy + Drop, G: Gate>(
             break;
         };
         if let Some(tenant) = shared.numbered(&rt, tenant) {
-            let turns = tenant.turns();
-            let mut clients = tenant.clients.lock(&rt);
-            take_turn(&rt, &mut caller, &shared.scheduler, turns, &mut *clients);
-            drop(clients);
-            shared.scheduler.finish(&rt, turns, Work::Takes);
+            take_turn(&rt, &mut caller, &shared.scheduler, &tenant);
         }
     }
     caller.into_seat()
 }
 
-/// Ends the watches whose clients have gone, takes once for each of the others that may have something to
-/// give, and sees to it that it comes again where there is more.
+/// Serves the takes of a tenant whose turn it is, unless they were long lately: then a worker serves them.
 fn take_turn<R: Wait + Clock + Drop, G: Gate>(
+    rt: &R,
+    caller: &mut Caller<'_, R, G>,
+    scheduler: &Scheduler,
+    tenant: &ServedTenant<R>,
+) {
+    let turns = tenant.turns();
+    let mut clients = tenant.clients.lock(rt);
+    if clients.takes_left > 0 && scheduler.hand_to_workers(rt, turns) {
+        return;
+    }
+    serve_takes(rt, caller, scheduler, turns, &mut *clients);
+    drop(clients);
+    scheduler.finish(rt, turns, Work::Takes);
+}
+
+/// Ends the watches whose clients have gone, and takes for the others.
+pub(crate) fn serve_takes<R: Wait + Clock + Drop, G: Gate>(
     rt: &R,
     caller: &mut Caller<'_, R, G>,
     scheduler: &Scheduler,
     turns: &TenantTurns,
     clients: &mut Clients<R>,
 ) {
+    let stopwatch = Stopwatch::start(rt);
     drop_closed(caller, clients);
-    if clients.watches.is_empty() {
-        return;
+    if !clients.watches.is_empty() {
+        take_and_schedule(rt, caller, scheduler, turns, clients, &stopwatch);
     }
+    clients.takes_left = if stopwatch.is_past(rt, LONG) {
+        TURNS_LEFT
+    } else {
+        clients.takes_left.saturating_sub(1)
+    };
+}
+
+/// Takes once for each watch that may have something to give, and sees to it that it comes again where there is more.
+fn take_and_schedule<R: Wait + Clock + Drop, G: Gate>(
+    rt: &R,
+    caller: &mut Caller<'_, R, G>,
+    scheduler: &Scheduler,
+    turns: &TenantTurns,
+    clients: &mut Clients<R>,
+    stopwatch: &Stopwatch,
+) {
     let Some(hint) = caller.hint(&clients.key) else {
         return;
     };
-    let all_answered = take_hinted(rt, caller, clients, &hint);
+    let all_answered = take_hinted(rt, caller, clients, &hint, stopwatch);
     let Some(left) = caller.hint(&clients.key) else {
         return;
     };
@@ -78,8 +110,8 @@ fn take_hinted<R: Wait + Clock + Drop, G: Gate>(
     caller: &mut Caller<'_, R, G>,
     clients: &mut Clients<R>,
     hint: &Hint,
+    stopwatch: &Stopwatch,
 ) -> bool {
-    let stopwatch = Stopwatch::start(rt);
     let mut all_answered = true;
     let mut at = clients.next_take;
     for _ in 0..clients.watches.len() {

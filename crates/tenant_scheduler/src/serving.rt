@@ -10,9 +10,6 @@ use std::rt::Clock;
 use std::sync::{Arc, Wait};
 use tenant_registry::{Gate, Seat};
 
-/// How many threads serve neither clients nor connections: the clock, the pump, the catch-up worker.
-pub const BESIDE_WORKERS: usize = 3;
-
 /// What a thread serves tenants with: its way to them, and what all threads share.
 pub struct ServingThread<'x, R: Wait + Drop, G> {
     pub(crate) rt: R,

@@ -1,14 +1,13 @@
 //! What the threads that serve tenants share.
-use crate::beats::Beats;
 use crate::caller::Caller;
 use crate::entrances::Entrances;
 use crate::jobs::Jobs;
 use crate::pump::drop_closed;
-use crate::scheduler::{Scheduler, Turn, Turns, Work};
 use crate::tenants::{ServedTenant, Tenants};
 use crossbeam_channel::{Receiver, RecvTimeoutError};
 use etcd_types::Mem;
 use etcd_types::limits::MAX_TENANTS;
+use fair_turns::{Beats, Scheduler, Turn, Turns, Work};
 use std::alloc::{AllocError, Global};
 use std::rt::Clock;
 use std::sync::{Arc, Wait};

@@ -6,15 +6,13 @@
 //!
 //! A removal ends the tenant in this order: no request finds it by its name; no turn begins, and the last one has ended;
 //! its key is gone, the jobs that wait are answered that it is not there, and its watches end; its number finds nothing.
-use crate::budget::{Budget, DEFAULT_BUDGET};
 use crate::clients::Clients;
 use crate::clock::Running;
-use crate::counts::TenantCounts;
 use crate::entrances::{Entrance, Entrances};
-use crate::scheduler::{Scheduler, TenantTurns, Work};
 use crossbeam_utils::sync::ShardedLock;
 use etcd_types::Mem;
 use etcd_types::limits::MAX_TENANTS;
+use fair_turns::{Budget, DEFAULT_BUDGET, Scheduler, TenantCounts, TenantTurns, Work};
 use indexmap::IndexMap;
 use std::alloc::Global;
 use std::rt::Clock;
@@ -60,6 +58,7 @@ impl<R: Wait + Drop> ServedTenant<R> {
             next_take: 0,
             running: Running::new(),
             is_slow: false,
+            takes_left: 0,
             left_to_workers: 0,
         };
         let entrance = Entrance {

@@ -1,15 +1,13 @@
 //! The workers: the calls of clients.
-use crate::answer::{Answer, AnswerBody, Text};
-use crate::budget::{MadeText, SMALL_TREE, tree_weight};
 use crate::caller::Caller;
 use crate::clients::{Ask, Clients, Job, OpenWatch};
-use crate::pump::take_all;
-use crate::scheduler::{Scheduler, Work};
+use crate::pump::{serve_takes, take_all};
 use crate::serving::ServingThread;
-use crate::stopwatch::Stopwatch;
 use crate::tenants::ServedTenant;
-use crate::watch_texts::{TextSender, WatchTexts};
 use etcd_types::{Call, Refusal, Step};
+use fair_turns::{
+    Answer, MadeText, SMALL_TREE, Scheduler, Stopwatch, TextSender, WatchTexts, Work, tree_weight,
+};
 use gateway_json::read_step;
 use std::alloc::Global;
 use std::rt::Clock;
@@ -74,20 +72,30 @@ impl<R: Wait + Clock + Copy + Drop> WorkerTurn<'_, '_, R> {
     /// Serves a few of a tenant's jobs, unless the tenant was slow and has to wait with its turn.
     fn run<G: Gate>(&self, caller: &mut Caller<'_, R, G>) {
         let mut clients = self.tenant.clients.lock(&self.rt);
-        let was_slow = clients.is_slow;
-        if was_slow && !self.scheduler.begin_slow(&self.rt, self.tenant.turns()) {
+        let turns = self.tenant.turns();
+        let has_long_takes = clients.takes_left > 0 && Scheduler::are_takes_due(turns);
+        let was_slow = clients.is_slow || has_long_takes;
+        if was_slow && !self.scheduler.begin_slow(&self.rt, turns) {
             return;
         }
         let stopwatch = Stopwatch::start(&self.rt);
         self.serve_jobs(caller, &mut *clients, &stopwatch);
-        clients.counts.turns.add(stopwatch.passed(&self.rt));
+        self.serve_long_takes(caller, &mut *clients);
+        clients.counts.turns().add(stopwatch.passed(&self.rt));
         clients.is_slow = stopwatch.is_past(&self.rt, MILLIS_A_TURN);
         if was_slow {
             self.scheduler.end_slow(&self.rt);
         }
         drop(clients);
-        self.scheduler
-            .finish(&self.rt, self.tenant.turns(), Work::Jobs);
+        self.scheduler.finish(&self.rt, turns, Work::Jobs);
+    }
+
+    /// Serves the takes of a tenant where they are due and were long lately.
+    fn serve_long_takes<G: Gate>(&self, caller: &mut Caller<'_, R, G>, clients: &mut Clients<R>) {
+        let turns = self.tenant.turns();
+        if clients.takes_left > 0 && Scheduler::begins_takes(turns) {
+            serve_takes(&self.rt, caller, self.scheduler, turns, clients);
+        }
     }
 
     /// Serves a few of a tenant's jobs. If there may be more, the tenant comes again behind the others.
@@ -112,7 +120,7 @@ impl<R: Wait + Clock + Copy + Drop> WorkerTurn<'_, '_, R> {
                 waiting,
                 reply,
             } = job;
-            clients.counts.waits.add(waiting.passed(&self.rt));
+            clients.counts.waits().add(waiting.passed(&self.rt));
             bytes = bytes.saturating_add(ask.len());
             let answer = self.answer(caller, clients, call, ask);
             clients.counts.add(call, length, &answer);
@@ -210,14 +218,8 @@ fn opened<R: Wait + Clock + Copy + Drop, G: Gate>(
         let _ = caller.call(&clients.key, Step::DropWatch(slot));
         return Answer::no_memory();
     }
-    Answer {
-        status,
-        refusal,
-        body: AnswerBody::Watch {
-            created: Text::Made(MadeText::short(receipt.into_body())),
-            texts,
-        },
-    }
+    let created = MadeText::short(receipt.into_body());
+    Answer::watch(status, refusal, created, texts)
 }
 
 /// A call after which a watch may have something to give.

@@ -7,12 +7,21 @@ use std::alloc::Global;
 use std::sync::Wait;
 
 /// A status and a body.
-#[derive(Drop)]
 pub struct Answer<R: Wait + Drop> {
-    pub status: u16,
+    status: u16,
     /// Why the call was refused, if it was.
-    pub refusal: Option<Refusal>,
-    pub body: AnswerBody<R>,
+    refusal: Option<Refusal>,
+    body: AnswerBody<R>,
+}
+
+impl<R: Wait + Drop> Drop for Answer<R> {
+    fn drop(self) {
+        let Answer {
+            status: _,
+            refusal: _,
+            body: _,
+        } = self;
+    }
 }
 
 /// The text of an answer.
@@ -28,7 +37,7 @@ impl Text {
     /// How many bytes it has.
     pub fn len(&self) -> usize {
         match self {
-            Text::Made(text) => text.bytes.len(),
+            Text::Made(text) => text.len(),
             Text::OutOfMemory => memory_text().len(),
         }
     }
@@ -47,11 +56,28 @@ pub enum AnswerBody<R: Wait + Drop> {
 
 impl<R: Wait + Drop> Answer<R> {
     /// A status and a text of its own, of a refusal or of what was asked for.
-    pub(crate) fn text(status: u16, refusal: Option<Refusal>, text: MadeText) -> Answer<R> {
+    pub fn text(status: u16, refusal: Option<Refusal>, text: MadeText) -> Answer<R> {
         Answer {
             status,
             refusal,
             body: AnswerBody::Text(Text::Made(text)),
+        }
+    }
+
+    /// What the create of a watch was answered, and its texts as they come.
+    pub fn watch(
+        status: u16,
+        refusal: Option<Refusal>,
+        created: MadeText,
+        texts: WatchTexts<R>,
+    ) -> Answer<R> {
+        Answer {
+            status,
+            refusal,
+            body: AnswerBody::Watch {
+                created: Text::Made(created),
+                texts,
+            },
         }
     }
 
@@ -72,8 +98,26 @@ impl<R: Wait + Drop> Answer<R> {
         }
     }
 
+    pub fn status(&self) -> u16 {
+        self.status
+    }
+
+    /// Why the call was refused, if it was.
+    pub fn refusal(&self) -> Option<Refusal> {
+        self.refusal
+    }
+
+    pub fn into_body(self) -> AnswerBody<R> {
+        let Answer {
+            status: _,
+            refusal: _,
+            body,
+        } = self;
+        body
+    }
+
     /// How many bytes its text has; a watch has no end.
-    pub(crate) fn len(&self) -> usize {
+    pub fn len(&self) -> usize {
         match &self.body {
             AnswerBody::Text(text) => text.len(),
             AnswerBody::Watch { .. } => 0,

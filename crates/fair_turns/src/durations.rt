@@ -18,7 +18,7 @@ pub struct Durations {
 
 impl Durations {
     /// None.
-    pub(crate) fn new() -> Durations {
+    pub fn new() -> Durations {
         Durations {
             parts: array::from_fn(|_| AtomicU64::new(0)),
             nanos: AtomicU64::new(0),
@@ -26,7 +26,7 @@ impl Durations {
     }
 
     /// One more.
-    pub(crate) fn add(&self, duration: Duration) {
+    pub fn add(&self, duration: Duration) {
         let nanos = u64::try_from(duration.as_nanos()).unwrap_or(u64::MAX);
         let place = ENDS.iter().filter(|end| **end * 1_000 < nanos).count();
         if let Some(part) = self.parts.get(place) {

@@ -8,13 +8,13 @@ use std::sync::atomic::{AtomicU64, Ordering};
 
 /// The calls of a tenant's clients, what they brought and took, and how long they waited and were served.
 pub struct TenantCounts {
-    pub(crate) answered: AnsweredCalls,
+    answered: AnsweredCalls,
     bytes_in: AtomicU64,
     bytes_out: AtomicU64,
     /// How long calls waited in the tenant's queue.
-    pub(crate) waits: Durations,
+    waits: Durations,
     /// How long turns took in which calls were served.
-    pub(crate) turns: Durations,
+    turns: Durations,
 }
 
 impl Drop for TenantCounts {
@@ -31,7 +31,7 @@ impl Drop for TenantCounts {
 
 impl TenantCounts {
     /// Nothing was counted.
-    pub(crate) fn new() -> TenantCounts {
+    pub fn new() -> TenantCounts {
         TenantCounts {
             answered: AnsweredCalls::new(),
             bytes_in: AtomicU64::new(0),
@@ -42,14 +42,14 @@ impl TenantCounts {
     }
 
     /// A call with a body of so many bytes was answered.
-    pub(crate) fn add<R: Wait + Drop>(&self, call: Call, length: usize, answer: &Answer<R>) {
-        self.answered.add(call, answer.status, answer.refusal);
+    pub fn add<R: Wait + Drop>(&self, call: Call, length: usize, answer: &Answer<R>) {
+        self.answered.add(call, answer.status(), answer.refusal());
         self.bytes_in.fetch_add(length as u64, Ordering::Relaxed);
         self.add_out(answer.len());
     }
 
     /// So many bytes of texts were made.
-    pub(crate) fn add_out(&self, bytes: usize) {
+    pub fn add_out(&self, bytes: usize) {
         self.bytes_out.fetch_add(bytes as u64, Ordering::Relaxed);
     }
 

@@ -19,11 +19,11 @@ use std::sync::atomic::{AtomicUsize, Ordering};
 use tokio::sync::{AcquireOwned, Semaphore};
 
 /// The most bytes of a body or of a text that is short: it takes no share, and a body of it is read by an event loop.
-pub(crate) const SHORT: usize = 4096;
+pub const SHORT: usize = 4096;
 
 /// The most bytes that a row may take until it is sent: the longest body has three quarters of it in its key and value,
 /// which are held once and written in base64.
-pub(crate) const LONGEST_ROW: usize = 4_194_304;
+pub const LONGEST_ROW: usize = 4_194_304;
 
 /// The most bytes that an object, and that another value, takes in the tree that is made of a body.
 const OBJECT: u64 = 1024;
@@ -31,22 +31,28 @@ const OBJECT: u64 = 1024;
 const VALUE: u64 = 96;
 
 /// The most bytes of a tree that takes no share: each worker has one such tree at a time.
-pub(crate) const SMALL_TREE: u64 = 1_048_576;
+pub const SMALL_TREE: u64 = 1_048_576;
 
 /// The budget of a tenant that none is told for: room for eight of the longest bodies.
 pub const DEFAULT_BUDGET: usize = 16_777_216;
 
 /// A tenant's budget, which all share that take of it.
-#[derive(Drop)]
-pub(crate) struct Budget {
+pub struct Budget {
     /// What is left, a permit a byte.
     left: Arc<Semaphore>,
     /// What was taken that was not there.
     owed: Arc<AtomicUsize>,
 }
 
+impl Drop for Budget {
+    fn drop(self) {
+        let Budget { left: _, owed: _ } = self;
+    }
+}
+
 impl Budget {
-    pub(crate) fn new(alloc: Global, bytes: usize) -> Mem<Budget> {
+    /// One of so many bytes.
+    pub fn new(alloc: Global, bytes: usize) -> Mem<Budget> {
         let left = Semaphore::new(alloc, bytes.min(Semaphore::MAX_PERMITS))?;
         Ok(Budget {
             left: Arc::new(alloc, left)?,
@@ -55,7 +61,7 @@ impl Budget {
     }
 
     /// The same for another holder.
-    pub(crate) fn share(&self) -> Mem<Budget> {
+    pub fn share(&self) -> Mem<Budget> {
         Ok(Budget {
             left: Arc::try_clone(&self.left)?,
             owed: Arc::try_clone(&self.owed)?,
@@ -63,7 +69,7 @@ impl Budget {
     }
 
     /// How many bytes are left.
-    pub(crate) fn left(&self) -> usize {
+    pub fn left(&self) -> usize {
         if self.owed.load(Ordering::SeqCst) > 0 {
             return 0;
         }
@@ -71,7 +77,7 @@ impl Budget {
     }
 
     /// A share of so many bytes, if they are left.
-    pub(crate) fn reserve(&self, bytes: u64) -> Option<Share> {
+    pub fn reserve(&self, bytes: u64) -> Option<Share> {
         let bytes = usize::try_from(bytes).ok()?;
         let budget = self.share().ok()?;
         let there = self.left.forget_permits(bytes);
@@ -84,7 +90,7 @@ impl Budget {
 
     /// A text that was made, with a share of its length, for which something may have been reserved. A short one takes
     /// none.
-    pub(crate) fn charge(&self, reserved: Option<Share>, bytes: Vec<u8>) -> MadeText {
+    pub fn charge(&self, reserved: Option<Share>, bytes: Vec<u8>) -> MadeText {
         if bytes.len() <= SHORT {
             return MadeText::short(bytes);
         }
@@ -97,13 +103,13 @@ impl Budget {
     }
 
     /// Takes so many bytes, and owes those that are not left.
-    pub(crate) fn take(&self, bytes: usize) {
+    pub fn take(&self, bytes: usize) {
         let there = self.left.forget_permits(bytes);
         self.owed.fetch_add(bytes - there, Ordering::SeqCst);
     }
 
     /// Gives so many bytes back, less what is owed.
-    pub(crate) fn give_back(&self, bytes: usize) {
+    pub fn give_back(&self, bytes: usize) {
         let owed = self.owed.swap(0, Ordering::SeqCst);
         let paid = owed.min(bytes);
         if owed > paid {
@@ -113,7 +119,7 @@ impl Budget {
     }
 
     /// The share of a body of so many bytes at the most, before it is read.
-    pub(crate) fn promise(&self, bytes: usize) -> Option<AwaitedShare> {
+    pub fn promise(&self, bytes: usize) -> Option<AwaitedShare> {
         let bytes = u32::try_from(bytes).ok()?;
         let budget = self.share().ok()?;
         let left = Arc::try_clone(&self.left).ok()?;
@@ -217,22 +223,37 @@ impl BodyShare {
 }
 
 /// A text that was made for a client, with its share of its tenant's budget if it is long.
-#[derive(Drop)]
 pub struct MadeText {
-    pub bytes: Vec<u8>,
-    pub share: Option<Share>,
+    bytes: Vec<u8>,
+    share: Option<Share>,
+}
+
+impl Drop for MadeText {
+    fn drop(self) {
+        let MadeText { bytes: _, share: _ } = self;
+    }
 }
 
 impl MadeText {
     /// A text that is short by what it tells.
-    pub(crate) fn short(bytes: Vec<u8>) -> MadeText {
+    pub fn short(bytes: Vec<u8>) -> MadeText {
         MadeText { bytes, share: None }
+    }
+
+    /// How many bytes it has.
+    pub fn len(&self) -> usize {
+        self.bytes.len()
+    }
+
+    pub fn into_parts(self) -> (Vec<u8>, Option<Share>) {
+        let MadeText { bytes, share } = self;
+        (bytes, share)
     }
 }
 
 /// A bound of what the tree of a body's values takes beside its texts: each value but the first comes behind one of three
 /// bytes.
-pub(crate) fn tree_weight(body: &[u8]) -> u64 {
+pub fn tree_weight(body: &[u8]) -> u64 {
     let mut weight = 0u64;
     for byte in body {
         let value = match *byte {
@@ -246,7 +267,7 @@ pub(crate) fn tree_weight(body: &[u8]) -> u64 {
 }
 
 /// The answer of a step may have more bytes than take no share.
-pub(crate) fn may_be_long(step: &Step) -> bool {
+pub fn may_be_long(step: &Step) -> bool {
     match step {
         Step::Range(request) => !request.count_only,
         Step::Put(request) => request.prev_kv,

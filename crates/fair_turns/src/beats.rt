@@ -7,7 +7,7 @@ use std::sync::atomic::{AtomicU64, Ordering};
 use std::time::Instant;
 
 /// The second in which each thread has moved last, from the server's start on.
-pub(crate) struct Beats {
+pub struct Beats {
     /// None where the clock can't be read.
     start: Option<Instant>,
     threads: Vec<CachePadded<AtomicU64>>,
@@ -24,7 +24,7 @@ impl Drop for Beats {
 
 impl Beats {
     /// Those of so many threads, which move now.
-    pub(crate) fn new(rt: &impl Clock, alloc: Global, threads: usize) -> Mem<Beats> {
+    pub fn new(rt: &impl Clock, alloc: Global, threads: usize) -> Mem<Beats> {
         let mut beats = Vec::with_capacity(alloc, threads)?;
         for _ in 0..threads {
             beats.push(CachePadded::new(AtomicU64::new(0)))?;
@@ -43,14 +43,14 @@ impl Beats {
     }
 
     /// A thread moves.
-    pub(crate) fn beat(&self, rt: &impl Clock, thread: usize) {
+    pub fn beat(&self, rt: &impl Clock, thread: usize) {
         if let Some(beat) = self.threads.get(thread) {
             beat.store(self.second(rt), Ordering::Relaxed);
         }
     }
 
     /// Each thread has moved within so many seconds.
-    pub(crate) fn are_within(&self, rt: &impl Clock, seconds: u64) -> bool {
+    pub fn are_within(&self, rt: &impl Clock, seconds: u64) -> bool {
         let now = self.second(rt);
         for beat in self.threads.as_slice() {
             if now.saturating_sub(beat.load(Ordering::Relaxed)) > seconds {

@@ -22,17 +22,25 @@ const ROOM: usize = 2;
 
 /// Why no text can be put in.
 #[derive(Clone, Copy)]
-pub(crate) enum NoRoom {
+pub enum NoRoom {
     /// The client has not read what it was told, or has gone.
     Unread,
     Memory,
 }
 
 /// Where the texts of an open watch are put in.
-#[derive(Drop)]
-pub(crate) struct TextSender {
+pub struct TextSender {
     texts: mpsc::Sender<MadeText>,
     may_have_more: Arc<AtomicBool>,
+}
+
+impl Drop for TextSender {
+    fn drop(self) {
+        let TextSender {
+            texts: _,
+            may_have_more: _,
+        } = self;
+    }
 }
 
 /// The texts of an open watch, for its client. Letting go of them ends the watch.
@@ -45,7 +53,7 @@ pub struct WatchTexts<R: Wait + Drop> {
 
 impl TextSender {
     /// The two ends for a watch of a tenant.
-    pub(crate) fn new<R: Wait + Drop>(
+    pub fn new<R: Wait + Drop>(
         rt: R,
         alloc: Global,
         turns: &Arc<TenantTurns>,
@@ -66,12 +74,12 @@ impl TextSender {
     }
 
     /// The client has read all that it was told.
-    pub(crate) fn is_read(&self) -> bool {
+    pub fn is_read(&self) -> bool {
         self.texts.capacity() >= ROOM
     }
 
     /// A right to put one text in.
-    pub(crate) fn permit(&self) -> Result<mpsc::Permit<'_, MadeText>, NoRoom> {
+    pub fn permit(&self) -> Result<mpsc::Permit<'_, MadeText>, NoRoom> {
         match self.texts.try_reserve() {
             Ok(permit) => Ok(permit),
             Err(TrySendError::OutOfMemory(())) => Err(NoRoom::Memory),
@@ -80,13 +88,13 @@ impl TextSender {
     }
 
     /// The client has gone.
-    pub(crate) fn is_closed(&self) -> bool {
+    pub fn is_closed(&self) -> bool {
         self.texts.is_closed()
     }
 
     /// There may be more: the client asks for it when it has read its text. Whether it has read it already, and so
     /// did not ask, is told.
-    pub(crate) fn promise_more(&self) -> bool {
+    pub fn promise_more(&self) -> bool {
         self.may_have_more.store(true, Ordering::SeqCst);
         self.is_read()
     }

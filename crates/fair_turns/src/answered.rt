@@ -42,7 +42,7 @@ pub struct AnsweredCalls {
 
 impl AnsweredCalls {
     /// None was answered.
-    pub(crate) fn new() -> AnsweredCalls {
+    pub fn new() -> AnsweredCalls {
         AnsweredCalls {
             counts: array::from_fn(|_| AtomicU64::new(0)),
             refused: array::from_fn(|_| AtomicU64::new(0)),
@@ -50,7 +50,7 @@ impl AnsweredCalls {
     }
 
     /// A call was answered, by a refusal or by what it asked for.
-    pub(crate) fn add(&self, call: Call, status: u16, refusal: Option<Refusal>) {
+    pub fn add(&self, call: Call, status: u16, refusal: Option<Refusal>) {
         if let Some(count) = self.count(call, status) {
             count.fetch_add(1, Ordering::Relaxed);
         }

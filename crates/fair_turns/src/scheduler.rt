@@ -21,7 +21,7 @@ const LOOKS: u32 = 64;
 
 /// What may be due on a tenant, in the order of the round.
 #[derive(Clone, Copy)]
-pub(crate) enum Work {
+pub enum Work {
     /// The clock's step.
     Tick,
     /// What its watches have to give, and the end of those whose clients have gone.
@@ -67,7 +67,7 @@ impl Work {
 
 /// What a thread that serves tenants is told.
 #[derive(Clone, Copy)]
-pub(crate) enum Turn {
+pub enum Turn {
     /// It has the turn on the tenant of this number.
     On(u64),
     /// There are no more turns.
@@ -80,8 +80,7 @@ pub(crate) enum Turn {
 type Marks = CachePadded<AtomicU64>;
 
 /// The turns on one tenant.
-#[derive(Drop)]
-pub(crate) struct TenantTurns {
+pub struct TenantTurns {
     /// The tenant's. No other tenant ever has it.
     number: u64,
     marks: Marks,
@@ -89,15 +88,26 @@ pub(crate) struct TenantTurns {
     pump: Sender<Turn>,
 }
 
+impl Drop for TenantTurns {
+    fn drop(self) {
+        let TenantTurns {
+            number: _,
+            marks: _,
+            pump: _,
+        } = self;
+    }
+}
+
 impl TenantTurns {
     /// The watches of its clients may have something to give, or one has gone.
-    pub(crate) fn schedule_takes<R: Wait>(&self, rt: &R) {
+    pub fn schedule_takes<R: Wait>(&self, rt: &R) {
         if Scheduler::mark_or_begin(&self.marks, Work::Takes) {
             let _ = self.pump.send(rt, Turn::On(self.number));
         }
     }
 
-    pub(crate) fn number(&self) -> u64 {
+    /// The tenant's number, which no other tenant ever has.
+    pub fn number(&self) -> u64 {
         self.number
     }
 }
@@ -114,9 +124,11 @@ const RETIRED: u64 = 32;
 /// How many milliseconds lie between two looks whether the last turn on a tenant has ended.
 const MILLIS_A_LOOK: u64 = 1;
 
+/// How many threads serve neither clients nor connections: the clock, the pump, the catch-up worker.
+pub const BESIDE_WORKERS: usize = 3;
+
 /// The channels to the threads that wait for turns.
-#[derive(Drop)]
-pub(crate) struct Scheduler {
+pub struct Scheduler {
     clock: Sender<Turn>,
     pump: Sender<Turn>,
     catch_up: Sender<Turn>,
@@ -124,18 +136,44 @@ pub(crate) struct Scheduler {
     slow: SlowTenants,
 }
 
+impl Drop for Scheduler {
+    fn drop(self) {
+        let Scheduler {
+            clock: _,
+            pump: _,
+            catch_up: _,
+            workers: _,
+            slow: _,
+        } = self;
+    }
+}
+
 /// Where the turns arrive.
-#[derive(Drop)]
-pub(crate) struct Turns {
-    pub(crate) clock: Receiver<Turn>,
-    pub(crate) pump: Receiver<Turn>,
-    pub(crate) catch_up: Receiver<Turn>,
-    pub(crate) workers: Receiver<Turn>,
+pub struct Turns {
+    /// Those of the clock.
+    pub clock: Receiver<Turn>,
+    /// Those of the pump.
+    pub pump: Receiver<Turn>,
+    /// Those of the catch-up worker.
+    pub catch_up: Receiver<Turn>,
+    /// Those of all workers.
+    pub workers: Receiver<Turn>,
+}
+
+impl Drop for Turns {
+    fn drop(self) {
+        let Turns {
+            clock: _,
+            pump: _,
+            catch_up: _,
+            workers: _,
+        } = self;
+    }
 }
 
 impl Scheduler {
     /// A scheduler of so many threads, with nothing due. So many of the threads are workers.
-    pub(crate) fn new(alloc: Global, threads: usize, workers: usize) -> Mem<(Scheduler, Turns)> {
+    pub fn new(alloc: Global, threads: usize, workers: usize) -> Mem<(Scheduler, Turns)> {
         // A tenant is in one channel at most, one that is being removed too, and each thread is told once that there are
         // no more turns.
         let tenants = MAX_TENANTS + 1;
@@ -161,7 +199,7 @@ impl Scheduler {
     }
 
     /// The turns of the tenant that has this number, with nothing due.
-    pub(crate) fn turns_of(&self, number: u64) -> Mem<TenantTurns> {
+    pub fn turns_of(&self, number: u64) -> Mem<TenantTurns> {
         Ok(TenantTurns {
             number,
             marks: CachePadded::new(AtomicU64::new(IDLE)),
@@ -170,7 +208,7 @@ impl Scheduler {
     }
 
     /// Work is due on a tenant. Where nobody has the turn, it is given now.
-    pub(crate) fn schedule<R: Wait>(&self, rt: &R, turns: &TenantTurns, work: Work) {
+    pub fn schedule<R: Wait>(&self, rt: &R, turns: &TenantTurns, work: Work) {
         if Scheduler::mark_or_begin(&turns.marks, work) {
             self.give(rt, turns.number, work);
         }
@@ -192,7 +230,7 @@ impl Scheduler {
     }
 
     /// Takes the turn on a tenant where nobody has it and nothing is due.
-    pub(crate) fn try_begin(turns: &TenantTurns) -> bool {
+    pub fn try_begin(turns: &TenantTurns) -> bool {
         for _ in 0..LOOKS {
             let is_idle = turns.marks.load(Ordering::SeqCst) == IDLE;
             if is_idle && Scheduler::moves(&turns.marks, IDLE, RUNNING) {
@@ -210,7 +248,7 @@ impl Scheduler {
     }
 
     /// Ends a turn; the tenant goes on to the work that is due next.
-    pub(crate) fn finish<R: Wait>(&self, rt: &R, turns: &TenantTurns, done: Work) {
+    pub fn finish<R: Wait>(&self, rt: &R, turns: &TenantTurns, done: Work) {
         if let Some(work) = Scheduler::end_or_go_on(&turns.marks, done) {
             self.give(rt, turns.number, work);
         }
@@ -232,7 +270,7 @@ impl Scheduler {
     }
 
     /// Lets no more turns begin on a tenant, and waits until the last one has ended.
-    pub(crate) fn retire<R: Wait + Clock>(rt: &R, turns: &TenantTurns) {
+    pub fn retire<R: Wait + Clock>(rt: &R, turns: &TenantTurns) {
         turns.marks.fetch_or(RETIRED, Ordering::SeqCst);
         for _ in rt.forever() {
             if turns.marks.load(Ordering::SeqCst) & RUNNING == 0 {
@@ -242,8 +280,30 @@ impl Scheduler {
         }
     }
 
+    /// Hands the turn for takes that are long on to the workers, so that the watches of other tenants don't wait for
+    /// them. It is `false` where no worker would be left for the others.
+    pub fn hand_to_workers<R: Wait>(&self, rt: &R, turns: &TenantTurns) -> bool {
+        if !self.slow.leaves_one() {
+            return false;
+        }
+        turns.marks.fetch_or(Work::Takes.mark(), Ordering::SeqCst);
+        self.give(rt, turns.number, Work::Jobs);
+        true
+    }
+
+    /// The takes of a tenant are due.
+    pub fn are_takes_due(turns: &TenantTurns) -> bool {
+        turns.marks.load(Ordering::SeqCst) & Work::Takes.mark() != 0
+    }
+
+    /// Whoever has the turn on a tenant begins with its takes, if they are due.
+    pub fn begins_takes(turns: &TenantTurns) -> bool {
+        let mark = Work::Takes.mark();
+        turns.marks.fetch_and(!mark, Ordering::SeqCst) & mark != 0
+    }
+
     /// A worker that has the turn on a slow tenant may serve it; else the tenant waits with its turn until it may.
-    pub(crate) fn begin_slow<R: Wait>(&self, rt: &R, turns: &TenantTurns) -> bool {
+    pub fn begin_slow<R: Wait>(&self, rt: &R, turns: &TenantTurns) -> bool {
         let may_begin = self.slow.begin(rt, turns.number);
         if !may_begin {
             self.give_waiting(rt);
@@ -252,7 +312,7 @@ impl Scheduler {
     }
 
     /// A worker has served a slow tenant.
-    pub(crate) fn end_slow<R: Wait>(&self, rt: &R) {
+    pub fn end_slow<R: Wait>(&self, rt: &R) {
         self.slow.end();
         self.give_waiting(rt);
     }
@@ -275,7 +335,7 @@ impl Scheduler {
     }
 
     /// Tells all threads that there are no more turns.
-    pub(crate) fn stop<R: Wait>(&self, rt: &R, threads: usize) {
+    pub fn stop<R: Wait>(&self, rt: &R, threads: usize) {
         let _ = self.clock.send(rt, Turn::Over);
         let _ = self.pump.send(rt, Turn::Over);
         let _ = self.catch_up.send(rt, Turn::Over);

@@ -4,19 +4,19 @@ use std::time::{Duration, Instant};
 
 /// The time since a turn began. Where the clock can't be read, none seems to pass.
 #[derive(Clone, Copy, Drop)]
-pub(crate) struct Stopwatch {
+pub struct Stopwatch {
     begun: Option<Instant>,
 }
 
 impl Stopwatch {
-    pub(crate) fn start(rt: &impl Clock) -> Stopwatch {
+    pub fn start(rt: &impl Clock) -> Stopwatch {
         Stopwatch {
             begun: Instant::now(rt).ok(),
         }
     }
 
     /// How long it is since then.
-    pub(crate) fn passed(&self, rt: &impl Clock) -> Duration {
+    pub fn passed(&self, rt: &impl Clock) -> Duration {
         match &self.begun {
             Some(begun) => begun.elapsed(rt).unwrap_or(Duration::ZERO),
             None => Duration::ZERO,
@@ -24,7 +24,7 @@ impl Stopwatch {
     }
 
     /// So many milliseconds have passed.
-    pub(crate) fn is_past(&self, rt: &impl Clock, millis: u64) -> bool {
+    pub fn is_past(&self, rt: &impl Clock, millis: u64) -> bool {
         self.passed(rt) >= Duration::from_millis(millis)
     }
 }

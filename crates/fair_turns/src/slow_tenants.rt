@@ -1,5 +1,5 @@
-//! Tenants whose last turn with a worker was long. All workers but one may serve them at once, so that one is left for
-//! the others, however many of these there are.
+//! Tenants whose last turn with a worker was long, or whose last takes were. All workers but one may serve them at once,
+//! so that one is left for the others, however many of these there are.
 use crossbeam_channel::{Receiver, Sender, bounded};
 use crossbeam_utils::CachePadded;
 use etcd_types::Mem;
@@ -11,6 +11,8 @@ use std::sync::atomic::{AtomicUsize, Ordering};
 #[derive(Drop)]
 pub(crate) struct SlowTenants {
     most: usize,
+    /// A worker is left for the others.
+    leaves_one: bool,
     served: CachePadded<AtomicUsize>,
     wait: Sender<u64>,
     waiting: Receiver<u64>,
@@ -22,10 +24,15 @@ impl SlowTenants {
         let (wait, waiting) = bounded(alloc, tenants)?;
         Ok(SlowTenants {
             most: workers.saturating_sub(1).max(1),
+            leaves_one: workers > 1,
             served: CachePadded::new(AtomicUsize::new(0)),
             wait,
             waiting,
         })
+    }
+
+    pub(crate) fn leaves_one(&self) -> bool {
+        self.leaves_one
     }
 
     /// A worker may serve a slow tenant now; else the tenant waits.
