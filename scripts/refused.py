@@ -31,6 +31,13 @@ class Refuser:
     def file(self, name):
         return os.path.join(self.folder.name, name)
 
+    def counted(self, run):
+        """How many allocations a run makes, which is given variables to run under."""
+        mark = self.file("counted")
+        run({"LD_PRELOAD": self.library, "REFUSE": "0", "COUNTED": mark})
+        with open(mark, encoding="ascii") as file:
+            return int(file.read())
+
     def refused(self, number, run):
         """The number and what a run gives whose allocation of that number is refused; None if it makes fewer."""
         mark = self.file(f"refused.{number}")
