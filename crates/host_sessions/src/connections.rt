@@ -37,8 +37,8 @@ const MAX_UNSENT: usize = 65_536;
 /// likely.
 const PAUSE: u64 = 50;
 
-/// How many connections each loop has room for from its start on. What a set of tasks keeps of one is never given back,
-/// and would lie between what comes and goes with connections.
+/// How many connections each loop has room for from its start on: for none of the first does its set of tasks take
+/// memory.
 const ROOMS: usize = 512;
 
 /// How many seconds lie between two moves by which a loop shows that it is not stuck.
