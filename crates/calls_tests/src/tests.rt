@@ -8,10 +8,10 @@ use std::alloc::Global;
 use std::process::Abort;
 use std::rt::Clock;
 use std::sync::Wait;
-use steps_core::OperatorFault;
 use tenant_registry::{
     CloseFault, Closed, OpenGate, Receipt, Registry, Seat, SeatFault, TenantConfig,
 };
+use tenant_rules::OperatorFault;
 
 /// The status and body of the first put of a tenant of cluster 7.
 const FIRST_PUT: &str =

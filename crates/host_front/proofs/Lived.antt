@@ -17,10 +17,12 @@ use Rattle.etcd_model.specs.Store.{Store}
 use Rattle.etcd_model.specs.Alone.{Event, Called, Stepped, Turn, names, is_of, is_own, is_catch_up, is_unanswered, own, told}
 use Rattle.etcd_model.specs.Alone.{read_event, answer_to, after_read}
 use Rattle.tenant_machine.specs.Tenants.{tenant}
-use Rattle.steps_core.specs.declared.adding.OperatorFault.{OperatorFault}
+use Rattle.tenant_rules.specs.declared.fault.OperatorFault.{OperatorFault}
 use Rattle.steps_core.specs.Hosts.{HostState, HoldsAt, machine_at, has_tenant}
-use Rattle.steps_core.specs.Adding.{add_fault, first_fault, Adds}
-use Rattle.steps_core.specs.Resizing.{resized, Resizes}
+use Rattle.steps_core.specs.Adding.{add_fault, Adds}
+use Rattle.tenant_rules.specs.Rules.{first_fault}
+use Rattle.tenant_machine.specs.Reserving.{resized}
+use Rattle.steps_core.specs.Resizing.{Resizes}
 use Rattle.steps_core.specs.Removing.{Removes}
 use Rattle.steps_core.proofs.Runs.{there_by_names}
 use Rattle.host_front.specs.declared.line.HostLine.{HostLine}

@@ -1,8 +1,9 @@
 -- One line, answered: an event, or a call of the operator.
 use Rattle.std.specs.Prelude.{◌≡◌, Option, Some, None, Result, Ok, Err}
-use Rattle.steps_core.specs.declared.adding.OperatorFault.{OperatorFault}
+use Rattle.tenant_rules.specs.declared.fault.OperatorFault.{OperatorFault}
 use Rattle.steps_core.specs.Hosts.{HostState}
-use Rattle.steps_core.specs.Adding.{add_fault, reason, Adds}
+use Rattle.steps_core.specs.Adding.{add_fault, Adds}
+use Rattle.tenant_rules.specs.Rules.{reason}
 use Rattle.steps_core.specs.Resizing.{resize_fault, Resizes}
 use Rattle.steps_core.specs.Removing.{remove_fault, Removes}
 use Rattle.host_front.specs.declared.line.LineAnswer.{LineAnswer}

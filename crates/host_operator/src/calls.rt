@@ -1,7 +1,7 @@
 //! What an operator asks, and why it is refused.
 use host_config::ConfigFault;
 use std::alloc::AllocError;
-use steps_core::OperatorFault;
+use tenant_rules::OperatorFault;
 
 /// A call of the operator.
 #[derive(Clone, Copy)]

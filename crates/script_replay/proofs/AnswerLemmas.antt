@@ -2,7 +2,7 @@
 use Rattle.std.proofs.Common.{◌≡◌, ◌∙◌, ap, refl, sym, subst, ℕ, Bool, true, false, List, [], ◌∷◌, ◌++◌, Option, decimal, codes, if◌then◌else◌}
 use Rattle.std.specs.Io.KnownBytes.{Appends}
 use Rattle.std.specs.Io.BufRead.{ends_with_byte}
-use Rattle.steps_core.specs.declared.adding.OperatorFault.{OperatorFault}
+use Rattle.tenant_rules.specs.declared.fault.OperatorFault.{OperatorFault}
 use Rattle.host_front.specs.declared.line.LineAnswer.{LineAnswer}
 use Rattle.host_front.specs.declared.line.LineAnswer.TheVariants.{Event, No}
 use Rattle.etcd_model.specs.ReplyText.{Answer}

@@ -1,9 +1,9 @@
 -- What is answered to a line, and the answer line that is written.
 use Rattle.std.specs.Prelude.{ℕ, List, [], ◌∷◌, ◌++◌, decimal, codes, if◌then◌else◌}
 use Rattle.std.specs.Io.BufRead.{ends_with_byte}
-use Rattle.steps_core.specs.declared.adding.OperatorFault.{OperatorFault}
-use Rattle.steps_core.specs.declared.adding.OperatorFault.TheVariants.{Name, Limits, Taken, NoTenant, Short}
-use Rattle.steps_core.specs.declared.adding.OperatorFault.TheVariants.{Memory}
+use Rattle.tenant_rules.specs.declared.fault.OperatorFault.{OperatorFault}
+use Rattle.tenant_rules.specs.declared.fault.OperatorFault.TheVariants.{Name, Limits, Taken, NoTenant, Short}
+use Rattle.tenant_rules.specs.declared.fault.OperatorFault.TheVariants.{Memory}
 use Rattle.host_front.specs.declared.line.LineAnswer.{LineAnswer}
 use Rattle.host_front.specs.declared.line.LineAnswer.TheVariants.{Event, Done, No}
 

@@ -16,10 +16,11 @@ use Rattle.etcd_model.specs.Pool.{PoolState, TicketState, IsHeld, AddsUp, IsLeas
 use Rattle.segment_pool.specs.declared.desk.Desk.{Desk}
 use Rattle.tenant_machine.specs.Tenants.{tenant}
 use Rattle.steps_core.specs.declared.tenant.Tenant.{Tenant}
-use Rattle.steps_core.specs.declared.adding.OperatorFault.TheVariants.{Taken, Short}
+use Rattle.tenant_rules.specs.declared.fault.OperatorFault.TheVariants.{Taken, Short}
 use Rattle.steps_core.specs.Hosts.{HostState, machine_at, reserved_segments}
 use Rattle.steps_core.specs.Sound.{Agrees, IsIdle, IsHost, host_of, ticket_number, drawn_by, reserved_by}
-use Rattle.steps_core.specs.Adding.{first_fault, within_limits, Adds}
+use Rattle.tenant_rules.specs.Rules.{first_fault, within_limits}
+use Rattle.steps_core.specs.Adding.{Adds}
 use Rattle.etcd_model.proofs.NamedLaws.{test, lookup_last, lookup_others}
 use Rattle.steps_core.proofs.Served.{reserved_shown}
 use Rattle.steps_core.proofs.Lists.{all-push, values_push, sum_push, distinct_push, held_apart, held_still}
@@ -49,12 +50,6 @@ all_still : {A : Type 0} (rs : List ℕ) (free now : ℕ) (es : List (Vec ℕ A 
 all_still rs free now [] none agree held = tt
 all_still rs free now (e ∷ es) none agree held =
     (held_still rs e.1.ticket.number free e.1.ticket.reserved now held.0 (held_apart rs e.1.ticket.number free e.1.ticket.reserved held.0 agree.0.some none), all_still rs free now es none agree.1 held.1)
-
--- a key that no test finds goes last
-pub last : {A X : Type 0} (es gs : List (Vec ℕ A × X)) (k : Vec ℕ A) (v : X) (name : List ℕ) → gs ≡ es → k.items ≡ name → lookup (test name) es ≡ None → insert_entry (λ x y. bytes_eq x.items y.items) gs k v ≡ es ++ (k, v) ∷ []
-last es gs k v name same key none =
-    ap (λ xs. insert_entry (λ x y. bytes_eq x.items y.items) xs k v) same
-    ∙ insert_entry-absent (λ x y. bytes_eq x.items y.items) k v es (absent_from_lookup (test k.items) es (subst (λ (t : List ℕ). lookup (test t) es ≡ None) (sym key) none))
 
 pub added : {A : Type 0} (es fs : List (Vec ℕ A × Tenant)) (d e : Desk) (k : Vec ℕ A) (v : Tenant) (n : ℕ) → IsHost es d → fs ≡ es ++ (k, v) ∷ []
     → v.machine.store.share ≡ undrawn n → 1 ≤ n → IsLeastUnheld d.pool.reservations v.ticket.number → v.ticket ≡ record v.ticket { reserved = n; drawn = 0 } → e.ticket ≡ d.ticket
@@ -135,19 +130,6 @@ short_fault named limits many taken short a b c d e = rw (a, b, c, d, e) refl
 
 pub no_fault : (named limits many taken short : Bool) → named ≡ true → limits ≡ true → many ≡ false → taken ≡ false → short ≡ false → first_fault (not named) (not limits || many) taken short ≡ None
 no_fault named limits many taken short a b c d e = rw (a, b, c, d, e) refl
-
--- if none of four faults is the first, none is there
-pub no_faults : (name limits taken short : Bool) → first_fault name limits taken short ≡ None → (name ≡ false) × ((limits ≡ false) × ((taken ≡ false) × (short ≡ false)))
-no_faults false false false false h = (refl, (refl, (refl, refl)))
-no_faults true limits taken short h = absurd (cc)
-no_faults false true taken short h = absurd (cc)
-no_faults false false true short h = absurd (cc)
-no_faults false false false true h = absurd (cc)
-
-pub neither : (a b : Bool) → (not a || b) ≡ false → (a ≡ true) × (b ≡ false)
-neither true false h = (refl, refl)
-neither true true h = absurd (cc)
-neither false b h = absurd (cc)
 
 -- ---- numbers
 

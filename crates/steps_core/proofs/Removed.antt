@@ -9,7 +9,7 @@ use Rattle.std.proofs.lemmas.Map.Entries.{sum_by-remove_entry}
 use Rattle.segment_pool.specs.declared.desk.Desk.{Desk}
 use Rattle.tenant_machine.specs.Tenants.{MachineState}
 use Rattle.steps_core.specs.declared.tenant.Tenant.{Tenant}
-use Rattle.steps_core.specs.declared.adding.OperatorFault.TheVariants.{Name, NoTenant}
+use Rattle.tenant_rules.specs.declared.fault.OperatorFault.TheVariants.{Name, NoTenant}
 use Rattle.steps_core.specs.Hosts.{HostState, machine_at, reserved_segments}
 use Rattle.steps_core.specs.Sound.{Agrees, IsHost, LeavesNone, host_of, ticket_number, drawn_by, reserved_by}
 use Rattle.steps_core.specs.Reserving.{reserved_at}
@@ -126,7 +126,3 @@ removes t es d f v old view kept h none left =
         segments = (omega (arith, left.free, left.out)) ∙ ap (λ (x : HostState). x.segments) view;
       };
     }
-
--- the fault that two tests tell
-pub by_two : (named there : Bool) {a b : Bool} → named ≡ a → there ≡ b → (if not named then Some Name else if not there then Some NoTenant else None) ≡ (if not a then Some Name else if not b then Some NoTenant else None)
-by_two named there x y = rw (x, y) refl

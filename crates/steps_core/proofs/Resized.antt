@@ -13,11 +13,11 @@ use Rattle.segment_pool.specs.declared.desk.Desk.{Desk}
 use Rattle.tenant_machine.specs.Tenants.{MachineState}
 use Rattle.tenant_machine.specs.Reserving.{reservation}
 use Rattle.steps_core.specs.declared.tenant.Tenant.{Tenant}
-use Rattle.steps_core.specs.declared.adding.OperatorFault.{OperatorFault}
-use Rattle.steps_core.specs.declared.adding.OperatorFault.TheVariants.{Name, Limits, NoTenant, Short}
+use Rattle.tenant_rules.specs.declared.fault.OperatorFault.{OperatorFault}
+use Rattle.tenant_rules.specs.declared.fault.OperatorFault.TheVariants.{Name, Limits, NoTenant, Short}
 use Rattle.steps_core.specs.Hosts.{HostState, machine_at, names_of, reserved_segments}
 use Rattle.steps_core.specs.Sound.{Agrees, IsIdle, IsHost, CanReserve, Reserves, host_of, ticket_number, drawn_by, reserved_by}
-use Rattle.steps_core.specs.Adding.{is_quota}
+use Rattle.tenant_rules.specs.Rules.{is_quota}
 use Rattle.steps_core.specs.Reserving.{reserved_at, wanted_at}
 use Rattle.steps_core.specs.Resizing.{resize_fault, lacks_segments, Resizes}
 use Rattle.etcd_model.proofs.NamedLaws.{test, own_set, others_set}
@@ -159,9 +159,6 @@ are_enough t es d h v quota view kept found enough =
 
 unlacking : (a b : ℕ) → nat_lt a b ≡ false → b ≤ a
 unlacking a b h = grind (arith, nat_tests)
-
-pub by_tests : (named limits there lacks : Bool) {a b c d : Bool} → named ≡ a → limits ≡ b → there ≡ c → lacks ≡ d → (if not named then Some Name else if not limits then Some Limits else if not there then Some NoTenant else if lacks then Some Short else None) ≡ (if not a then Some Name else if not b then Some Limits else if not c then Some NoTenant else if d then Some Short else None)
-by_tests named limits there lacks x y z u = rw (x, y, z, u) refl
 
 -- if there is no fault, each test was passed
 pub all_passed : (named limits there lacks : Bool) → (if not named then Some Name else if not limits then Some Limits else if not there then Some NoTenant else if lacks then Some Short else None) ≡ None → (named ≡ true) × ((limits ≡ true) × ((there ≡ true) × (lacks ≡ false)))

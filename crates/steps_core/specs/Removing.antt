@@ -3,10 +3,10 @@ use Rattle.std.specs.Prelude.{◌≡◌, ℕ, not, List, Option, Some, None, if�
 use Rattle.std.specs.Str.{bytes_eq}
 use Rattle.std.specs.Map.{remove_entry}
 use Rattle.tenant_machine.specs.Tenants.{MachineState}
-use Rattle.steps_core.specs.declared.adding.OperatorFault.{OperatorFault}
-use Rattle.steps_core.specs.declared.adding.OperatorFault.TheVariants.{Name, NoTenant}
+use Rattle.tenant_rules.specs.declared.fault.OperatorFault.{OperatorFault}
+use Rattle.tenant_rules.specs.declared.fault.OperatorFault.TheVariants.{Name, NoTenant}
 use Rattle.steps_core.specs.Hosts.{HostState, machine_at, has_tenant}
-use Rattle.steps_core.specs.Adding.{is_name}
+use Rattle.tenant_rules.specs.Rules.{is_name}
 use Rattle.steps_core.specs.Reserving.{ChangesOnly}
 
 -- the first reason not to remove a tenant, or none

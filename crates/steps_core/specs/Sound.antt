@@ -7,7 +7,7 @@ use Rattle.segment_pool.specs.declared.desk.Desk.{Desk}
 use Rattle.tenant_machine.specs.Reserving.{reservation}
 use Rattle.steps_core.specs.declared.tenant.Tenant.{Tenant}
 use Rattle.steps_core.specs.Hosts.{HostState}
-use Rattle.steps_core.specs.Resizing.{resized}
+use Rattle.tenant_machine.specs.Reserving.{resized}
 
 abbrev pub ticket_number : Tenant → ℕ
 ticket_number t = t.ticket.number

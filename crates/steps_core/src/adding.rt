@@ -1,32 +1,15 @@
 //! Adding a tenant.
 ghost use Rattle.std.specs.Prelude.{◌≡◌, None, OnErr, OnOk, IfErr};
-ghost use Rattle.std.specs.List.{list_all};
-ghost use Rattle.steps_core.specs.Adding.{Adds, add_fault, is_name, is_name_byte, is_quota, reason};
-ghost use Rattle.steps_core.specs.Adding.{within_limits};
+ghost use Rattle.steps_core.specs.Adding.{Adds, add_fault};
+ghost use Rattle.tenant_rules.specs.Rules.{reason};
 
 use crate::host::Host;
 use crate::tenant::Tenant;
 use etcd_types::Mem;
-use etcd_types::limits::{LAST_REVISION, MAX_NAME, MAX_QUOTA, MAX_TENANTS, MIN_QUOTA};
+use etcd_types::limits::MAX_TENANTS;
 use std::alloc::Global;
 use tenant_machine::{Machine, segments_for};
-
-/// Why an operator's call is refused: the first of these that applies.
-#[derive(Clone, Copy, Debug, PartialEq, Eq)]
-pub enum OperatorFault {
-    /// A name has 1 to 64 bytes of `a-z0-9-`.
-    Name,
-    /// A cluster ID is not 0, a quota is from 4 to 1,048,576 cells, a first revision from 1 to 2^62,
-    /// and there are at most 256 tenants.
-    Limits,
-    /// A tenant has this name.
-    Taken,
-    NoTenant,
-    /// Fewer segments are unreserved than the quota takes, or takes more.
-    Short,
-    /// A growth was refused.
-    Memory,
-}
+use tenant_rules::{OperatorFault, is_name, within_limits};
 
 impl Host {
     /// Adds a tenant, whose empty store is at the first revision, and reserves the segments that its quota
@@ -91,31 +74,4 @@ impl Host {
         };
         Ok(())
     }
-}
-
-/// Whether a tenant may have this name: 1 to 64 bytes of `a-z0-9-`.
-pub fn is_name(name: &[u8]) -> bool
-    ensures { result ≡ is_name name.now }
-{
-    !name.is_empty() && name.len() <= MAX_NAME && are_name_bytes(name)
-}
-
-fn are_name_bytes(name: &[u8]) -> bool
-    ensures { result ≡ list_all is_name_byte name.now }
-{
-    name.iter().all(|byte| { byte.is_ascii_lowercase() || byte.is_ascii_digit() || *byte == b'-' })
-}
-
-/// Whether a tenant may have this cluster ID, this quota in cells and this first revision.
-pub fn within_limits(cluster: u64, quota: u64, first: u64) -> bool
-    ensures { result ≡ within_limits cluster quota first }
-{
-    cluster > 0 && is_quota(quota) && (first > 0 && first <= LAST_REVISION)
-}
-
-/// Whether a tenant may have this quota in cells: 4 to 1,048,576.
-pub fn is_quota(quota: u64) -> bool
-    ensures { result ≡ is_quota quota }
-{
-    MIN_QUOTA <= quota && quota <= MAX_QUOTA
 }

@@ -10,5 +10,5 @@ mod removing;
 mod resizing;
 mod tenant;
 
-pub use adding::{OperatorFault, is_name, is_quota, within_limits};
 pub use host::Host;
+pub use tenant_rules::OperatorFault;

@@ -2,9 +2,9 @@
 ghost use Rattle.std.specs.Prelude.{◌≡◌, None, Some, OnErr, OnOk, IfErr};
 ghost use Rattle.steps_core.specs.Removing.{Removes, remove_fault};
 
-use crate::adding::{OperatorFault, is_name};
 use crate::host::Host;
 use crate::tenant::retire;
+use tenant_rules::{OperatorFault, is_name};
 
 impl Host {
     /// Removes a tenant with all that it holds: its segments are free again, unwiped, and no other tenant

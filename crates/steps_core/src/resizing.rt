@@ -1,12 +1,12 @@
 //! Another quota for a tenant.
 ghost use Rattle.std.specs.Prelude.{◌≡◌, None, OnErr, OnOk, IfErr};
-ghost use Rattle.steps_core.specs.Adding.{reason};
+ghost use Rattle.tenant_rules.specs.Rules.{reason};
 ghost use Rattle.steps_core.specs.Resizing.{Resizes, resize_fault};
 
-use crate::adding::{OperatorFault, is_name, is_quota};
 use crate::host::Host;
 use crate::tenant::{more_wanted, resize};
 use etcd_types::Mem;
+use tenant_rules::{OperatorFault, is_name, is_quota};
 
 impl Host {
     /// Gives a tenant another quota, also one below what it uses, and reserves the segments that it takes

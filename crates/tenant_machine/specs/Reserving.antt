@@ -22,3 +22,7 @@ with_quota quota m = record m {
   quota = quota;
   store = stored.with_cells (64 * reservation m quota) m.store;
 }
+
+-- the machine with rooms for the quota, and then with the quota: its tenant is as it was but for the quota
+abbrev pub resized : ℕ → MachineState → MachineState
+resized quota m = with_quota quota (roomier (segments_for quota) m)

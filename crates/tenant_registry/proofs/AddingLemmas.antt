@@ -8,15 +8,15 @@ use Rattle.std.proofs.lemmas.Int.{ints}
 use borrow.Author.Tests.{leb-true, ltb-true}
 use Rattle.std.specs.Str.{bytes_eq}
 use Rattle.std.specs.Map.{lookup}
-use Rattle.steps_core.proofs.Added.{no_faults}
-use Rattle.steps_core.specs.declared.adding.OperatorFault.{OperatorFault}
-use Rattle.steps_core.specs.declared.adding.OperatorFault.TheVariants.{Memory}
+use Rattle.tenant_rules.proofs.Faults.{no_faults}
+use Rattle.tenant_rules.specs.declared.fault.OperatorFault.{OperatorFault}
+use Rattle.tenant_rules.specs.declared.fault.OperatorFault.TheVariants.{Memory}
 use Rattle.cell_arena.specs.Loan.{segments_for}
 use Rattle.tenant_registry.specs.declared.adding.TenantConfig.{TenantConfig}
 use Rattle.tenant_audit.specs.declared.audit.Opening.{Opening}
 use Rattle.tenant_audit.specs.Audits.{IsAllowed}
 use Rattle.etcd_types.specs.Limits.{min_quota, max_quota, last_revision}
-use Rattle.steps_core.specs.Adding.{is_quota, within_limits}
+use Rattle.tenant_rules.specs.Rules.{is_quota, within_limits}
 use Rattle.tenant_registry.specs.declared.tenant.Tenant.{Tenant}
 use Rattle.tenant_registry.specs.Adding.{CanAdd, IsUnadded, add_fault, config_fault, configs_fault, fault_beside, is_one_of, name_of, opened, opened_from, opening_for, or_else, unmade}
 use Rattle.tenant_registry.specs.Registries.{RegistryState, has_tenant, is_among, is_taken, names_in, tenants_of, was_removed}

@@ -20,7 +20,7 @@ use Rattle.etcd_model.specs.Store.{Store}
 use Rattle.etcd_model.specs.Held.{Holds}
 use Rattle.etcd_model.specs.Pool.{StockState, all_below, new_stock}
 use Rattle.etcd_model.specs.Machine.{machine}
-use Rattle.steps_core.specs.Resizing.{resized}
+use Rattle.tenant_machine.specs.Reserving.{resized}
 use Rattle.tenant_machine.specs.Tenants.{MachineState, tenant}
 use Rattle.tenant_machine.specs.Reserving.{reservation, roomier, with_quota}
 use Rattle.tenant_machine.specs.Plans.{Plan, Plans, IsAfter, Steps}

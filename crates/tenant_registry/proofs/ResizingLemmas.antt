@@ -1,10 +1,10 @@
 -- What speaks against another quota, by what was looked up.
 use Rattle.std.specs.Prelude.{Result, Ok, Err, OnOk, IfErr, IfOk, if◌then◌else◌}
 use Rattle.std.proofs.Common.{◌≡◌, ◌∙◌, sym, ap, refl, ℕ, Bool, true, false, List, None, Some}
-use Rattle.steps_core.specs.declared.adding.OperatorFault.{OperatorFault}
-use Rattle.steps_core.specs.declared.adding.OperatorFault.TheVariants.{NoTenant, Short, Memory}
-use Rattle.steps_core.specs.Adding.{is_name, is_quota}
-use Rattle.steps_core.proofs.Resized.{by_tests}
+use Rattle.tenant_rules.specs.declared.fault.OperatorFault.{OperatorFault}
+use Rattle.tenant_rules.specs.declared.fault.OperatorFault.TheVariants.{NoTenant, Short, Memory}
+use Rattle.tenant_rules.specs.Rules.{is_name, is_quota}
+use Rattle.tenant_rules.proofs.Faults.{by_tests}
 use Rattle.tenant_registry.specs.Adding.{unmade}
 use Rattle.tenant_registry.specs.Registries.{RegistryState, has_tenant, number_in}
 use Rattle.tenant_registry.specs.Resizing.{CanResize, IsUnresized, ResizedState, resize_fault}

@@ -5,9 +5,9 @@ use Rattle.std.specs.List.{list_any}
 use Rattle.std.specs.Str.{bytes_eq}
 use Rattle.etcd_types.specs.declared.limits.TheConstants.{MAX_AUDIT, MAX_SEGMENTS, MAX_TENANTS}
 use Rattle.cell_arena.specs.Loan.{segments_for}
-use Rattle.steps_core.specs.declared.adding.OperatorFault.{OperatorFault}
-use Rattle.steps_core.specs.declared.adding.OperatorFault.TheVariants.{Limits, Memory}
-use Rattle.steps_core.specs.Adding.{first_fault, is_name, within_limits}
+use Rattle.tenant_rules.specs.declared.fault.OperatorFault.{OperatorFault}
+use Rattle.tenant_rules.specs.declared.fault.OperatorFault.TheVariants.{Limits, Memory}
+use Rattle.tenant_rules.specs.Rules.{first_fault, is_name, within_limits}
 use Rattle.tenant_registry.specs.declared.adding.TenantConfig.{TenantConfig}
 use Rattle.tenant_audit.specs.declared.audit.Opening.{Opening}
 use Rattle.tenant_registry.specs.Registries.{RegistryState, is_taken}

@@ -3,9 +3,9 @@ use Rattle.std.specs.Prelude.{ℕ, ◌+◌, ◌≡◌, not, List, [], ◌∷◌,
 use Rattle.std.specs.List.Sorted.{IsPermutation}
 use Rattle.std.specs.Str.{bytes_eq}
 use Rattle.std.specs.Map.{remove_entry}
-use Rattle.steps_core.specs.declared.adding.OperatorFault.{OperatorFault}
-use Rattle.steps_core.specs.declared.adding.OperatorFault.TheVariants.{Name, NoTenant}
-use Rattle.steps_core.specs.Adding.{is_name}
+use Rattle.tenant_rules.specs.declared.fault.OperatorFault.{OperatorFault}
+use Rattle.tenant_rules.specs.declared.fault.OperatorFault.TheVariants.{Name, NoTenant}
+use Rattle.tenant_rules.specs.Rules.{is_name}
 use Rattle.etcd_model.specs.Pool.{StockState}
 use Rattle.tenant_registry.specs.Keeping.{Content, segments_of}
 use Rattle.tenant_registry.specs.Registries.{RegistryState, has_tenant}

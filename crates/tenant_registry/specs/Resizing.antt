@@ -3,10 +3,10 @@ use Rattle.std.specs.Prelude.{◌≡◌, ℕ, ◌+◌, ◌++◌, not, Bool, List
 use Rattle.std.specs.List.Sorted.{IsPermutation}
 use Rattle.etcd_model.specs.Pool.{StockState}
 use Rattle.tenant_machine.specs.Reserving.{reservation, roomier}
-use Rattle.steps_core.specs.declared.adding.OperatorFault.{OperatorFault}
-use Rattle.steps_core.specs.declared.adding.OperatorFault.TheVariants.{Name, Limits, NoTenant, Short, Memory}
-use Rattle.steps_core.specs.Adding.{is_name, is_quota}
-use Rattle.steps_core.specs.Resizing.{resized}
+use Rattle.tenant_rules.specs.declared.fault.OperatorFault.{OperatorFault}
+use Rattle.tenant_rules.specs.declared.fault.OperatorFault.TheVariants.{Name, Limits, NoTenant, Short, Memory}
+use Rattle.tenant_rules.specs.Rules.{is_name, is_quota}
+use Rattle.tenant_machine.specs.Reserving.{resized}
 use Rattle.tenant_audit.specs.Audits.{turn_of, with_change_at}
 use Rattle.tenant_registry.specs.Adding.{unmade}
 use Rattle.tenant_registry.specs.Keeping.{Content, segments_of}

@@ -2,7 +2,7 @@
 ghost use Rattle.std.specs.Prelude.{◌≡◌, ◌+◌, ◌++◌, ◌∷◌, [], map, None, Some, true};
 ghost use Rattle.std.specs.Prelude.{IfErr, IfOk, OnErr, OnOk};
 ghost use Rattle.cell_arena.specs.Loan.{segments_for};
-ghost use Rattle.steps_core.specs.Adding.{within_limits};
+ghost use Rattle.tenant_rules.specs.Rules.{within_limits};
 ghost use Rattle.tenant_registry.specs.Adding.{config_fault, fault_beside, is_one_of, name_of, new_fault};
 ghost use Rattle.tenant_registry.specs.Adding.{opened, opening_for};
 ghost use Rattle.tenant_registry.specs.Registries.{names_in, tenants_of};
@@ -15,9 +15,9 @@ use indexmap::IndexMap;
 use segment_pool::Stock;
 use std::alloc::{AllocError, Global};
 use std::sync::{Arc, Mutex};
-use steps_core::{OperatorFault, is_name, within_limits};
 use tenant_audit::Opening;
 use tenant_machine::segments_for;
+use tenant_rules::{OperatorFault, is_name, within_limits};
 
 /// What a tenant is to be.
 #[derive(Debug, Drop)]

@@ -6,7 +6,7 @@ ghost use Rattle.etcd_model.specs.Held.{Holds};
 ghost use Rattle.etcd_types.specs.Limits.{max_quota};
 ghost use Rattle.tenant_machine.specs.Reserving.{reservation};
 ghost use Rattle.tenant_machine.specs.Tenants.{tenant};
-ghost use Rattle.steps_core.specs.declared.adding.OperatorFault.TheVariants.{Short};
+ghost use Rattle.tenant_rules.specs.declared.fault.OperatorFault.TheVariants.{Short};
 ghost use Rattle.tenant_audit.specs.Audits.{IsAllowed, IsLawful, opened_log, opening_of};
 ghost use Rattle.tenant_audit.specs.Receipts.{is_cancel, refusal_of, slip_of, slot_of};
 ghost use Rattle.tenant_registry.specs.Keeping.{segments_of};
@@ -21,9 +21,9 @@ use gateway_text::write_reply;
 use segment_pool::Stock;
 use std::alloc::Global;
 use std::marker::Model;
-use steps_core::OperatorFault;
 use tenant_audit::{Audit, Entry, MadeCall, Opening, Seat};
 use tenant_machine::{Hint, Machine, segments_for};
+use tenant_rules::OperatorFault;
 
 /// What a call was answered. Only `Kept::serve` makes one.
 #[derive(Debug)]

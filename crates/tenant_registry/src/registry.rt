@@ -2,7 +2,7 @@
 ghost use Rattle.std.specs.Prelude.{◌≡◌, ◌≢◌, ◌+◌, ◌≤◌, ◌⊎◌, [], true, false, map, None, Some, Err, IfErr, IfOk, IfSome};
 ghost use Rattle.std.specs.Prelude.{OnErr, OnOk, Bool, if◌then◌else◌, is_some, option_map, slice_get};
 ghost use Rattle.etcd_types.specs.Limits.{max_quota};
-ghost use Rattle.steps_core.specs.declared.adding.OperatorFault.TheVariants.{Memory, Short};
+ghost use Rattle.tenant_rules.specs.declared.fault.OperatorFault.TheVariants.{Memory, Short};
 ghost use Rattle.tenant_registry.specs.Adding.{CanAdd, IsUnadded, new_fault, new_registry, unmade, with_tenant};
 ghost use Rattle.tenant_registry.specs.Adding.{segments_fault, with_segments};
 ghost use Rattle.tenant_audit.specs.Audits.{IsLawful};
@@ -30,8 +30,8 @@ use std::alloc::Global;
 use std::marker::Model;
 use std::rt::Clock;
 use std::sync::{Mutex, Wait};
-use steps_core::{OperatorFault, is_name, is_quota};
 use tenant_audit::{Audit, CloseFault, Closed, Seat, Sheet};
+use tenant_rules::{OperatorFault, is_name, is_quota};
 
 /// Why no seat is given.
 #[derive(Clone, Copy, Debug, PartialEq, Eq)]

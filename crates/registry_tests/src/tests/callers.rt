@@ -8,8 +8,8 @@ use std::mem;
 use std::process::Abort;
 use std::rt::Clock;
 use std::sync::Wait;
-use steps_core::OperatorFault;
 use tenant_registry::{Closed, Key, OpenGate, Receipt, Registry, Seat};
+use tenant_rules::OperatorFault;
 
 /// How tenants are called.
 #[derive(Clone, Copy)]

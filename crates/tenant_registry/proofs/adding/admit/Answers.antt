@@ -1,6 +1,7 @@
 use Rattle.std.proofs.Common.{◌∙◌, ap, sym, ◌++◌, ◌∷◌, []}
 use Rattle.etcd_model.proofs.NamedLaws.{absent}
-use Rattle.steps_core.proofs.Added.{last, neither, no_faults}
+use Rattle.tenant_rules.proofs.Named.{last}
+use Rattle.tenant_rules.proofs.Faults.{neither, no_faults}
 use Rattle.tenant_audit.specs.declared.audit.Opening.{Opening}
 use Rattle.tenant_registry.specs.declared.tenant.Tenant.{Tenant}
 use Rattle.tenant_registry.specs.Registries.{tenants_of}

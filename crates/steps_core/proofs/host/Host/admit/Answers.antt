@@ -5,9 +5,11 @@ use Rattle.cell_arena.specs.Loan.{segments_for, undrawn}
 use Rattle.etcd_model.specs.Pool.{PoolState}
 use Rattle.etcd_model.proofs.NamedLaws.{absent}
 use Rattle.steps_core.specs.declared.tenant.Tenant.{Tenant}
-use Rattle.steps_core.specs.Adding.{within_limits}
+use Rattle.tenant_rules.specs.Rules.{within_limits}
 use Rattle.steps_core.proofs.Shown.{shown_there}
-use Rattle.steps_core.proofs.Added.{last, first_fits, some_segments, added, adds, is_short, no_faults, neither}
+use Rattle.tenant_rules.proofs.Named.{last}
+use Rattle.steps_core.proofs.Added.{first_fits, some_segments, added, adds, is_short}
+use Rattle.tenant_rules.proofs.Faults.{no_faults, neither}
 use Rattle.steps_core.proofs.host.Host.admit.Goals as goal
 
 pub unreachable-requires : goal.unreachable-requires

@@ -5,7 +5,8 @@ use Rattle.steps_core.specs.Removing.{Removes}
 use Rattle.etcd_model.proofs.NamedLaws.{test}
 use Rattle.steps_core.proofs.Shown.{shown_at}
 use Rattle.steps_core.proofs.Served.{can_serve}
-use Rattle.steps_core.proofs.Removed.{removed, removes, by_two}
+use Rattle.steps_core.proofs.Removed.{removed, removes}
+use Rattle.tenant_rules.proofs.Faults.{by_two}
 use Rattle.steps_core.proofs.host.Host.remove.Goals as goal
 
 pub retire-requires : goal.retire-requires

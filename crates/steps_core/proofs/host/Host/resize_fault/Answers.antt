@@ -1,6 +1,7 @@
 use Rattle.std.proofs.Common.{◌∙◌, sym, ap, refl, None, Some, is_some, arith}
 use Rattle.steps_core.proofs.Shown.{shown_at}
-use Rattle.steps_core.proofs.Resized.{by_tests, are_lacking, are_enough}
+use Rattle.tenant_rules.proofs.Faults.{by_tests}
+use Rattle.steps_core.proofs.Resized.{are_lacking, are_enough}
 use Rattle.steps_core.proofs.host.Host.resize_fault.Goals as goal
 
 pub returns-in_default : goal.returns-in_default

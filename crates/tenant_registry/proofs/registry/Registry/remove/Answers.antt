@@ -1,5 +1,5 @@
 use Rattle.std.proofs.Common.{◌∙◌, sym, ap, arith}
-use Rattle.steps_core.proofs.Removed.{by_two}
+use Rattle.tenant_rules.proofs.Faults.{by_two}
 use Rattle.tenant_registry.specs.Adding.{unmade}
 use Rattle.tenant_registry.proofs.RegistryLemmas.{is_there, found_shown}
 use Rattle.tenant_registry.proofs.RemovingLemmas.{fewer_left}

@@ -1,35 +1,34 @@
 //! How connections come in, until the server ends.
 use crate::connections::{Acceptor, accept_all, end_connections};
 use crate::fault::ServeFault;
-use connection_table::ConnectionTable;
-use host_operator::{Operator, OperatorSocket, Stopping, serve_operator};
+use connection_table::{ConnectionTable, Stopping};
 use std::alloc::AllocGlobal;
 use std::net::TcpListener;
 use std::random::RandomSource;
-use std::rt::Files;
 use std::sync::{Arc, Wait};
-use std::thread;
 use std::thread::{JoinHandle, SpawnError, Threads};
 use std::time::Clock;
+use std::{io, thread};
+use tenant_calls::TenantKey;
 use tenant_scheduler::Tenants;
-use tokio::sync::mpsc::{UnboundedSender, unbounded_channel};
+use tokio::sync::mpsc::{UnboundedReceiver, UnboundedSender, unbounded_channel};
 
 /// The part of the directory of tenants that is read where the server ends.
 const SHARD: usize = 0;
 
 /// What brings connections in.
 #[derive(Drop)]
-pub(crate) struct Arrivals<R: Wait + Drop> {
+pub(crate) struct Arrivals<R: Wait + Drop, K: TenantKey> {
     pub(crate) acceptor: Acceptor,
     pub(crate) listener: Arc<TcpListener>,
     pub(crate) stopping: Arc<Stopping>,
     pub(crate) table: ConnectionTable<R>,
     /// After how many connections the server ends.
     pub(crate) connections: Option<u32>,
-    pub(crate) tenants: Arc<Tenants<R>>,
+    pub(crate) tenants: Arc<Tenants<R, K>>,
 }
 
-impl<R: Wait + Clock + Copy + Drop> Arrivals<R> {
+impl<R: Wait + Clock + Copy + Drop, K: TenantKey> Arrivals<R, K> {
     /// Accepts connections until the server ends. Where it was told to end, watches and connections end too.
     pub(crate) fn accept(self, rt: R) -> Result<(), ServeFault> {
         let Arrivals {
@@ -56,27 +55,18 @@ impl<R: Wait + Clock + Copy + Drop> Arrivals<R> {
     }
 }
 
-/// Has connections come in by a thread, while the operator is served here: he has the registry to himself, and no other
-/// thread can be given it.
-pub(crate) fn accept_operated<R>(
+/// Has connections come in by a thread, while other work is done here, until the server ends: what it borrows for itself
+/// alone no other thread can be given.
+pub(crate) fn accept_beside<R, K, W>(
     rt: R,
-    arrivals: Arrivals<R>,
-    socket: OperatorSocket,
-    operator: Operator<'_, R>,
+    arrivals: Arrivals<R, K>,
+    work: W,
 ) -> Result<(), ServeFault>
 where
-    R: Wait
-        + Threads
-        + Clock
-        + RandomSource
-        + AllocGlobal
-        + Files
-        + Eprint
-        + Copy
-        + Drop
-        + Send
-        + Sync
-        + 'static,
+    R: Wait + Threads + Clock + RandomSource + AllocGlobal + Copy + Drop + Send + Sync + 'static,
+    K: TenantKey + Send,
+    W: FnOnce(UnboundedReceiver<()>) -> io::Result<()> + Drop,
+    requires { W.IsAlwaysCallable work }
 {
     let alloc = rt.alloc();
     let (ending, ended) = unbounded_channel::<()>(alloc)?;
@@ -85,7 +75,7 @@ where
         let Some(thread) = spawned(made) else {
             return Err(ServeFault::Memory);
         };
-        let _ = serve_operator(rt, alloc, socket, operator, ended);
+        let _ = work(ended);
         thread.join(&rt)
     })
 }

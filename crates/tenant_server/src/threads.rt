@@ -8,37 +8,36 @@ use std::sync::{Arc, Wait};
 use std::thread;
 use std::thread::{JoinHandle, SpawnError, Threads};
 use std::time::Clock;
-use tenant_registry::{Gate, Seat};
+use tenant_calls::TenantCalls;
 use tenant_scheduler::{Jobs, Service, ServingThread, Shared};
 
-/// How many of so many seats are workers', beside so many loops.
-pub(crate) fn workers_of(seats: usize, loops: usize) -> usize {
-    seats.saturating_sub(loops.saturating_add(BESIDE_WORKERS))
+/// How many of so many threads are workers, beside so many loops.
+pub(crate) fn workers_of(threads: usize, loops: usize) -> usize {
+    threads.saturating_sub(loops.saturating_add(BESIDE_WORKERS))
 }
 
-/// Runs a function that brings connections, or their calls, and serves them by a thread for each seat: the clock, the
-/// pump, the catch-up worker, the event loops that are given, and workers. It gives the seats back.
-pub(crate) fn run_threads<'x, R, G, B>(
+/// Runs a function that brings connections, or their calls, and serves them by a thread for each way to call tenants: the
+/// clock, the pump, the catch-up worker, the event loops that are given, and workers. It gives these ways back.
+pub(crate) fn run_threads<R, C, B>(
     rt: R,
-    opened: (Jobs<R>, Arc<Shared<R>>),
-    seats: Vec<Seat>,
-    gate: &'x G,
+    opened: (Jobs<R>, Arc<Shared<R, C::Key>>),
+    calls: Vec<C>,
     loops: Vec<SocketLoop>,
     bring: B,
-) -> Result<Vec<Seat>, ServeFault>
+) -> Result<Vec<C>, ServeFault>
 where
     R: Wait + Threads + Clock + RandomSource + AllocGlobal + Copy + Drop + Send + Sync + 'static,
-    G: Gate + Sync,
+    C: TenantCalls + Send,
     B: FnOnce(Jobs<R>) -> Result<(), ServeFault> + Drop,
     requires { B.IsAlwaysCallable bring }
 {
     let alloc = rt.alloc();
-    let roles = seats.len();
+    let roles = calls.len();
     let mut loops = loops;
     let (jobs, shared) = opened;
     thread::scope(thread::scope_env(), &rt, |scope| {
         let mut group = ThreadGroup::new(alloc);
-        for (place, seat) in seats.into_iter().enumerate() {
+        for (place, own_calls) in calls.into_iter().enumerate() {
             let Ok(own) = Arc::try_clone(&shared) else {
                 break;
             };
@@ -46,7 +45,7 @@ where
                 break;
             };
             let ends = role.ends();
-            let thread = ServingThread::new(rt, place, gate, seat, own);
+            let thread = ServingThread::new(rt, place, own_calls, own);
             let made = scope.spawn(move || serve(rt, alloc, role, thread));
             if !group.keep(ends, made) {
                 break;
@@ -61,13 +60,13 @@ where
         };
         let (mut back, served) = group.join(&rt, alloc, &shared, roles);
         brought.and(served)?;
-        shared.free_slots(rt, gate, &mut back);
+        shared.free_slots(rt, &mut back);
         Ok(back)
     })
 }
 
-/// The seat that a thread gives back, and how its work ended.
-pub(crate) type Ended = (Seat, Result<(), ServeFault>);
+/// What a thread called tenants by, which it gives back, and how its work ended.
+pub(crate) type Ended<C> = (C, Result<(), ServeFault>);
 
 /// When a thread ends.
 #[derive(Clone, Copy)]
@@ -80,13 +79,13 @@ enum Ends {
 
 /// The threads that are at work.
 #[derive(Drop)]
-struct ThreadGroup {
-    loops: Vec<JoinHandle<Ended>>,
-    others: Vec<JoinHandle<Ended>>,
+struct ThreadGroup<C> {
+    loops: Vec<JoinHandle<Ended<C>>>,
+    others: Vec<JoinHandle<Ended<C>>>,
 }
 
-impl ThreadGroup {
-    fn new(alloc: Global) -> ThreadGroup {
+impl<C: TenantCalls> ThreadGroup<C> {
+    fn new(alloc: Global) -> ThreadGroup<C> {
         ThreadGroup {
             loops: Vec::new(alloc),
             others: Vec::new(alloc),
@@ -97,7 +96,7 @@ impl ThreadGroup {
     fn keep<F: Drop>(
         &mut self,
         ends: Ends,
-        made: Result<JoinHandle<Ended>, SpawnError<F>>,
+        made: Result<JoinHandle<Ended<C>>, SpawnError<F>>,
     ) -> bool {
         match (made, ends) {
             (Ok(thread), Ends::WithConnections) => self.loops.push(thread).is_ok(),
@@ -106,29 +105,29 @@ impl ThreadGroup {
         }
     }
 
-    /// Waits for the event loops, ends the turns, and waits for the others. It gives back their seats, and how the
-    /// loops ended.
+    /// Waits for the event loops, ends the turns, and waits for the others. It gives back what they called tenants by, and
+    /// how the loops ended.
     fn join<R: Threads + Wait + Clock + Copy + Drop>(
         self,
         rt: &R,
         alloc: Global,
-        shared: &Shared<R>,
+        shared: &Shared<R, C::Key>,
         roles: usize,
-    ) -> (Vec<Seat>, Result<(), ServeFault>) {
+    ) -> (Vec<C>, Result<(), ServeFault>) {
         let ThreadGroup { loops, others } = self;
-        let mut seats = Vec::new(alloc);
+        let mut calls = Vec::new(alloc);
         let mut served = Ok(());
         for thread in loops {
-            let (seat, end) = thread.join(rt);
-            let _ = seats.push(seat);
+            let (own, end) = thread.join(rt);
+            let _ = calls.push(own);
             served = served.and(end);
         }
         shared.stop(rt, roles);
         for thread in others {
-            let (seat, _) = thread.join(rt);
-            let _ = seats.push(seat);
+            let (own, _) = thread.join(rt);
+            let _ = calls.push(own);
         }
-        (seats, served)
+        (calls, served)
     }
 
     /// There is a thread for each role, and a worker among them.
@@ -146,7 +145,7 @@ enum Role<R: Wait + Drop> {
 }
 
 impl<R: Wait + Drop> Role<R> {
-    /// The role of the seat at a place; behind the first three come the event loops. None where there is no memory.
+    /// The role of the thread at a place; behind the first three come the event loops. None where there is no memory.
     fn at(place: usize, loops: &mut Vec<SocketLoop>, jobs: &Jobs<R>) -> Option<Role<R>> {
         if place >= BESIDE_WORKERS
             && let Some(own) = loops.pop()
@@ -165,10 +164,10 @@ impl<R: Wait + Drop> Role<R> {
 }
 
 /// A thread's work, until there are no more turns or connections.
-fn serve<R, G>(rt: R, alloc: Global, role: Role<R>, thread: ServingThread<'_, R, G>) -> Ended
+fn serve<R, C>(rt: R, alloc: Global, role: Role<R>, thread: ServingThread<R, C>) -> Ended<C>
 where
     R: Wait + Clock + RandomSource + AllocGlobal + Copy + Drop,
-    G: Gate,
+    C: TenantCalls,
 {
     match role {
         Role::Loop(own, jobs) => serve_connections(rt, alloc, own, jobs, thread),
