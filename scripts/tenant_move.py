@@ -7,6 +7,7 @@ import http.client
 import json
 import os
 import queue
+import socket
 import sys
 import threading
 import time
@@ -127,8 +128,8 @@ class Followed(threading.Thread):
             self.changes.put(fault)
 
     def close(self):
-        with contextlib.suppress(OSError):
-            self.watch.connection.sock.shutdown(2)
+        with contextlib.suppress(OSError, AttributeError):  # it may have ended by itself
+            self.watch.connection.sock.shutdown(socket.SHUT_RDWR)
         self.join(10)
         self.watch.close()
 
@@ -204,6 +205,7 @@ class Copy:
     def empty(self):
         """What an earlier try left goes."""
         self.kept.leases = {}
+        self.new.call("maintenance/alarm", action="DEACTIVATE", alarm="NOSPACE")
         self.new.call("kv/deleterange", **ALL)
         for lease in self.new.leases():
             self.new.call("lease/revoke", ID=lease)
@@ -233,22 +235,29 @@ class Copy:
             row = event["kv"]
             length = len(row["key"]) + len(row.get("value", b""))
             if operations and (len(operations) == OPERATIONS or size + length > BYTES):
-                self.new.call("kv/txn", success=operations)
+                self.do(operations)
                 operations, size = [], 0
             operations.append(self.operation(event))
             size += length
-        self.new.call("kv/txn", success=operations)
+        self.do(operations)
         self.since += 1
         if self.since >= FORGET:
             self.forget()
+
+    def do(self, operations):
+        """By itself a put may be as long as the old host took it, and a transaction would be longer."""
+        if len(operations) == 1 and (put := operations[0].get("request_put")):
+            self.new.call("kv/put", **put)
+        else:
+            self.new.call("kv/txn", success=operations)
 
     def operation(self, event):
         row = event["kv"]
         if event.get("type") == "DELETE":
             return {"request_delete_range": {"key": row["key"]}}
         # A lease that has ended meanwhile takes its key along, which is told next.
-        lease = row["lease"] if row["lease"] and self.grant(row["lease"]) else 0
-        return {"request_put": {"key": row["key"], "value": row["value"], "lease": lease}}
+        lease = {"lease": row["lease"]} if row["lease"] and self.grant(row["lease"]) else {}
+        return {"request_put": {"key": row["key"], "value": row["value"], **lease}}
 
     def follow(self, revision, seconds):
         """Does what has changed up to a revision of the old tenant."""
@@ -299,6 +308,8 @@ class Copy:
             old, new = self.old.told(), self.new.told()
             if old["revision"] == self.applied and all(old[what] == new[what] for what in ["keys", "leases"]):
                 break
+            if time.monotonic() > last and old["revision"] != self.applied:
+                raise Ends("the old tenant goes on changing")
             if time.monotonic() > last:
                 raise Ends(f"the copy differs: {counts(old)} at the old host, {counts(new)} at the new one")
         if new["revision"] <= old["revision"]:
