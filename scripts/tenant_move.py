@@ -4,6 +4,7 @@ It is no script by itself.
 """
 import contextlib
 import http.client
+import itertools
 import json
 import os
 import queue
@@ -15,7 +16,7 @@ from urllib.parse import urlsplit
 
 sys.path.insert(0, os.path.join(os.path.dirname(os.path.dirname(os.path.abspath(__file__))), "examples", "clients"))
 
-from gateway import Canceled, Failed, Gateway, NoAnswer, Refused
+from gateway import Canceled, Failed, Gateway, Refused
 
 ALL = {"key": b"\0", "range_end": b"\0"}
 PAGE = 128
@@ -134,6 +135,10 @@ class Followed(threading.Thread):
         self.watch.close()
 
 
+def created(row):
+    return row["create_revision"]
+
+
 def by_revision(events):
     """The events of each revision together."""
     groups = []
@@ -194,12 +199,9 @@ class Copy:
         rows, revision = self.old.rows()
         self.followed, self.applied = Followed(self.old, revision), revision
         # In the order in which they were created, which locks and elections go by; together what came together.
-        rows.sort(key=lambda row: row["create_revision"])
         self.rows = len(rows)
-        while rows:
-            count = next((at for at, row in enumerate(rows) if row["create_revision"] != rows[0]["create_revision"]), len(rows))
-            self.change([{"kv": row} for row in rows[:count]])
-            del rows[:count]
+        for _, together in itertools.groupby(sorted(rows, key=created), created):
+            self.change([{"kv": row} for row in together])
         self.forget()
 
     def empty(self):
@@ -314,7 +316,6 @@ class Copy:
                 raise Ends(f"the copy differs: {counts(old)} at the old host, {counts(new)} at the new one")
         if new["revision"] <= old["revision"]:
             raise Ends(f"the old tenant has come to revision {old['revision']}, the new one to {new['revision']}")
-        self.keep_all_alive(self.new)
         self.forget()
 
 
