@@ -135,6 +135,10 @@ class Followed(threading.Thread):
         self.watch.close()
 
 
+def is_delete(event):
+    return event.get("type") == "DELETE"
+
+
 def created(row):
     return row["create_revision"]
 
@@ -180,6 +184,8 @@ class Copy:
     def __init__(self, old, new):
         self.old, self.new, self.kept = old, new, Kept(new)
         self.followed, self.applied, self.since, self.rows = None, 0, 0, 0
+        # The keys that are there, and changes of them that are still to be made.
+        self.live, self.pending = set(), {}
 
     def close(self):
         self.kept.close()
@@ -206,7 +212,7 @@ class Copy:
 
     def empty(self):
         """What an earlier try left goes."""
-        self.kept.leases = {}
+        self.kept.leases, self.live, self.pending = {}, set(), {}
         self.new.call("maintenance/alarm", action="DEACTIVATE", alarm="NOSPACE")
         self.new.call("kv/deleterange", **ALL)
         for lease in self.new.leases():
@@ -241,6 +247,7 @@ class Copy:
                 operations, size = [], 0
             operations.append(self.operation(event))
             size += length
+            (self.live.discard if is_delete(event) else self.live.add)(row["key"])
         self.do(operations)
         self.since += 1
         if self.since >= FORGET:
@@ -255,11 +262,30 @@ class Copy:
 
     def operation(self, event):
         row = event["kv"]
-        if event.get("type") == "DELETE":
+        if is_delete(event):
             return {"request_delete_range": {"key": row["key"]}}
         # A lease that has ended meanwhile takes its key along, which is told next.
         lease = {"lease": row["lease"]} if row["lease"] and self.grant(row["lease"]) else {}
         return {"request_put": {"key": row["key"], "value": row["value"], **lease}}
+
+    def take(self, events):
+        """Does what the events of one revision say, now or later: where no key comes, up to so many changes go in one
+        transaction, since nobody reads them yet, and of a key the last one counts alone."""
+        comes = any(not is_delete(event) and event["kv"]["key"] not in self.live for event in events)
+        if comes or len(self.pending) + len(events) > OPERATIONS:
+            self.flush()
+        if comes:
+            self.change(events)
+            return
+        for event in events:
+            self.pending[event["kv"]["key"]] = event
+            if is_delete(event):
+                self.live.discard(event["kv"]["key"])
+
+    def flush(self):
+        if self.pending:
+            self.change(list(self.pending.values()))
+            self.pending = {}
 
     def follow(self, revision, seconds):
         """Does what has changed up to a revision of the old tenant."""
@@ -271,8 +297,9 @@ class Copy:
                 raise Ends(f"the watch of the old tenant tells nothing behind revision {self.applied}") from None
             if isinstance(events, Exception):
                 raise events
-            self.change(events)
+            self.take(events)
             self.applied = events[-1]["kv"]["mod_revision"]
+        self.flush()
 
     def catch_up(self, seconds):
         """Follows until little is missing; what is written faster than it is copied can't be moved."""
