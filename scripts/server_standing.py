@@ -6,7 +6,7 @@ second of three; the other two keep their whole history.
 import re
 import time
 
-from server_client import ALL, Server, Watch, configuration, put_event, tenant_of, text, want
+from server_client import ALL, Server, configuration, created_line, put_event, tenant_of, text, want
 
 PERIOD = 10
 COMPACTED = "required revision has been compacted"
@@ -53,7 +53,8 @@ def history_goes_after_its_time(program):
 def a_watch_is_told_before_its_history_goes(program):
     """A client that reads is cancelled for nothing: each event comes, also of what is compacted soon after."""
     with three(program, auto_compaction_retention="2s") as server, server.connect() as client:
-        with Watch(server.port, "two", f"{{{ALL}}}") as watch:
+        with server.watch("two", f"{{{ALL}}}") as watch:
+            watch.expect_line(created_line(1))
             for number in range(16):
                 revision = put(client, "two", number)
                 event = put_event(text(b"key"), 2, revision, text(str(number).encode()), number + 1)

@@ -78,7 +78,7 @@ pub trait TakeHint: Drop {
 /// What one thread calls tenants by.
 pub trait TenantCalls: Drop {
     /// The key to one tenant.
-    type Key: TenantKey + Send;
+    type Key: TenantKey;
 
     /// What is told of a tenant's watches.
     type Hint: TakeHint;

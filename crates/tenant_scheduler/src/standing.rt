@@ -8,6 +8,8 @@
 //!
 //! The worked example for 100 seconds, with a put each ten seconds from revision 2 on: revisions 1, 2, 3, .. are noted at the
 //! seconds 10, 20, 30, ..; at 110 the one of second 10 is 100 seconds old, and the tenant is compacted there; again at 210.
+ghost use Rattle.std.specs.Prelude.{◌≤◌};
+
 use etcd_types::Mem;
 use std::alloc::Global;
 use std::collections::VecDeque;
@@ -116,7 +118,9 @@ impl StandingOrder {
 }
 
 /// How many seconds lie between two looks at the revision.
-fn step_of(seconds: u64) -> u64 {
+fn step_of(seconds: u64) -> u64
+    ensures { 1 ≤ result }
+{
     (seconds.min(MAX_PERIOD) / NOTES_A_PERIOD).max(1)
 }
 

@@ -1,6 +1,6 @@
 //! From a socket that listens to the last connection.
 use crate::admission::{connections, connections_of_tenant, most_connections, terms_of};
-use crate::arrivals::{Arrivals, accept_beside};
+use crate::arrivals::Arrivals;
 use crate::connections::{SocketLoop, open_loops};
 use crate::fault::ServeFault;
 use crate::peers::give_up;
@@ -189,6 +189,7 @@ where
     pub fn run<C>(self, rt: R, calls: Vec<C>) -> Result<Vec<C>, ServeFault>
     where
         C: TenantCalls<Key = K> + Send,
+        C::Hint: Send,
     {
         let Opened {
             threads,
@@ -196,8 +197,8 @@ where
             arrivals,
             connections_of_tenant: _,
         } = self;
-        let bring = move |_jobs| arrivals.accept(rt);
-        run_threads(rt, threads, calls, loops, bring)
+        let bring = move |_jobs, _ended| arrivals.accept(rt);
+        run_threads(rt, threads, calls, loops, None, bring)
     }
 
     /// The same, while other work is done on this thread, as that of an operator who has the registry to himself. The
@@ -205,6 +206,7 @@ where
     pub fn run_beside<C, W>(self, rt: R, calls: Vec<C>, work: W) -> Result<Vec<C>, ServeFault>
     where
         C: TenantCalls<Key = K> + Send,
+        C::Hint: Send,
         W: FnOnce(UnboundedReceiver<()>) -> io::Result<()> + Drop,
         requires { W.IsAlwaysCallable work }
     {
@@ -214,8 +216,13 @@ where
             arrivals,
             connections_of_tenant: _,
         } = self;
-        let bring = move |_jobs| accept_beside(rt, arrivals, work);
-        run_threads(rt, threads, calls, loops, bring)
+        let bring = move |_jobs, ended| {
+            if let Some(ended) = ended {
+                let _ = work(ended);
+            }
+            Ok(())
+        };
+        run_threads(rt, threads, calls, loops, Some(arrivals), bring)
     }
 }
 
@@ -231,13 +238,16 @@ pub fn serve_with<R, C, B>(
 where
     R: Wait + Threads + Clock + RandomSource + AllocGlobal + Copy + Drop + Send + Sync + 'static,
     C: TenantCalls + Send,
+    C::Key: Send,
+    C::Hint: Send,
     B: FnOnce(Jobs<R>) -> Result<(), ServeFault> + Drop,
     requires { B.IsAlwaysCallable bring }
 {
     let alloc = rt.alloc();
     let workers = workers_of(calls.len(), 0);
     let opened = open(&rt, alloc, keys, &[], calls.len(), workers)?;
-    run_threads(rt, opened, calls, Vec::new(alloc), bring)
+    let bring = move |jobs, _ended| bring(jobs);
+    run_threads(rt, opened, calls, Vec::new(alloc), None, bring)
 }
 
 /// How a connection ended.

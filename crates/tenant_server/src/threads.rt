@@ -1,4 +1,7 @@
 //! The threads of the server: the event loops, and those that serve tenants beside them.
+ghost use denote.Param.Send.{IsSend, IsSync};
+
+use crate::arrivals::Arrivals;
 use crate::connections::{SocketLoop, serve_connections};
 use crate::fault::ServeFault;
 use fair_turns::BESIDE_WORKERS;
@@ -10,6 +13,7 @@ use std::thread::{JoinHandle, SpawnError, Threads};
 use std::time::Clock;
 use tenant_calls::TenantCalls;
 use tenant_scheduler::{Jobs, Service, ServingThread, Shared};
+use tokio::sync::mpsc::{UnboundedReceiver, unbounded_channel};
 
 /// How many of so many threads are workers, beside so many loops.
 pub(crate) fn workers_of(threads: usize, loops: usize) -> usize {
@@ -17,52 +21,86 @@ pub(crate) fn workers_of(threads: usize, loops: usize) -> usize {
 }
 
 /// Runs a function that brings connections, or their calls, and serves them by a thread for each way to call tenants: the
-/// clock, the pump, the catch-up worker, the event loops that are given, and workers. It gives these ways back.
+/// clock, the pump, the catch-up worker, the event loops that are given, and workers. It gives these ways back. Where
+/// connections are accepted beside it, the function is told when the server ends, and does other work until then.
 pub(crate) fn run_threads<R, C, B>(
     rt: R,
     opened: (Jobs<R>, Arc<Shared<R, C::Key>>),
     calls: Vec<C>,
     loops: Vec<SocketLoop>,
+    beside: Option<Arrivals<R, C::Key>>,
     bring: B,
 ) -> Result<Vec<C>, ServeFault>
 where
     R: Wait + Threads + Clock + RandomSource + AllocGlobal + Copy + Drop + Send + Sync + 'static,
     C: TenantCalls + Send,
-    B: FnOnce(Jobs<R>) -> Result<(), ServeFault> + Drop,
+    C::Key: Send,
+    C::Hint: Send,
+    B: FnOnce(Jobs<R>, Option<UnboundedReceiver<()>>) -> Result<(), ServeFault> + Drop,
     requires { B.IsAlwaysCallable bring }
 {
     let alloc = rt.alloc();
     let roles = calls.len();
     let mut loops = loops;
     let (jobs, shared) = opened;
-    thread::scope(thread::scope_env(), &rt, |scope| {
-        let mut group = ThreadGroup::new(alloc);
-        for (place, own_calls) in calls.into_iter().enumerate() {
-            let Ok(own) = Arc::try_clone(&shared) else {
-                break;
-            };
-            let Some(role) = Role::at(place, &mut loops, &jobs) else {
-                break;
-            };
-            let ends = role.ends();
-            let thread = ServingThread::new(rt, place, own_calls, own);
-            let made = scope.spawn(move || serve(rt, alloc, role, thread));
-            if !group.keep(ends, made) {
-                break;
+    thread::scope(
+        thread::scope_env(),
+        &rt,
+        |scope|
+            requires sends { IsSend R.row }
+            requires shares { IsSync R.row }
+            requires calls { IsSend C.row }
+            requires keys { IsSend C.Key.row }
+            requires brings { B.IsAlwaysCallable bring }
+        {
+            let mut group = ThreadGroup::new(alloc);
+            for (place, own_calls) in calls.into_iter().enumerate() {
+                let Ok(own) = Arc::try_clone(&shared) else {
+                    break;
+                };
+                let Some(role) = Role::at(place, &mut loops, &jobs) else {
+                    break;
+                };
+                let ends = role.ends();
+                let thread = ServingThread::new(rt, place, own_calls, own);
+                let made = scope.spawn(move || serve(rt, alloc, role, thread));
+                if !group.keep(ends, made) {
+                    break;
+                }
             }
-        }
-        let brought = if group.is_whole(roles) && loops.is_empty() {
-            bring(jobs)
-        } else {
-            drop(jobs);
-            drop(bring);
-            Err(ServeFault::Memory)
-        };
-        let (mut back, served) = group.join(&rt, alloc, &shared, roles);
-        brought.and(served)?;
-        shared.free_slots(rt, &mut back);
-        Ok(back)
-    })
+            let mut is_whole = group.is_whole(roles) && loops.is_empty();
+            let mut acceptor = None;
+            let mut ended = None;
+            if let Some(arrivals) = beside {
+                match unbounded_channel(alloc) {
+                    Ok((sender, receiver)) if is_whole => {
+                        let made = scope.spawn(move || arrivals.accept_and_tell(rt, sender));
+                        acceptor = made.ok();
+                        ended = Some(receiver);
+                    }
+                    _ => drop(arrivals),
+                }
+                is_whole = acceptor.is_some();
+            }
+            let brought = if is_whole {
+                bring(jobs, ended)
+            } else {
+                drop(jobs);
+                drop(bring);
+                drop(ended);
+                Err(ServeFault::Memory)
+            };
+            let accepted = match acceptor {
+                Some(thread) => thread.join(&rt),
+                None => Ok(()),
+            };
+            let brought = brought.and(accepted);
+            let (mut back, served) = group.join(&rt, alloc, &shared, roles);
+            brought.and(served)?;
+            shared.free_slots(rt, &mut back);
+            Ok(back)
+        },
+    )
 }
 
 /// What a thread called tenants by, which it gives back, and how its work ended.
