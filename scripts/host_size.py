@@ -18,8 +18,6 @@ MAX_BODY = 2_097_152
 SEGMENT_LEAST = 64 * 56
 SEGMENT_MOST = 64 * 200
 TENANT_MOST = 131_072
-# What a standing order notes at the most: revisions of 30 days.
-NOTED_MOST = 57_600
 # Of a segment that no tenant has: its place in a list, and what the allocator keeps of it.
 SEGMENT_LISTED = 64
 # What may be configured.
@@ -104,7 +102,6 @@ class Tenant(NamedTuple):
     audit: int
     budget: int
     connections: int
-    has_order: bool
 
     def segments(self):
         return -(-self.quota // SEGMENT_CELLS)
@@ -173,8 +170,7 @@ def tenant_of(of, part):
     budget = DEFAULT_BUDGET + QUOTAS_A_BUDGET * CELL_BYTES * quota
     return Tenant(name, quota, audit=number(of, "audit", 0, 0, MAX_AUDIT),
                   budget=number(of, "budget", budget, MIN_BUDGET, MAX_BUDGET),
-                  connections=number(of, "open_connections", part, 1, MAX_U32),
-                  has_order=of.get("auto_compaction_retention") not in (None, 0, "0"))
+                  connections=number(of, "open_connections", part, 1, MAX_U32))
 
 
 def tenants_of(config, segments, part):
@@ -230,8 +226,7 @@ def read(path, descriptors):
 def rooms(host):
     """What keeps track of the tenants' cells, beside the cells themselves, and of the segments."""
     of_tenants = sum(tenant.segments() * (SEGMENT_MOST - SEGMENT_LEAST) + TENANT_MOST for tenant in host.tenants)
-    noted = sum(NOTED_MOST for tenant in host.tenants if tenant.has_order)
-    return of_tenants + noted + host.segments * SEGMENT_LISTED
+    return of_tenants + host.segments * SEGMENT_LISTED
 
 
 def text_most(quota):

@@ -19,7 +19,7 @@ from lease import Lease
 
 PUTTERS = 2
 KEYS = 8
-PAUSE = 0.03
+PAUSE = 0.01
 TTL = 12
 NUMBERS = b"n/"
 

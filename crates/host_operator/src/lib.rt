@@ -6,7 +6,7 @@
 //!    it is, and each refusal has a status and a text (`calls`).
 //! 3. The `Operator` does the call (`operator`). What a dashboard is told is in `metrics`, and what memory the process has
 //!    in `memory`.
-//! 4. `Stopping` of `connection_table` says whether connections of clients are accepted, and tells the server to end.
+//! 4. `Stopping` says whether connections of clients are accepted, and tells the server to end (`stopping`).
 #![tactic(auto)]
 
 mod calls;
@@ -15,6 +15,8 @@ mod metrics;
 mod operator;
 mod requests;
 mod serving;
+mod stopping;
 
 pub use operator::Operator;
 pub use serving::{OperatorSocket, serve_operator};
+pub use stopping::Stopping;

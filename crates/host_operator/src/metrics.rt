@@ -1,20 +1,18 @@
 //! What a dashboard is told of the tenants, in the text format of Prometheus.
 use etcd_types::{Call, Mem};
-use fair_turns::{CALLS, Durations, ENDS, LAST_REFUSAL, STATUSES, TenantCounts};
+use fair_turns::{CALLS, Durations, ENDS, LAST_REFUSAL, STATUSES};
 use std::alloc::Global;
-use std::sync::Arc;
+use std::sync::{Arc, Wait};
 use tenant_registry::Usage;
+use tenant_scheduler::ServedTenant;
 
 /// What a tenant uses, as far as it could be told without waiting for it.
 #[derive(Drop)]
-pub(crate) struct Sample {
+pub(crate) struct Sample<R: Wait + Drop> {
     pub(crate) name: String,
     pub(crate) usage: Usage,
-    /// What is counted of it.
-    pub(crate) counts: Arc<TenantCounts>,
+    pub(crate) tenant: Arc<ServedTenant<R>>,
     pub(crate) budget: usize,
-    /// How many bytes of the budget are left.
-    pub(crate) budget_left: usize,
     pub(crate) open_connections: usize,
     pub(crate) open_watches: usize,
 }
@@ -90,7 +88,7 @@ impl Gauge {
         }
     }
 
-    fn of(self, sample: &Sample) -> u64 {
+    fn of<R: Wait + Drop>(self, sample: &Sample<R>) -> u64 {
         let Sample { usage, .. } = sample;
         match self {
             Gauge::Quota => usage.quota,
@@ -105,7 +103,10 @@ impl Gauge {
             Gauge::Watches => sample.open_watches as u64,
             Gauge::Connections => sample.open_connections as u64,
             Gauge::Budget => sample.budget as u64,
-            Gauge::BudgetUsed => { sample.budget.saturating_sub(sample.budget_left) as u64 }
+            Gauge::BudgetUsed => {
+                let left = sample.tenant.budget_left();
+                sample.budget.saturating_sub(left) as u64
+            }
         }
     }
 }
@@ -148,7 +149,11 @@ pub(crate) struct HostSample {
 const NANOS: u64 = 1_000_000_000;
 
 /// The whole text.
-pub(crate) fn metrics(alloc: Global, host: HostSample, samples: &[Sample]) -> Mem<Vec<u8>> {
+pub(crate) fn metrics<R: Wait + Drop>(
+    alloc: Global,
+    host: HostSample,
+    samples: &[Sample<R>],
+) -> Mem<Vec<u8>> {
     let mut text = Text {
         alloc,
         written: Vec::new(alloc),
@@ -169,7 +174,7 @@ pub(crate) fn metrics(alloc: Global, host: HostSample, samples: &[Sample]) -> Me
         "histogram",
     )?;
     for sample in samples {
-        text.histogram(WAITS, sample.name.as_str(), sample.counts.waits())?;
+        text.histogram(WAITS, sample.name.as_str(), sample.tenant.counts().waits())?;
     }
     text.head(
         TURNS,
@@ -177,7 +182,7 @@ pub(crate) fn metrics(alloc: Global, host: HostSample, samples: &[Sample]) -> Me
         "histogram",
     )?;
     for sample in samples {
-        text.histogram(TURNS, sample.name.as_str(), sample.counts.turns())?;
+        text.histogram(TURNS, sample.name.as_str(), sample.tenant.counts().turns())?;
     }
     Ok(text.written)
 }
@@ -263,7 +268,7 @@ impl Text {
     }
 
     /// The calls of the tenants, and those that were refused, by number.
-    fn calls(&mut self, samples: &[Sample]) -> Mem<()> {
+    fn calls<R: Wait + Drop>(&mut self, samples: &[Sample<R>]) -> Mem<()> {
         let help = "Calls that were answered, by what they ask and by status.";
         self.head(ANSWERED, help, "counter")?;
         for sample in samples {
@@ -278,10 +283,14 @@ impl Text {
     }
 
     /// What the tenants' calls brought and were answered.
-    fn bytes(&mut self, samples: &[Sample]) -> Mem<()> {
+    fn bytes<R: Wait + Drop>(&mut self, samples: &[Sample<R>]) -> Mem<()> {
         self.head(BYTES_IN, "Bytes of the bodies of calls.", "counter")?;
         for sample in samples {
-            self.of_tenant(BYTES_IN, sample.name.as_str(), sample.counts.bytes_in())?;
+            self.of_tenant(
+                BYTES_IN,
+                sample.name.as_str(),
+                sample.tenant.counts().bytes_in(),
+            )?;
         }
         self.head(
             BYTES_OUT,
@@ -289,7 +298,11 @@ impl Text {
             "counter",
         )?;
         for sample in samples {
-            self.of_tenant(BYTES_OUT, sample.name.as_str(), sample.counts.bytes_out())?;
+            self.of_tenant(
+                BYTES_OUT,
+                sample.name.as_str(),
+                sample.tenant.counts().bytes_out(),
+            )?;
         }
         Ok(())
     }
@@ -319,10 +332,10 @@ impl Text {
     }
 
     /// The calls of a tenant that were refused; numbers with none are left out.
-    fn refused(&mut self, sample: &Sample) -> Mem<()> {
+    fn refused<R: Wait + Drop>(&mut self, sample: &Sample<R>) -> Mem<()> {
         let tenant = sample.name.as_str();
         for number in 1..=LAST_REFUSAL {
-            let count = sample.counts.answered().refused(number);
+            let count = sample.tenant.counts().answered().refused(number);
             if count > 0 {
                 let line = format!(in self.alloc;
                     "{REFUSED}{{tenant=\"{tenant}\",number=\"{number}\"}} {count}\n"
@@ -334,10 +347,10 @@ impl Text {
     }
 
     /// The calls of a tenant that were answered; those of which there is none are left out.
-    fn answered(&mut self, sample: &Sample) -> Mem<()> {
+    fn answered<R: Wait + Drop>(&mut self, sample: &Sample<R>) -> Mem<()> {
         for call in CALLS {
             for status in STATUSES {
-                let count = sample.counts.answered().of(call, status);
+                let count = sample.tenant.counts().answered().of(call, status);
                 if count > 0 {
                     self.call(sample.name.as_str(), call, status, count)?;
                 }

@@ -20,7 +20,7 @@ use futures::task::{Context, Poll};
 use std::alloc::Global;
 use std::rt::Clock;
 use std::sync::Wait;
-use tenant_calls::{TenantCalls, TenantKey};
+use tenant_registry::{Gate, Seat};
 use tokio::sync::mpsc::UnboundedReceiver;
 
 /// How many brief calls are served before the loop looks at its connections again.
@@ -79,12 +79,7 @@ pub(crate) enum InlineOutcome<R: Wait + Drop> {
 
 impl<R: Wait + Drop> InlineOutcome<R> {
     /// Counts the call with a body of so many bytes, if it was answered.
-    fn count<K: TenantKey>(
-        self,
-        tenant: &ServedTenant<R, K>,
-        call: Call,
-        length: usize,
-    ) -> InlineOutcome<R> {
+    fn count(self, tenant: &ServedTenant<R>, call: Call, length: usize) -> InlineOutcome<R> {
         if let InlineOutcome::Answered(answer) = &self {
             tenant.counts().add(call, length, answer);
         }
@@ -93,15 +88,15 @@ impl<R: Wait + Drop> InlineOutcome<R> {
 }
 
 /// Where an event loop receives the brief calls of its connections, and serves them.
-pub struct InlineCalls<R: Wait + Drop, C: TenantCalls> {
+pub struct InlineCalls<'x, R: Wait + Drop, G> {
     alloc: Global,
     /// The part of the directory that is read here.
     shard: usize,
-    thread: ServingThread<R, C>,
+    thread: ServingThread<'x, R, G>,
     calls: UnboundedReceiver<InlineCall<R>>,
 }
 
-impl<R: Wait + Drop, C: TenantCalls> Drop for InlineCalls<R, C> {
+impl<'x, R: Wait + Drop, G> Drop for InlineCalls<'x, R, G> {
     fn drop(self) {
         let InlineCalls {
             alloc: _,
@@ -112,14 +107,14 @@ impl<R: Wait + Drop, C: TenantCalls> Drop for InlineCalls<R, C> {
     }
 }
 
-impl<R: Wait + Clock + Copy + Drop, C: TenantCalls> InlineCalls<R, C> {
+impl<'x, R: Wait + Clock + Copy + Drop, G: Gate> InlineCalls<'x, R, G> {
     /// Those of the event loop of that number.
     pub fn new(
         alloc: Global,
         number: usize,
-        thread: ServingThread<R, C>,
+        thread: ServingThread<'x, R, G>,
         calls: UnboundedReceiver<InlineCall<R>>,
-    ) -> InlineCalls<R, C> {
+    ) -> InlineCalls<'x, R, G> {
         InlineCalls {
             alloc,
             shard: number,
@@ -175,22 +170,22 @@ impl<R: Wait + Clock + Copy + Drop, C: TenantCalls> InlineCalls<R, C> {
         self.thread.beat();
     }
 
-    pub fn into_calls(self) -> C {
+    pub fn into_seat(self) -> Seat {
         let InlineCalls {
             alloc: _,
             shard: _,
             thread,
             calls: _,
         } = self;
-        thread.into_calls()
+        thread.into_seat()
     }
 }
 
 /// What a tenant answers, unless its answers were long lately.
-fn answer<R: Wait + Clock + Drop, C: TenantCalls>(
+fn answer<R: Wait + Clock + Drop, G: Gate>(
     alloc: Global,
-    caller: &mut Caller<R, C>,
-    clients: &mut Clients<R, C::Key>,
+    caller: &mut Caller<'_, R, G>,
+    clients: &mut Clients<R>,
     step: Step,
 ) -> InlineOutcome<R> {
     if clients.left_to_workers > 0 {

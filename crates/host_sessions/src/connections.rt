@@ -3,13 +3,15 @@ ghost use Rattle.std.specs.Prelude.{◌≡◌, IfOk, IfSome, None};
 
 use crate::fault::ServeFault;
 use crate::threads::Ended;
-use connection_table::{ConnectionTable, LOOPS, Losses, OpenConnection, Patience, Stopping};
+use connection_table::{ConnectionTable, Losses, OpenConnection};
 use crossbeam_channel::{Receiver, Sender, bounded};
 use etcd_types::Mem;
 use futures::executor::TaskSet;
 use futures::task::{Context, Poll};
 use futures::{Future, ready};
 use gateway_http::Gateway;
+use host_config::{LOOPS, Patience};
+use host_operator::Stopping;
 use hyper::rt::TokioTimer;
 use hyper::server::conn::http1;
 use std::alloc::{AllocGlobal, Global};
@@ -19,7 +21,7 @@ use std::random::RandomSource;
 use std::sync::Wait;
 use std::time::{Clock, Duration, Instant};
 use std::{io, net, thread};
-use tenant_calls::TenantCalls;
+use tenant_registry::Gate;
 use tenant_scheduler::{InlineCalls, Jobs, ServingThread};
 use tokio::net::TcpStream;
 use tokio::runtime::LocalRuntime;
@@ -224,8 +226,8 @@ struct Arrived {
 /// A connection for which there is no memory is closed, and nothing else happens: what is short may be there again
 /// for the next one.
 #[derive(Drop)]
-struct Connections<'a, R: Wait + Drop, C: TenantCalls, F, T: Future> {
-    inline_calls: &'a mut InlineCalls<R, C>,
+struct Connections<'a, 'x, R: Wait + Drop, G, F, T: Future> {
+    inline_calls: &'a mut InlineCalls<'x, R, G>,
     sockets: UnboundedReceiver<Accepted>,
     losses: Losses,
     reactor: reactor::Handle,
@@ -235,10 +237,10 @@ struct Connections<'a, R: Wait + Drop, C: TenantCalls, F, T: Future> {
     beats: Option<Interval>,
 }
 
-impl<R, C, F, T> Future for Connections<'_, R, C, F, T>
+impl<R, G, F, T> Future for Connections<'_, '_, R, G, F, T>
 where
     R: Wait + Clock + Copy + Drop,
-    C: TenantCalls,
+    G: Gate,
     F: Fn(Option<Arrived>) -> Mem<T> + Drop,
     T: Future<Output = ()>,
 {
@@ -312,37 +314,37 @@ impl<R: Clock + RandomSource + Copy + Drop> Tools<R> {
 }
 
 /// Serves a loop's connections, until there are no more and the last has ended.
-pub(crate) fn serve_connections<R, C>(
+pub(crate) fn serve_connections<R, G>(
     rt: R,
     alloc: Global,
     own: SocketLoop,
     jobs: Jobs<R>,
-    thread: ServingThread<R, C>,
-) -> Ended<C>
+    thread: ServingThread<'_, R, G>,
+) -> Ended
 where
     R: Wait + Clock + RandomSource + AllocGlobal + Copy + Drop,
-    C: TenantCalls,
+    G: Gate,
 {
     let Ok((jobs, inline_calls)) = jobs.with_inline_calls(alloc, own.number) else {
-        return (thread.into_calls(), Err(ServeFault::Memory));
+        return (thread.into_seat(), Err(ServeFault::Memory));
     };
     let mut inline_calls = InlineCalls::new(alloc, own.number, thread, inline_calls);
     let served = serve_sockets(rt, alloc, own, jobs, &mut inline_calls);
     let served = served.map_err(|error| ServeFault::of(&error));
-    (inline_calls.into_calls(), served)
+    (inline_calls.into_seat(), served)
 }
 
 /// Runs a loop's connections as tasks.
-fn serve_sockets<R, C>(
+fn serve_sockets<R, G>(
     rt: R,
     alloc: Global,
     own: SocketLoop,
     jobs: Jobs<R>,
-    inline_calls: &mut InlineCalls<R, C>,
+    inline_calls: &mut InlineCalls<'_, R, G>,
 ) -> io::Result<()>
 where
     R: Wait + Clock + RandomSource + AllocGlobal + Copy + Drop,
-    C: TenantCalls,
+    G: Gate,
 {
     let SocketLoop {
         mut runtime,
@@ -396,16 +398,16 @@ struct Arriving {
 }
 
 /// Runs a loop's connections as tasks that a function makes; without a connection it makes one that has ended.
-fn run_tasks<R, C, F, T>(
+fn run_tasks<R, G, F, T>(
     rt: &R,
     runtime: &mut LocalRuntime,
-    inline_calls: &mut InlineCalls<R, C>,
+    inline_calls: &mut InlineCalls<'_, R, G>,
     arriving: Arriving,
     make: F,
 ) -> io::Result<()>
 where
     R: Wait + Clock + RandomSource + AllocGlobal + Copy + Drop,
-    C: TenantCalls,
+    G: Gate,
     F: Fn(Option<Arrived>) -> Mem<T> + Drop,
     T: Future<Output = ()>,
     requires callable { F.IsAlwaysCallable make }
