@@ -1,3 +1,0 @@
-//! Worked examples.
-mod keys;
-mod leases;

@@ -1,5 +1,0 @@
-//! Worked examples, and steps by chance beside what is plain.
-mod chunks;
-mod interval;
-mod records;
-mod segments;
