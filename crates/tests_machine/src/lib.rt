@@ -1,5 +1,5 @@
 //! Tests of a tenant's machine alone: which watches it hints at, a quota of four cells, and the rows over each source
-//! of segments.
+//! of segments; and of many tenants as one value, in steps and in bytes, and of what the gateway reads and writes.
 #![tactic(auto)]
 
 #[cfg(test)]
