@@ -1,4 +1,4 @@
-//! Quotas that a tenant is given between its calls. What else an operator does is asked by `registry_tests`.
+//! Quotas that a tenant is given between its calls. What else an operator does is asked in `registry`.
 use super::{alone, call, config, two_tenants};
 use etcd_types::{CopyOf, Mem, Reply};
 use gateway_text::write_reply;
