@@ -103,7 +103,7 @@ def draw_threads(drawing):
 def draw_ways(drawing):
     """The arrows between the client, the threads and the tenant's lock."""
     drawing.arrow([(302, 86), (302, 166)], PATH)
-    deals = code_of("host_sessions", "connections", "accept_all")
+    deals = code_of("tenant_server", "connections", "accept_all")
     tell(drawing, 294, 104, ["the request, by a connection that", f"{deals} dealt to the loop"], PATH, "end")
     drawing.arrow([(332, 166), (332, 86)], BACK)
     tell(drawing, 340, 112, ["the answer"], BACK)

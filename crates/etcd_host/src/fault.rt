@@ -3,6 +3,7 @@ ghost use Rattle.std.specs.Prelude.{◌≡◌, ◌≢◌};
 ghost use Rattle.etcd_host.specs.Faults.{status_of};
 
 use host_sessions::{ConfigFault, ListenFault, ServeFault};
+use std::alloc::AllocError;
 use std::io;
 use tenant_registry::CloseFault;
 use thiserror::Error;
@@ -34,6 +35,24 @@ impl HostFault {
             HostFault::Listen | HostFault::Io => 3,
             HostFault::Memory => 4,
         }
+    }
+}
+
+impl HostFault {
+    /// What it is that no socket listens.
+    pub(crate) fn of_listening(error: &io::Error) -> HostFault {
+        match error.kind() {
+            io::ErrorKind::OutOfMemory => HostFault::Memory,
+            _ => HostFault::Listen,
+        }
+    }
+}
+
+impl From<AllocError> for HostFault {
+    fn from(_: AllocError) -> HostFault
+        ensures { result ≡ HostFault.Memory }
+    {
+        HostFault::Memory
     }
 }
 

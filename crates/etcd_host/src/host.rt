@@ -3,14 +3,15 @@ ghost use Rattle.std.specs.Prelude.{◌≡◌, ◌≢◌, IfErr, IfOk, length};
 
 use crate::fault::HostFault;
 use etcd_types::limits::MAX_CONFIG;
-use host_sessions::{Config, Sessions, read_config};
+use host_operator::{Operator, OperatorSocket, serve_operator};
+use host_sessions::{Config, Listening, Sessions, read_config};
 use std::alloc::{AllocGlobal, Global};
 use std::io::{Input, Read};
 use std::mem;
 use std::net::Net;
 use std::random::RandomSource;
 use std::rt::Files;
-use std::sync::Wait;
+use std::sync::{Arc, Wait};
 use std::thread::Threads;
 use std::time::Clock;
 use tenant_registry::{OpenGate, Registry, Seat, SeatFault};
@@ -72,14 +73,71 @@ where
     let Ok(address) = listening.address() else {
         return Err(HostFault::Io);
     };
+    let socket = operator_socket(&rt, config)?;
     println!(rt; "listening on {address}")?;
-    if let Some(address) = listening.operator_address() {
-        let address = address?;
-        println!(rt; "operator on {address}")?;
-    }
-    let seats = Sessions::serve_operated(rt, listening, registry, seats, &OpenGate)?;
+    let seats = match socket {
+        None => Sessions::serve(rt, listening, &*registry, seats, &OpenGate)?,
+        Some(socket) => {
+            let address = socket.address()?;
+            println!(rt; "operator on {address}")?;
+            serve_operated(rt, config, registry, seats, listening, socket)?
+        }
+    };
     println!(rt; "ended")?;
     Ok(seats)
+}
+
+/// Where the operator's connections come in, if the configuration has an address for them.
+fn operator_socket<R>(rt: &R, config: &Config) -> Result<Option<OperatorSocket>, HostFault>
+where
+    R: Clock + Net + RandomSource + AllocGlobal,
+{
+    let Some(operator) = &config.operator else {
+        return Ok(None);
+    };
+    match OperatorSocket::bind(rt, operator, config.patience) {
+        Ok(socket) => Ok(Some(socket)),
+        Err(error) => Err(HostFault::of_listening(&error)),
+    }
+}
+
+/// Serves clients, while tenants come, change and go by the operator's calls. The registry is the operator's alone.
+fn serve_operated<R>(
+    rt: R,
+    config: &Config,
+    registry: &mut Registry,
+    seats: Vec<Seat>,
+    listening: Listening,
+    socket: OperatorSocket,
+) -> Result<Vec<Seat>, HostFault>
+where
+    R: Wait
+        + Threads
+        + Clock
+        + RandomSource
+        + AllocGlobal
+        + Files
+        + Eprint
+        + Copy
+        + Drop
+        + Send
+        + Sync
+        + 'static,
+{
+    let alloc = rt.alloc();
+    let opened = Sessions::open(rt, listening, &*registry, seats.len())?;
+    let mut operator = Operator::new(
+        rt,
+        alloc,
+        registry,
+        Arc::try_clone(opened.shared())?,
+        opened.bounds()?,
+        opened.connections_of_tenant(),
+        Arc::try_clone(opened.stopping())?,
+    );
+    operator.remember(config.allowances.as_slice())?;
+    let work = move |ended| serve_operator(rt, alloc, socket, operator, ended);
+    Ok(Sessions::serve_beside(rt, opened, seats, &OpenGate, work)?)
 }
 
 /// Closes the registry, whose audits have to be the seats' lists, and says so.

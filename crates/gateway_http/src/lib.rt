@@ -5,12 +5,15 @@
 //!    or not; one that stops coming ends its connection (`stall`).
 //! 2. `PendingCall::begin` hands the call to the scheduler, and the exchange waits for its answer, which `respond`
 //!    makes a response (`response`). The body of a watch's response goes on with the texts of its watch.
+//! 3. `Http::connect` makes the connection that does all this, for whoever polls it (`connection`).
 #![tactic(auto)]
 
+mod connection;
 mod exchange;
 mod response;
 mod routing;
 mod stall;
 
+pub use connection::{ClientConnection, Http};
 pub use exchange::{Exchange, Gateway};
 pub use response::ResponseBody;

@@ -1,7 +1,7 @@
 //! What the server is told at its start.
 use crate::members::{ConfigFault, member, number, object_of, text_of};
-use crate::patience::{MAX_PATIENCE, Patience};
-use crate::tenants::{Allowance, allowance_of, open_connections_of, tenant_of};
+use crate::tenants::{allowance_of, open_connections_of, tenant_of};
+use connection_table::{Allowance, LOOPS, MAX_PATIENCE, Patience};
 use etcd_types::limits::{DEFAULT_SEGMENTS, MAX_CONFIG, MAX_WORKERS};
 use fair_turns::BESIDE_WORKERS;
 use gateway_json::read_unsigned;
@@ -9,9 +9,6 @@ use serde_json::Value;
 use std::alloc::Global;
 use std::net::SocketAddr;
 use tenant_registry::{TenantConfig, check};
-
-/// How many event loops read and write sockets.
-pub const LOOPS: usize = 4;
 
 /// How many workers there are where nothing is said.
 const DEFAULT_WORKERS: u64 = 4;

@@ -1,5 +1,7 @@
 //! What a tenant is told to have: its quota, its audit, and what its clients may take.
 use crate::members::{ConfigFault, member, number, text_of};
+use crate::retention::retention_of;
+use connection_table::Allowance;
 use etcd_types::limits::CELL_BYTES;
 use fair_turns::DEFAULT_BUDGET;
 use gateway_json::read_unsigned;
@@ -15,15 +17,6 @@ const MAX_BUDGET: u64 = 1_099_511_627_776;
 
 /// How many times the bytes of its quota a tenant's budget has beside `DEFAULT_BUDGET`, where none is told.
 const QUOTAS_A_BUDGET: u64 = 4;
-
-/// What the clients of a tenant may take.
-#[derive(Clone, Copy, Debug)]
-pub struct Allowance {
-    /// How many bytes of bodies and answers may be under way.
-    pub budget: usize,
-    /// How many connections may be open; without it a quarter of those of all.
-    pub open_connections: Option<usize>,
-}
 
 /// A tenant, by the members of its object. Whether a registry takes it is not looked at.
 pub fn tenant_of(alloc: Global, object: &Value) -> Result<TenantConfig, ConfigFault> {
@@ -44,6 +37,7 @@ pub fn allowance_of(object: &Value, quota: u64) -> Result<Allowance, ConfigFault
     Ok(Allowance {
         budget: budget_of(object, quota)?,
         open_connections: open_connections_of(object)?,
+        retention: retention_of(object)?,
     })
 }
 

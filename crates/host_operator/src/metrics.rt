@@ -1,18 +1,20 @@
 //! What a dashboard is told of the tenants, in the text format of Prometheus.
 use etcd_types::{Call, Mem};
-use fair_turns::{CALLS, Durations, ENDS, LAST_REFUSAL, STATUSES};
+use fair_turns::{CALLS, Durations, ENDS, LAST_REFUSAL, STATUSES, TenantCounts};
 use std::alloc::Global;
-use std::sync::{Arc, Wait};
+use std::sync::Arc;
 use tenant_registry::Usage;
-use tenant_scheduler::ServedTenant;
 
 /// What a tenant uses, as far as it could be told without waiting for it.
 #[derive(Drop)]
-pub(crate) struct Sample<R: Wait + Drop> {
+pub(crate) struct Sample {
     pub(crate) name: String,
     pub(crate) usage: Usage,
-    pub(crate) tenant: Arc<ServedTenant<R>>,
+    /// What is counted of it.
+    pub(crate) counts: Arc<TenantCounts>,
     pub(crate) budget: usize,
+    /// How many bytes of the budget are left.
+    pub(crate) budget_left: usize,
     pub(crate) open_connections: usize,
     pub(crate) open_watches: usize,
 }
@@ -88,7 +90,7 @@ impl Gauge {
         }
     }
 
-    fn of<R: Wait + Drop>(self, sample: &Sample<R>) -> u64 {
+    fn of(self, sample: &Sample) -> u64 {
         let Sample { usage, .. } = sample;
         match self {
             Gauge::Quota => usage.quota,
@@ -103,10 +105,7 @@ impl Gauge {
             Gauge::Watches => sample.open_watches as u64,
             Gauge::Connections => sample.open_connections as u64,
             Gauge::Budget => sample.budget as u64,
-            Gauge::BudgetUsed => {
-                let left = sample.tenant.budget_left();
-                sample.budget.saturating_sub(left) as u64
-            }
+            Gauge::BudgetUsed => { sample.budget.saturating_sub(sample.budget_left) as u64 }
         }
     }
 }
@@ -149,11 +148,7 @@ pub(crate) struct HostSample {
 const NANOS: u64 = 1_000_000_000;
 
 /// The whole text.
-pub(crate) fn metrics<R: Wait + Drop>(
-    alloc: Global,
-    host: HostSample,
-    samples: &[Sample<R>],
-) -> Mem<Vec<u8>> {
+pub(crate) fn metrics(alloc: Global, host: HostSample, samples: &[Sample]) -> Mem<Vec<u8>> {
     let mut text = Text {
         alloc,
         written: Vec::new(alloc),
@@ -174,7 +169,7 @@ pub(crate) fn metrics<R: Wait + Drop>(
         "histogram",
     )?;
     for sample in samples {
-        text.histogram(WAITS, sample.name.as_str(), sample.tenant.counts().waits())?;
+        text.histogram(WAITS, sample.name.as_str(), sample.counts.waits())?;
     }
     text.head(
         TURNS,
@@ -182,7 +177,7 @@ pub(crate) fn metrics<R: Wait + Drop>(
         "histogram",
     )?;
     for sample in samples {
-        text.histogram(TURNS, sample.name.as_str(), sample.tenant.counts().turns())?;
+        text.histogram(TURNS, sample.name.as_str(), sample.counts.turns())?;
     }
     Ok(text.written)
 }
@@ -268,7 +263,7 @@ impl Text {
     }
 
     /// The calls of the tenants, and those that were refused, by number.
-    fn calls<R: Wait + Drop>(&mut self, samples: &[Sample<R>]) -> Mem<()> {
+    fn calls(&mut self, samples: &[Sample]) -> Mem<()> {
         let help = "Calls that were answered, by what they ask and by status.";
         self.head(ANSWERED, help, "counter")?;
         for sample in samples {
@@ -283,14 +278,10 @@ impl Text {
     }
 
     /// What the tenants' calls brought and were answered.
-    fn bytes<R: Wait + Drop>(&mut self, samples: &[Sample<R>]) -> Mem<()> {
+    fn bytes(&mut self, samples: &[Sample]) -> Mem<()> {
         self.head(BYTES_IN, "Bytes of the bodies of calls.", "counter")?;
         for sample in samples {
-            self.of_tenant(
-                BYTES_IN,
-                sample.name.as_str(),
-                sample.tenant.counts().bytes_in(),
-            )?;
+            self.of_tenant(BYTES_IN, sample.name.as_str(), sample.counts.bytes_in())?;
         }
         self.head(
             BYTES_OUT,
@@ -298,11 +289,7 @@ impl Text {
             "counter",
         )?;
         for sample in samples {
-            self.of_tenant(
-                BYTES_OUT,
-                sample.name.as_str(),
-                sample.tenant.counts().bytes_out(),
-            )?;
+            self.of_tenant(BYTES_OUT, sample.name.as_str(), sample.counts.bytes_out())?;
         }
         Ok(())
     }
@@ -332,10 +319,10 @@ impl Text {
     }
 
     /// The calls of a tenant that were refused; numbers with none are left out.
-    fn refused<R: Wait + Drop>(&mut self, sample: &Sample<R>) -> Mem<()> {
+    fn refused(&mut self, sample: &Sample) -> Mem<()> {
         let tenant = sample.name.as_str();
         for number in 1..=LAST_REFUSAL {
-            let count = sample.tenant.counts().answered().refused(number);
+            let count = sample.counts.answered().refused(number);
             if count > 0 {
                 let line = format!(in self.alloc;
                     "{REFUSED}{{tenant=\"{tenant}\",number=\"{number}\"}} {count}\n"
@@ -347,10 +334,10 @@ impl Text {
     }
 
     /// The calls of a tenant that were answered; those of which there is none are left out.
-    fn answered<R: Wait + Drop>(&mut self, sample: &Sample<R>) -> Mem<()> {
+    fn answered(&mut self, sample: &Sample) -> Mem<()> {
         for call in CALLS {
             for status in STATUSES {
-                let count = sample.tenant.counts().answered().of(call, status);
+                let count = sample.counts.answered().of(call, status);
                 if count > 0 {
                     self.call(sample.name.as_str(), call, status, count)?;
                 }

@@ -5,18 +5,21 @@
 use crate::calls::{OperatorCall, OperatorRefusal};
 use crate::memory::resident_bytes;
 use crate::metrics::{HostSample, Sample, metrics};
-use crate::stopping::Stopping;
-use connection_table::TenantBounds;
+use auto_compaction::{Retention, StandingOrder};
+use connection_table::{Allowance, Stopping, TenantBounds};
 use etcd_types::{Mem, Refusal};
-use host_config::{Allowance, allowance_of, changes_of, more_segments_of, object_of, tenant_of};
+use host_config::{
+    allowance_of, changes_of, more_segments_of, object_of, retention_change_of, retention_told,
+    tenant_of,
+};
 use indexmap::IndexMap;
 use serde_json::{Value, json};
 use std::alloc::{AllocError, AllocGlobal, Global};
 use std::rt::{Clock, Files};
 use std::sync::{Arc, Wait};
-use tenant_registry::{Registry, Usage};
+use tenant_registry::{Key, Registry, Usage};
 use tenant_rules::OperatorFault;
-use tenant_scheduler::Shared;
+use tenant_scheduler::{Shared, TenantTerms};
 
 /// The part of the directory of tenants that the operator reads, which no event loop does.
 const SHARD: usize = 6;
@@ -47,12 +50,20 @@ impl Told {
     }
 }
 
+/// What of its history a tenant is to keep, if a body says so.
+fn retention_in(object: &Value) -> Result<Option<Retention>, OperatorRefusal> {
+    match retention_change_of(object) {
+        Ok(retention) => Ok(retention),
+        Err(_) => Err(OperatorFault::Limits.into()),
+    }
+}
+
 /// What serves the operator.
 pub struct Operator<'x, R: Wait + Drop> {
     rt: R,
     alloc: Global,
     registry: &'x mut Registry,
-    shared: Arc<Shared<R>>,
+    shared: Arc<Shared<R, Key>>,
     bounds: TenantBounds,
     told: IndexMap<Vec<u8>, Told>,
     /// How many connections a tenant may have where nothing is told.
@@ -117,7 +128,7 @@ impl<'x, R: Wait + Clock + Files + AllocGlobal + Copy + Drop> Operator<'x, R> {
         rt: R,
         alloc: Global,
         registry: &'x mut Registry,
-        shared: Arc<Shared<R>>,
+        shared: Arc<Shared<R, Key>>,
         bounds: TenantBounds,
         part: usize,
         stopping: Arc<Stopping>,
@@ -203,6 +214,7 @@ impl<'x, R: Wait + Clock + Files + AllocGlobal + Copy + Drop> Operator<'x, R> {
     fn add(&mut self, body: &[u8]) -> Result<OperatorAnswer, OperatorRefusal> {
         let object = object_of(self.alloc, body)?;
         let config = tenant_of(self.alloc, &object)?;
+        retention_in(&object)?;
         let allowance = allowance_of(&object, config.quota)?;
         let name = config.name.as_slice();
         let told_name = Vec::from_slice(self.alloc, name)?;
@@ -210,11 +222,14 @@ impl<'x, R: Wait + Clock + Files + AllocGlobal + Copy + Drop> Operator<'x, R> {
         self.told.reserve(1)?;
         self.bounds.make_room()?;
         let number = self.registry.next_number();
-        let budget = allowance.budget;
+        let terms = TenantTerms {
+            budget: allowance.budget,
+            retention: allowance.retention,
+        };
         let new = self
             .shared
             .tenants()
-            .prepare(&self.rt, self.alloc, number, name, budget)?;
+            .prepare(&self.rt, self.alloc, number, name, terms)?;
         self.registry.add(&config)?;
         let Ok(Some(key)) = self.registry.key(key_name) else {
             // It was added just now, and a key takes no memory.
@@ -241,19 +256,30 @@ impl<'x, R: Wait + Clock + Files + AllocGlobal + Copy + Drop> Operator<'x, R> {
             return Err(OperatorFault::NoTenant.into());
         };
         let mut told = *told;
+        let retention = retention_in(&object)?;
+        let order = match retention {
+            Some(retention) => Some(StandingOrder::new(self.alloc, retention)?),
+            None => None,
+        };
         if let Some(quota) = changes.quota {
             self.registry.resize(&self.rt, name, quota)?;
         }
-        let before = told.allowance.budget;
+        let tenant = self.shared.tenants().named(&self.rt, SHARD, name);
         if let Some(budget) = changes.budget {
-            told.allowance.budget = budget;
-            if let Some(tenant) = self.shared.tenants().named(&self.rt, SHARD, name) {
-                tenant.change_budget(before, budget);
+            if let Some(tenant) = &tenant {
+                tenant.change_budget(told.allowance.budget, budget);
             }
+            told.allowance.budget = budget;
         }
         if let Some(most) = changes.open_connections {
             told.allowance.open_connections = Some(most);
             self.bound(told.number, told.allowance);
+        }
+        if let Some(retention) = retention {
+            told.allowance.retention = retention;
+        }
+        if let (Some(order), Some(tenant)) = (order, tenant) {
+            tenant.change_order(&self.rt, order);
         }
         if let Some(place) = self.told.get_mut(name) {
             *place = told;
@@ -322,7 +348,7 @@ impl<'x, R: Wait + Clock + Files + AllocGlobal + Copy + Drop> Operator<'x, R> {
     }
 
     /// What the tenant at a place uses; none where it never could be told without waiting for it.
-    fn sample(&mut self, place: usize) -> Mem<Option<Sample<R>>> {
+    fn sample(&mut self, place: usize) -> Mem<Option<Sample>> {
         let Some((name, _)) = self.told.get_index(place) else {
             return Ok(None);
         };
@@ -352,8 +378,9 @@ impl<'x, R: Wait + Clock + Files + AllocGlobal + Copy + Drop> Operator<'x, R> {
         Ok(Some(Sample {
             name,
             usage,
-            tenant,
+            counts: tenant.share_counts()?,
             budget: told.allowance.budget,
+            budget_left: tenant.budget_left(),
             open_connections: self.bounds.open(told.number),
             open_watches: told.open_watches,
         }))
@@ -387,6 +414,7 @@ impl<'x, R: Wait + Clock + Files + AllocGlobal + Copy + Drop> Operator<'x, R> {
         let watches = tenant.and_then(|tenant| tenant.open_watches());
         let watches = watches.unwrap_or(told.open_watches);
         let most = told.allowance.open_connections.unwrap_or(self.part);
+        let (mode, retention) = retention_told(self.alloc, told.allowance.retention)?;
         Ok(json!(in self.alloc; {
             "name": text,
             "cluster_id": cluster,
@@ -400,6 +428,8 @@ impl<'x, R: Wait + Clock + Files + AllocGlobal + Copy + Drop> Operator<'x, R> {
             "leases": leases,
             "watches": watches,
             "no_space": no_space,
+            "auto_compaction_mode": mode,
+            "auto_compaction_retention": retention,
             "budget": {"bytes": budget, "used": budget.saturating_sub(left)},
             "open_connections": {"most": most, "open": self.bounds.open(told.number)}
         })?)

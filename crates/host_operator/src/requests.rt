@@ -51,17 +51,25 @@ impl OperatorEntrance {
 }
 
 /// Serves the requests of an operator's connection.
-#[derive(Drop)]
-pub(crate) struct OperatorGateway<R> {
+pub(crate) struct OperatorGateway<R: Drop> {
     pub(crate) rt: R,
     pub(crate) alloc: Global,
     /// None where there was no memory to share it.
     pub(crate) entrance: Option<Arc<OperatorEntrance>>,
 }
 
+impl<R: Drop> Drop for OperatorGateway<R> {
+    fn drop(self) {
+        let OperatorGateway {
+            rt: _,
+            alloc: _,
+            entrance: _,
+        } = self;
+    }
+}
+
 /// A request of the operator.
-#[derive(Drop)]
-pub(crate) struct OperatorExchange<I, R> {
+pub(crate) struct OperatorExchange<I, R: Drop> {
     rt: R,
     alloc: Global,
     entrance: Option<Arc<OperatorEntrance>>,
@@ -72,6 +80,21 @@ pub(crate) struct OperatorExchange<I, R> {
     lost: Option<OperatorRefusal>,
     /// None while the body is read.
     outcome: Option<oneshot::Receiver<OperatorOutcome>>,
+}
+
+impl<I: Drop, R: Drop> Drop for OperatorExchange<I, R> {
+    fn drop(self) {
+        let OperatorExchange {
+            rt: _,
+            alloc: _,
+            entrance: _,
+            parts: _,
+            body: _,
+            read: _,
+            lost: _,
+            outcome: _,
+        } = self;
+    }
 }
 
 impl<I: Drop, R: Eprint + Copy + Drop> Service<Request<Incoming<I>>> for OperatorGateway<R> {

@@ -2,13 +2,15 @@
 ghost use Rattle.std.specs.Prelude.{IfOk, IfSome};
 
 use crate::calls::OperatorCall;
+use crate::connection::OperatorConnection;
 use crate::operator::Operator;
 use crate::requests::{OperatorEntrance, OperatorGateway, OperatorRequest};
+use connection_table::Patience;
 use etcd_types::Mem;
 use futures::executor::TaskSet;
 use futures::task::{Context, Poll};
 use futures::{Future, ready};
-use host_config::{OperatorConfig, Patience};
+use host_config::OperatorConfig;
 use hyper::rt::TokioTimer;
 use hyper::server::conn::http1;
 use std::alloc::{AllocGlobal, Global};
@@ -244,7 +246,7 @@ where
             alloc,
             entrance: OperatorEntrance::share(&entrance),
         };
-        let connection = http.serve_connection(stream, gateway);
+        let connection = OperatorConnection::new(&http, stream, gateway);
         Served::of(alloc, connection, Counted::of(&counted))
     };
     let arriving = Arriving {

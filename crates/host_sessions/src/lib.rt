@@ -1,23 +1,14 @@
-//! A server over a registry: it listens, accepts connections and runs the threads.
+//! The server over a registry: what `tenant_server` does for any tenants, with seats for its threads and keys to a registry's
+//! tenants.
 //!
-//! 1. `Sessions::listen` listens where the configuration says, and `Sessions::serve` runs a thread for each seat (`sessions`,
-//!    `threads`). Connections are accepted (`arrivals`), as many as there may be (`admission`), and dealt out to four event
-//!    loops, each a thread on which its connections stay (`connections`). The system gives up peers that are gone or read
-//!    nothing (`peers`).
-//! 2. A connection's requests are `gateway_http`'s, and which thread serves which tenant when is `tenant_scheduler`'s.
-//! 3. Where tenants come and go meanwhile, the main thread serves the operator, who is `host_operator`'s, and another one
-//!    accepts connections (`arrivals`).
+//! `Sessions::listen` listens where the configuration says, and `Sessions::serve` serves a registry until as many connections
+//! as were told have ended. `Sessions::open` and `Sessions::serve_beside` do the same where tenants come and go meanwhile.
 #![tactic(auto)]
 
-mod admission;
-mod arrivals;
-mod connections;
-mod fault;
-mod peers;
 mod sessions;
-mod threads;
 
-pub use fault::ServeFault;
-pub use host_config::{Allowance, Config, ConfigFault, OperatorConfig, Patience, read_config};
-pub use sessions::{End, ListenFault, Listening, Sessions};
+pub use connection_table::{Allowance, Patience};
+pub use host_config::{Config, ConfigFault, OperatorConfig, read_config};
+pub use sessions::{ListenFault, Sessions};
 pub use tenant_scheduler::Jobs;
+pub use tenant_server::{End, Listening, Opened, ServeFault};

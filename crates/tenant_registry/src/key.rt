@@ -17,6 +17,7 @@ use std::marker::Model;
 use std::rt::Clock;
 use std::sync::{Arc, Wait};
 use tenant_audit::Seat;
+use tenant_calls::TenantKey;
 use tenant_machine::Hint;
 
 /// The key to a tenant of a registry. A contract sees it as the tenant's name and number.
@@ -123,6 +124,16 @@ impl Key {
     {
         let kept = self.kept.try_lock()?;
         Some(usage_there(&*kept, self.number))
+    }
+}
+
+impl TenantKey for Key {
+    fn name(&self) -> &[u8] {
+        self.name.as_slice()
+    }
+
+    fn number(&self) -> u64 {
+        self.number
     }
 }
 

@@ -6,32 +6,40 @@ use fair_turns::{Answer, LONGEST_ROW, Share, may_be_long};
 use std::alloc::Global;
 use std::rt::Clock;
 use std::sync::Wait;
-use tenant_registry::{Gate, Hint, Key, Receipt, Seat};
+use tenant_calls::{CallReceipt, TenantCalls};
 
-/// The seat of a thread that calls tenants by their keys.
+/// What a thread calls tenants by.
 #[derive(Drop)]
-pub(crate) struct Caller<'x, R, G> {
+pub(crate) struct Caller<R, C> {
     rt: R,
-    gate: &'x G,
-    seat: Seat,
+    calls: C,
 }
 
-impl<'x, R: Wait + Clock + Drop, G: Gate> Caller<'x, R, G> {
-    pub(crate) fn new(rt: R, gate: &'x G, seat: Seat) -> Caller<'x, R, G> {
-        Caller { rt, gate, seat }
+impl<R: Wait + Clock + Drop, C: TenantCalls> Caller<R, C> {
+    pub(crate) fn new(rt: R, calls: C) -> Caller<R, C> {
+        Caller { rt, calls }
     }
 
     /// One step of the tenant that has the key. Without a key there is no such tenant.
-    pub(crate) fn call(&mut self, key: &Option<Key>, step: Step) -> Result<Receipt, Refusal> {
+    pub(crate) fn call(
+        &mut self,
+        key: &Option<C::Key>,
+        step: Step,
+    ) -> Result<CallReceipt, Refusal> {
         match key {
-            Some(key) => key.call(&self.rt, &mut self.seat, self.gate, step),
+            Some(key) => self.calls.call(&self.rt, key, step),
             None => Err(Refusal::NoTenant),
         }
     }
 
     /// What a step is answered that opens nothing. It is refused before it is planned where its answer may be long and
     /// the tenant's budget has no room for that.
-    pub(crate) fn answer(&mut self, alloc: Global, clients: &Clients<R>, step: Step) -> Answer<R> {
+    pub(crate) fn answer(
+        &mut self,
+        alloc: Global,
+        clients: &Clients<R, C::Key>,
+        step: Step,
+    ) -> Answer<R> {
         if !may_be_long(&step) || (is_brief(&step) && clients.budget.left() >= LONGEST_ROW) {
             return self.answer_within(alloc, clients, step, None);
         }
@@ -45,13 +53,13 @@ impl<'x, R: Wait + Clock + Drop, G: Gate> Caller<'x, R, G> {
     fn answer_within(
         &mut self,
         alloc: Global,
-        clients: &Clients<R>,
+        clients: &Clients<R, C::Key>,
         step: Step,
         reserved: Option<Share>,
     ) -> Answer<R> {
         match self.call(&clients.key, step) {
             Ok(receipt) => {
-                let (status, refusal) = (receipt.status(), receipt.refusal());
+                let (status, refusal) = (receipt.status, receipt.refusal);
                 let text = clients.budget.charge(reserved, receipt.into_body());
                 Answer::text(status, refusal, text)
             }
@@ -60,24 +68,32 @@ impl<'x, R: Wait + Clock + Drop, G: Gate> Caller<'x, R, G> {
     }
 
     /// The share of what a step may take until its answer is sent, if the budget has so much.
-    fn reserve(&self, clients: &Clients<R>, step: &Step) -> Result<Option<Share>, Refusal> {
+    fn reserve(&self, clients: &Clients<R, C::Key>, step: &Step) -> Result<Option<Share>, Refusal> {
         let Some(key) = &clients.key else {
             return Err(Refusal::NoTenant);
         };
         let enough = clients.budget.left() as u64;
-        let weight = key.weight(&self.rt, step, enough)?;
+        let weight = self.calls.weight(&self.rt, key, step, enough)?;
         Ok(clients.budget.reserve(weight))
     }
 
-    /// Which takes of a tenant's watches may not be quiet.
-    pub(crate) fn hint(&self, key: &Option<Key>) -> Option<Hint> {
+    /// The current revision of the tenant that has the key.
+    pub(crate) fn revision(&self, key: &Option<C::Key>) -> Result<i64, Refusal> {
         match key {
-            Some(key) => key.hint(&self.rt),
+            Some(key) => self.calls.revision(&self.rt, key),
+            None => Err(Refusal::NoTenant),
+        }
+    }
+
+    /// Which takes of a tenant's watches may not be quiet.
+    pub(crate) fn hint(&self, key: &Option<C::Key>) -> Option<C::Hint> {
+        match key {
+            Some(key) => self.calls.hint(&self.rt, key),
             None => None,
         }
     }
 
-    pub(crate) fn into_seat(self) -> Seat {
-        self.seat
+    pub(crate) fn into_calls(self) -> C {
+        self.calls
     }
 }

@@ -1,13 +1,14 @@
-//! The catch-up worker: moves watches on that are behind.
+//! The catch-up worker: moves watches on that are behind, and compacts by standing orders.
 use crate::caller::Caller;
 use crate::clients::Clients;
+use crate::pump::take_all;
 use crate::serving::ServingThread;
 use crate::tenants::ServedTenant;
 use etcd_types::Step;
-use fair_turns::{Stopwatch, Work};
+use fair_turns::{Scheduler, Stopwatch, Work};
 use std::rt::Clock;
 use std::sync::Wait;
-use tenant_registry::{Gate, Seat};
+use tenant_calls::{TakeHint, TenantCalls};
 
 /// How many kept changes one step looks at.
 const BUDGET: u32 = 256;
@@ -18,28 +19,56 @@ const STEPS_A_TURN: u32 = 1024;
 /// After how many milliseconds a turn ends, once the step at hand is done.
 const MILLIS_A_TURN: u64 = 1;
 
-/// Steps CatchUp on each tenant where that is due, until there are no more turns.
-pub(crate) fn catch_up<R: Wait + Clock + Copy + Drop, G: Gate>(
-    thread: ServingThread<'_, R, G>,
-) -> Seat {
+/// Steps CatchUp on each tenant where that is due, and compacts it where its standing order says so, until there are no
+/// more turns.
+pub(crate) fn catch_up<R: Wait + Clock + Copy + Drop, C: TenantCalls>(
+    thread: ServingThread<R, C>,
+) -> C {
     let (rt, place, mut caller, shared) = thread.into_parts();
     for _ in rt.forever() {
         let Some(tenant) = shared.next_turn(&rt, place, &shared.turns.catch_up) else {
             break;
         };
         if let Some(tenant) = shared.numbered(&rt, tenant) {
+            keep_order(&rt, &mut caller, &shared.scheduler, &tenant);
             move_on(&rt, &mut caller, &tenant);
             shared.scheduler.finish(&rt, tenant.turns(), Work::CatchUp);
         }
     }
-    caller.into_seat()
+    caller.into_calls()
+}
+
+/// Compacts a tenant where its standing order says so. As before a client's compaction, watches are taken first.
+fn keep_order<R: Wait + Clock + Drop, C: TenantCalls>(
+    rt: &R,
+    caller: &mut Caller<R, C>,
+    scheduler: &Scheduler,
+    tenant: &ServedTenant<R, C::Key>,
+) {
+    let mut clients = tenant.clients.lock(rt);
+    let moment = clients.running.moment();
+    if !clients.standing.is_due(moment) {
+        return;
+    }
+    // Where there is no memory to look at it, the next tick tries again.
+    let Ok(revision) = caller.revision(&clients.key) else {
+        return;
+    };
+    let Some(at) = clients.standing.look(moment, revision) else {
+        return;
+    };
+    if take_all(caller, &mut *clients) && caller.call(&clients.key, Step::Compact(at)).is_ok() {
+        clients.schedule_takes(rt, scheduler, tenant.turns());
+    } else {
+        clients.standing.put_off();
+    }
 }
 
 /// Steps a tenant's CatchUp, and goes on for a while as long as a watch is far behind.
-fn move_on<R: Wait + Clock + Drop, G: Gate>(
+fn move_on<R: Wait + Clock + Drop, C: TenantCalls>(
     rt: &R,
-    caller: &mut Caller<'_, R, G>,
-    tenant: &ServedTenant<R>,
+    caller: &mut Caller<R, C>,
+    tenant: &ServedTenant<R, C::Key>,
 ) {
     let clients = tenant.clients.lock(rt);
     let stopwatch = Stopwatch::start(rt);
@@ -55,9 +84,9 @@ fn move_on<R: Wait + Clock + Drop, G: Gate>(
 }
 
 /// A watch of the tenant is far behind.
-fn is_far_behind<R: Wait + Clock + Drop, G: Gate>(
-    caller: &Caller<'_, R, G>,
-    clients: &Clients<R>,
+fn is_far_behind<R: Wait + Clock + Drop, C: TenantCalls>(
+    caller: &Caller<R, C>,
+    clients: &Clients<R, C::Key>,
 ) -> bool {
     let Some(hint) = caller.hint(&clients.key) else {
         return false;

@@ -1,5 +1,6 @@
 //! What the clients of a tenant have under way: jobs that wait, and open watches.
 use crate::clock::Running;
+use auto_compaction::StandingOrder;
 use etcd_types::{Call, Refusal, Step};
 use fair_turns::{
     Answer, Budget, Scheduler, Share, Stopwatch, TenantCounts, TenantTurns, TextSender, Work,
@@ -7,7 +8,7 @@ use fair_turns::{
 use futures::channel::oneshot;
 use std::alloc::Global;
 use std::sync::{Arc, Wait};
-use tenant_registry::Key;
+use tenant_calls::TenantKey;
 use tokio::sync::mpsc;
 
 /// What a call asks.
@@ -62,9 +63,9 @@ pub(crate) struct OpenWatch {
 
 /// The clients of one tenant, for whoever has the turn there.
 #[derive(Drop)]
-pub(crate) struct Clients<R: Wait + Drop> {
+pub(crate) struct Clients<R: Wait + Drop, K: TenantKey> {
     /// By which the tenant is called. None where it is not there yet, or was removed.
-    pub(crate) key: Option<Key>,
+    pub(crate) key: Option<K>,
     pub(crate) budget: Budget,
     pub(crate) counts: Arc<TenantCounts>,
     pub(crate) jobs: mpsc::Receiver<Job<R>>,
@@ -72,6 +73,8 @@ pub(crate) struct Clients<R: Wait + Drop> {
     /// At which place of the watches the pump goes on.
     pub(crate) next_take: usize,
     pub(crate) running: Running,
+    /// What of its history is kept.
+    pub(crate) standing: StandingOrder,
     /// Its last turn with a worker was long.
     pub(crate) is_slow: bool,
     /// How many of its next takes are left to the workers, since one was long.
@@ -80,7 +83,7 @@ pub(crate) struct Clients<R: Wait + Drop> {
     pub(crate) left_to_workers: u32,
 }
 
-impl<R: Wait + Drop> Clients<R> {
+impl<R: Wait + Drop, K: TenantKey> Clients<R, K> {
     /// Has the pump take for the tenant's watches, if there are any.
     pub(crate) fn schedule_takes(&self, rt: &R, scheduler: &Scheduler, turns: &TenantTurns) {
         if !self.watches.is_empty() {
@@ -89,7 +92,7 @@ impl<R: Wait + Drop> Clients<R> {
     }
 }
 
-impl<R: Wait + Copy + Drop> Clients<R> {
+impl<R: Wait + Copy + Drop, K: TenantKey> Clients<R, K> {
     /// The tenant was removed: its jobs are answered that it is not there, and its watches end.
     pub(crate) fn end(&mut self, alloc: Global) {
         self.key = None;

@@ -8,7 +8,7 @@ use fair_turns::{Scheduler, Turn, Work};
 use std::rt::Clock;
 use std::sync::Wait;
 use std::time::{Duration, Instant};
-use tenant_registry::{Gate, Seat};
+use tenant_calls::TenantCalls;
 
 /// How many seconds lie between two ticks of a tenant that is not busy.
 const SECONDS_A_TICK: u64 = 1;
@@ -45,18 +45,23 @@ impl Running {
         let counted = passed.min(Duration::from_secs(MAX_SECONDS_A_TICK));
         self.ticked = Some(now);
         self.ran = self.ran.saturating_add(counted);
+        self.moment()
+    }
+
+    /// The moment of the last tick.
+    pub(crate) fn moment(&self) -> u64 {
         self.ran.as_secs()
     }
 }
 
 /// Schedules each tenant's tick every second, and steps those whose turn it is, until there are no more turns.
 /// A tenant that is busy gets its tick when its turn comes; the others don't wait for it.
-pub(crate) fn keep_time<R: Wait + Clock + Copy + Drop, G: Gate>(
-    thread: ServingThread<'_, R, G>,
-) -> Seat {
+pub(crate) fn keep_time<R: Wait + Clock + Copy + Drop, C: TenantCalls>(
+    thread: ServingThread<R, C>,
+) -> C {
     let (rt, place, mut caller, shared) = thread.into_parts();
     let Ok(start) = Instant::now(&rt) else {
-        return caller.into_seat();
+        return caller.into_calls();
     };
     let mut now = Duration::from_secs(0);
     let mut due = Duration::from_secs(SECONDS_A_TICK);
@@ -81,7 +86,7 @@ pub(crate) fn keep_time<R: Wait + Clock + Copy + Drop, G: Gate>(
             }
         }
     }
-    caller.into_seat()
+    caller.into_calls()
 }
 
 /// When the ticks after those of now are due. What was missed in a pause is not made up for.
@@ -95,16 +100,19 @@ fn next_due(due: Duration, now: Duration) -> Duration {
     }
 }
 
-/// Steps a tenant's tick, and has the pump take for its watches.
-fn tick<R: Wait + Clock + Drop, G: Gate>(
+/// Steps a tenant's tick, and has the pump take for its watches, and the catch-up worker look at its standing order.
+fn tick<R: Wait + Clock + Drop, C: TenantCalls>(
     rt: &R,
-    caller: &mut Caller<'_, R, G>,
+    caller: &mut Caller<R, C>,
     scheduler: &Scheduler,
-    tenant: &ServedTenant<R>,
+    tenant: &ServedTenant<R, C::Key>,
     now: Duration,
 ) {
     let mut clients = tenant.clients.lock(rt);
     let moment = clients.running.tick(now);
     let _ = caller.call(&clients.key, Step::Tick(moment));
     clients.schedule_takes(rt, scheduler, tenant.turns());
+    if clients.standing.is_due(moment) {
+        scheduler.schedule(rt, tenant.turns(), Work::CatchUp);
+    }
 }

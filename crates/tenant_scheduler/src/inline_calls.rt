@@ -20,7 +20,7 @@ use futures::task::{Context, Poll};
 use std::alloc::Global;
 use std::rt::Clock;
 use std::sync::Wait;
-use tenant_registry::{Gate, Seat};
+use tenant_calls::{TenantCalls, TenantKey};
 use tokio::sync::mpsc::UnboundedReceiver;
 
 /// How many brief calls are served before the loop looks at its connections again.
@@ -79,7 +79,12 @@ pub(crate) enum InlineOutcome<R: Wait + Drop> {
 
 impl<R: Wait + Drop> InlineOutcome<R> {
     /// Counts the call with a body of so many bytes, if it was answered.
-    fn count(self, tenant: &ServedTenant<R>, call: Call, length: usize) -> InlineOutcome<R> {
+    fn count<K: TenantKey>(
+        self,
+        tenant: &ServedTenant<R, K>,
+        call: Call,
+        length: usize,
+    ) -> InlineOutcome<R> {
         if let InlineOutcome::Answered(answer) = &self {
             tenant.counts().add(call, length, answer);
         }
@@ -88,15 +93,15 @@ impl<R: Wait + Drop> InlineOutcome<R> {
 }
 
 /// Where an event loop receives the brief calls of its connections, and serves them.
-pub struct InlineCalls<'x, R: Wait + Drop, G> {
+pub struct InlineCalls<R: Wait + Drop, C: TenantCalls> {
     alloc: Global,
     /// The part of the directory that is read here.
     shard: usize,
-    thread: ServingThread<'x, R, G>,
+    thread: ServingThread<R, C>,
     calls: UnboundedReceiver<InlineCall<R>>,
 }
 
-impl<'x, R: Wait + Drop, G> Drop for InlineCalls<'x, R, G> {
+impl<R: Wait + Drop, C: TenantCalls> Drop for InlineCalls<R, C> {
     fn drop(self) {
         let InlineCalls {
             alloc: _,
@@ -107,14 +112,14 @@ impl<'x, R: Wait + Drop, G> Drop for InlineCalls<'x, R, G> {
     }
 }
 
-impl<'x, R: Wait + Clock + Copy + Drop, G: Gate> InlineCalls<'x, R, G> {
+impl<R: Wait + Clock + Copy + Drop, C: TenantCalls> InlineCalls<R, C> {
     /// Those of the event loop of that number.
     pub fn new(
         alloc: Global,
         number: usize,
-        thread: ServingThread<'x, R, G>,
+        thread: ServingThread<R, C>,
         calls: UnboundedReceiver<InlineCall<R>>,
-    ) -> InlineCalls<'x, R, G> {
+    ) -> InlineCalls<R, C> {
         InlineCalls {
             alloc,
             shard: number,
@@ -170,22 +175,22 @@ impl<'x, R: Wait + Clock + Copy + Drop, G: Gate> InlineCalls<'x, R, G> {
         self.thread.beat();
     }
 
-    pub fn into_seat(self) -> Seat {
+    pub fn into_calls(self) -> C {
         let InlineCalls {
             alloc: _,
             shard: _,
             thread,
             calls: _,
         } = self;
-        thread.into_seat()
+        thread.into_calls()
     }
 }
 
 /// What a tenant answers, unless its answers were long lately.
-fn answer<R: Wait + Clock + Drop, G: Gate>(
+fn answer<R: Wait + Clock + Drop, C: TenantCalls>(
     alloc: Global,
-    caller: &mut Caller<'_, R, G>,
-    clients: &mut Clients<R>,
+    caller: &mut Caller<R, C>,
+    clients: &mut Clients<R, C::Key>,
     step: Step,
 ) -> InlineOutcome<R> {
     if clients.left_to_workers > 0 {

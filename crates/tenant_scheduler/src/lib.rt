@@ -8,12 +8,13 @@
 //! 2. A tenant is served by one thread at a time, which has the *turn* there. Whose turn it is, and what a tenant's clients
 //!    may have under way, is `fair_turns`'.
 //! 3. An event loop serves an inline call if nobody has the turn (`inline_calls`), and else the call becomes a job. A
-//!    worker serves a few jobs a turn (`worker`). Both call the tenant by its key, with the seat of their `Caller`.
+//!    worker serves a few jobs a turn (`worker`). Both call the tenant by its key, with what their `Caller` has: it knows
+//!    tenants by the traits of `tenant_calls` alone.
 //! 4. The answer comes back through `PendingCall::poll_answer`. That of a watch has `WatchTexts`: the pump takes the next
-//!    text when the client has read the last one (`pump`). The catch-up worker moves watches on that are behind
-//!    (`catch_up`), and the clock ticks each tenant once a second (`clock`).
+//!    text when the client has read the last one (`pump`). The catch-up worker moves watches on that are behind, and
+//!    compacts by standing orders (`catch_up`); the clock ticks each tenant once a second (`clock`).
 //!
-//! A thread is a seat's (`serving`), and all of them work over what `open` makes (`shared`, `clients`). Tenants come and
+//! Each thread has its own way to call tenants (`serving`), and all of them work over what `open` makes (`shared`, `clients`). Tenants come and
 //! go meanwhile (`tenants`).
 #![tactic(auto)]
 
@@ -37,4 +38,4 @@ pub use jobs::{Jobs, Route};
 pub use pending::{Begun, PendingCall};
 pub use serving::{Service, ServingThread};
 pub use shared::{Shared, open};
-pub use tenants::{NewTenant, ServedTenant, Tenants};
+pub use tenants::{NewTenant, ServedTenant, TenantTerms, Tenants};

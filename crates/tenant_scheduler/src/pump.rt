@@ -7,7 +7,7 @@ use etcd_types::Step;
 use fair_turns::{Budget, NoRoom, Scheduler, Stopwatch, TenantCounts, TenantTurns, Work};
 use std::rt::Clock;
 use std::sync::Wait;
-use tenant_registry::{Gate, Hint, Key, Seat};
+use tenant_calls::{TakeHint, TenantCalls};
 
 /// After how many milliseconds a turn ends, once the take at hand is served.
 const MILLIS_A_TURN: u64 = 1;
@@ -19,9 +19,9 @@ const LONG: u64 = 2;
 const TURNS_LEFT: u32 = 256;
 
 /// Takes for the open watches of each tenant where that is due, until there are no more turns.
-pub(crate) fn pump<R: Wait + Clock + Copy + Drop, G: Gate>(
-    thread: ServingThread<'_, R, G>,
-) -> Seat {
+pub(crate) fn pump<R: Wait + Clock + Copy + Drop, C: TenantCalls>(
+    thread: ServingThread<R, C>,
+) -> C {
     let (rt, place, mut caller, shared) = thread.into_parts();
     for _ in rt.forever() {
         let Some(tenant) = shared.next_turn(&rt, place, &shared.turns.pump) else {
@@ -31,15 +31,15 @@ pub(crate) fn pump<R: Wait + Clock + Copy + Drop, G: Gate>(
             take_turn(&rt, &mut caller, &shared.scheduler, &tenant);
         }
     }
-    caller.into_seat()
+    caller.into_calls()
 }
 
 /// Serves the takes of a tenant whose turn it is, unless they were long lately: then a worker serves them.
-fn take_turn<R: Wait + Clock + Drop, G: Gate>(
+fn take_turn<R: Wait + Clock + Drop, C: TenantCalls>(
     rt: &R,
-    caller: &mut Caller<'_, R, G>,
+    caller: &mut Caller<R, C>,
     scheduler: &Scheduler,
-    tenant: &ServedTenant<R>,
+    tenant: &ServedTenant<R, C::Key>,
 ) {
     let turns = tenant.turns();
     let mut clients = tenant.clients.lock(rt);
@@ -52,12 +52,12 @@ fn take_turn<R: Wait + Clock + Drop, G: Gate>(
 }
 
 /// Ends the watches whose clients have gone, and takes for the others.
-pub(crate) fn serve_takes<R: Wait + Clock + Drop, G: Gate>(
+pub(crate) fn serve_takes<R: Wait + Clock + Drop, C: TenantCalls>(
     rt: &R,
-    caller: &mut Caller<'_, R, G>,
+    caller: &mut Caller<R, C>,
     scheduler: &Scheduler,
     turns: &TenantTurns,
-    clients: &mut Clients<R>,
+    clients: &mut Clients<R, C::Key>,
 ) {
     let stopwatch = Stopwatch::start(rt);
     drop_closed(caller, clients);
@@ -72,12 +72,12 @@ pub(crate) fn serve_takes<R: Wait + Clock + Drop, G: Gate>(
 }
 
 /// Takes once for each watch that may have something to give, and sees to it that it comes again where there is more.
-fn take_and_schedule<R: Wait + Clock + Drop, G: Gate>(
+fn take_and_schedule<R: Wait + Clock + Drop, C: TenantCalls>(
     rt: &R,
-    caller: &mut Caller<'_, R, G>,
+    caller: &mut Caller<R, C>,
     scheduler: &Scheduler,
     turns: &TenantTurns,
-    clients: &mut Clients<R>,
+    clients: &mut Clients<R, C::Key>,
     stopwatch: &Stopwatch,
 ) {
     let Some(hint) = caller.hint(&clients.key) else {
@@ -105,11 +105,11 @@ fn take_and_schedule<R: Wait + Clock + Drop, G: Gate>(
 /// Takes once for each watch that a hint tells and whose client waits for a text, as far as a turn's time and the
 /// tenant's budget go. The next turn goes on behind the last one that this turn came to. It is `false` where a take
 /// found no memory, or no budget.
-fn take_hinted<R: Wait + Clock + Drop, G: Gate>(
+fn take_hinted<R: Wait + Clock + Drop, C: TenantCalls>(
     rt: &R,
-    caller: &mut Caller<'_, R, G>,
-    clients: &mut Clients<R>,
-    hint: &Hint,
+    caller: &mut Caller<R, C>,
+    clients: &mut Clients<R, C::Key>,
+    hint: &C::Hint,
     stopwatch: &Stopwatch,
 ) -> bool {
     let mut all_answered = true;
@@ -134,9 +134,9 @@ fn take_hinted<R: Wait + Clock + Drop, G: Gate>(
 /// Takes once for each watch that has room for a text, before a compaction. Where the tenant's budget is spent, those
 /// that have something to give are passed over, and the compaction may cancel them: their tenant's clients don't read.
 /// It is `false` where a take found no memory.
-pub(crate) fn take_all<R: Wait + Clock + Drop, G: Gate>(
-    caller: &mut Caller<'_, R, G>,
-    clients: &mut Clients<R>,
+pub(crate) fn take_all<R: Wait + Clock + Drop, C: TenantCalls>(
+    caller: &mut Caller<R, C>,
+    clients: &mut Clients<R, C::Key>,
 ) -> bool {
     if clients.watches.is_empty() {
         return true;
@@ -154,11 +154,11 @@ pub(crate) fn take_all<R: Wait + Clock + Drop, G: Gate>(
 
 /// Takes for the watch at a place, if it is meant, and goes on to the next one. One that was cancelled leaves its
 /// place to the last. It is `false` where the take found no memory.
-fn take_at<R: Wait + Clock + Drop, G: Gate>(
-    caller: &mut Caller<'_, R, G>,
-    clients: &mut Clients<R>,
+fn take_at<R: Wait + Clock + Drop, C: TenantCalls>(
+    caller: &mut Caller<R, C>,
+    clients: &mut Clients<R, C::Key>,
     at: &mut usize,
-    hint: &Hint,
+    hint: &C::Hint,
     meant: Meant,
 ) -> bool {
     let Some(watch) = clients.watches.get(*at) else {
@@ -196,7 +196,7 @@ enum Meant {
 }
 
 impl Meant {
-    fn has(self, hint: &Hint, budget: &Budget, watch: &OpenWatch) -> bool {
+    fn has<H: TakeHint>(self, hint: &H, budget: &Budget, watch: &OpenWatch) -> bool {
         let may_give = hint.has(watch.slot);
         match self {
             Meant::Waiting => {
@@ -217,9 +217,9 @@ enum TakeOutcome {
 }
 
 /// Takes once, if there is room for a text.
-fn take<R: Wait + Clock + Drop, G: Gate>(
-    caller: &mut Caller<'_, R, G>,
-    key: &Option<Key>,
+fn take<R: Wait + Clock + Drop, C: TenantCalls>(
+    caller: &mut Caller<R, C>,
+    key: &Option<C::Key>,
     budget: &Budget,
     counts: &TenantCounts,
     watch: &OpenWatch,
@@ -232,10 +232,10 @@ fn take<R: Wait + Clock + Drop, G: Gate>(
     let Ok(receipt) = caller.call(key, Step::Take(watch.slot)) else {
         return TakeOutcome::NoMemory;
     };
-    if receipt.body().is_empty() {
+    if receipt.body.is_empty() {
         return TakeOutcome::Open;
     }
-    let taken = if receipt.canceled() {
+    let taken = if receipt.canceled {
         TakeOutcome::Ended
     } else {
         TakeOutcome::Open
@@ -248,9 +248,9 @@ fn take<R: Wait + Clock + Drop, G: Gate>(
 
 /// Frees the slots of the watches whose clients have gone. Where one finds no memory, it stays for the next
 /// turn.
-pub(crate) fn drop_closed<R: Wait + Clock + Drop, G: Gate>(
-    caller: &mut Caller<'_, R, G>,
-    clients: &mut Clients<R>,
+pub(crate) fn drop_closed<R: Wait + Clock + Drop, C: TenantCalls>(
+    caller: &mut Caller<R, C>,
+    clients: &mut Clients<R, C::Key>,
 ) {
     let key = &clients.key;
     let watches = &mut clients.watches;

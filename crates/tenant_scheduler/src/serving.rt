@@ -8,18 +8,18 @@ use crate::worker::work;
 use std::alloc::Global;
 use std::rt::Clock;
 use std::sync::{Arc, Wait};
-use tenant_registry::{Gate, Seat};
+use tenant_calls::TenantCalls;
 
 /// What a thread serves tenants with: its way to them, and what all threads share.
-pub struct ServingThread<'x, R: Wait + Drop, G> {
+pub struct ServingThread<R: Wait + Drop, C: TenantCalls> {
     pub(crate) rt: R,
     /// Which of the threads it is.
     pub(crate) place: usize,
-    pub(crate) caller: Caller<'x, R, G>,
-    pub(crate) shared: Arc<Shared<R>>,
+    pub(crate) caller: Caller<R, C>,
+    pub(crate) shared: Arc<Shared<R, C::Key>>,
 }
 
-impl<'x, R: Wait + Drop, G> Drop for ServingThread<'x, R, G> {
+impl<R: Wait + Drop, C: TenantCalls> Drop for ServingThread<R, C> {
     fn drop(self) {
         let ServingThread {
             rt: _,
@@ -30,25 +30,24 @@ impl<'x, R: Wait + Drop, G> Drop for ServingThread<'x, R, G> {
     }
 }
 
-impl<'x, R: Wait + Clock + Copy + Drop, G: Gate> ServingThread<'x, R, G> {
-    /// That of the thread at a place, from 0 on, which has a seat.
+impl<R: Wait + Clock + Copy + Drop, C: TenantCalls> ServingThread<R, C> {
+    /// That of the thread at a place, from 0 on.
     pub fn new(
         rt: R,
         place: usize,
-        gate: &'x G,
-        seat: Seat,
-        shared: Arc<Shared<R>>,
-    ) -> ServingThread<'x, R, G> {
+        calls: C,
+        shared: Arc<Shared<R, C::Key>>,
+    ) -> ServingThread<R, C> {
         ServingThread {
             rt,
             place,
-            caller: Caller::new(rt, gate, seat),
+            caller: Caller::new(rt, calls),
             shared,
         }
     }
 
     /// What it works with, for the one service that it does.
-    pub(crate) fn into_parts(self) -> (R, usize, Caller<'x, R, G>, Arc<Shared<R>>) {
+    pub(crate) fn into_parts(self) -> (R, usize, Caller<R, C>, Arc<Shared<R, C::Key>>) {
         let ServingThread {
             rt,
             place,
@@ -63,9 +62,9 @@ impl<'x, R: Wait + Clock + Copy + Drop, G: Gate> ServingThread<'x, R, G> {
         self.shared.beats.beat(&self.rt, self.place);
     }
 
-    pub fn into_seat(self) -> Seat {
+    pub fn into_calls(self) -> C {
         let (_, _, caller, _) = self.into_parts();
-        caller.into_seat()
+        caller.into_calls()
     }
 }
 
@@ -79,7 +78,7 @@ pub enum Service {
 }
 
 impl Service {
-    /// The service of the seat at a place: the first three have one each beside the workers.
+    /// The service of the thread at a place: the first three have one each beside the workers.
     pub fn at(place: usize) -> Service {
         match place {
             0 => Service::Clock,
@@ -89,11 +88,11 @@ impl Service {
         }
     }
 
-    /// Serves tenants until there are no more turns, and gives the seat back.
-    pub fn run<R, G>(self, alloc: Global, thread: ServingThread<'_, R, G>) -> Seat
+    /// Serves tenants until there are no more turns, and gives back what the thread called them by.
+    pub fn run<R, C>(self, alloc: Global, thread: ServingThread<R, C>) -> C
     where
         R: Wait + Clock + Copy + Drop,
-        G: Gate,
+        C: TenantCalls,
     {
         match self {
             Service::Clock => keep_time(thread),

@@ -3,16 +3,16 @@ use crate::caller::Caller;
 use crate::entrances::Entrances;
 use crate::jobs::Jobs;
 use crate::pump::drop_closed;
-use crate::tenants::{ServedTenant, Tenants};
+use crate::tenants::{ServedTenant, TenantTerms, Tenants};
 use crossbeam_channel::{Receiver, RecvTimeoutError};
 use etcd_types::Mem;
 use etcd_types::limits::MAX_TENANTS;
 use fair_turns::{Beats, Scheduler, Turn, Turns, Work};
-use std::alloc::{AllocError, Global};
+use std::alloc::Global;
 use std::rt::Clock;
 use std::sync::{Arc, Wait};
 use std::time::Duration;
-use tenant_registry::{Gate, Key, Registry, Seat};
+use tenant_calls::{TenantCalls, TenantKey};
 
 /// The part of the directory that the threads read which have no event loop; those of the loops come before it.
 const SHARD: usize = 7;
@@ -21,14 +21,14 @@ const SHARD: usize = 7;
 const SECONDS_A_BEAT: u64 = 1;
 
 /// Whose turn it is, where the turns arrive, and the tenants.
-pub struct Shared<R: Wait + Drop> {
+pub struct Shared<R: Wait + Drop, K: TenantKey> {
     pub(crate) scheduler: Arc<Scheduler>,
     pub(crate) turns: Turns,
     pub(crate) beats: Beats,
-    tenants: Arc<Tenants<R>>,
+    tenants: Arc<Tenants<R, K>>,
 }
 
-impl<R: Wait + Drop> Drop for Shared<R> {
+impl<R: Wait + Drop, K: TenantKey> Drop for Shared<R, K> {
     fn drop(self) {
         let Shared {
             scheduler: _,
@@ -39,9 +39,9 @@ impl<R: Wait + Drop> Drop for Shared<R> {
     }
 }
 
-impl<R: Wait + Drop> Shared<R> {
+impl<R: Wait + Drop, K: TenantKey> Shared<R, K> {
     /// The tenant of that number.
-    pub(crate) fn numbered(&self, rt: &R, number: u64) -> Option<Arc<ServedTenant<R>>> {
+    pub(crate) fn numbered(&self, rt: &R, number: u64) -> Option<Arc<ServedTenant<R, K>>> {
         self.tenants.numbered(rt, SHARD, number)
     }
 
@@ -51,12 +51,12 @@ impl<R: Wait + Drop> Shared<R> {
     }
 
     /// The tenants, for whoever takes some in or out.
-    pub fn tenants(&self) -> &Arc<Tenants<R>> {
+    pub fn tenants(&self) -> &Arc<Tenants<R, K>> {
         &self.tenants
     }
 }
 
-impl<R: Wait + Clock + Drop> Shared<R> {
+impl<R: Wait + Clock + Drop, K: TenantKey> Shared<R, K> {
     /// The tenant whose turn comes next, for the thread at a place; none once there are no more turns. The thread moves
     /// at least once a second, whether a turn comes or not.
     pub(crate) fn next_turn(&self, rt: &R, place: usize, turns: &Receiver<Turn>) -> Option<u64> {
@@ -77,60 +77,44 @@ impl<R: Wait + Clock + Drop> Shared<R> {
     }
 }
 
-impl<R: Wait + Clock + Copy + Drop> Shared<R> {
+impl<R: Wait + Clock + Copy + Drop, K: TenantKey> Shared<R, K> {
     /// Ends the turns of so many threads, once no more calls come.
     pub fn stop(&self, rt: &R, threads: usize) {
         self.scheduler.stop(rt, threads);
     }
 
-    /// Frees the slots of watches that ended after the pump did, by one of the seats that came back.
-    pub fn free_slots<G: Gate>(&self, rt: R, gate: &G, seats: &mut Vec<Seat>) {
-        let Some(seat) = seats.pop() else {
+    /// Frees the slots of watches that ended after the pump did, by what one of the threads called tenants by.
+    pub fn free_slots<C: TenantCalls<Key = K>>(&self, rt: R, calls: &mut Vec<C>) {
+        let Some(own) = calls.pop() else {
             return;
         };
-        let mut caller = Caller::new(rt, gate, seat);
+        let mut caller = Caller::new(rt, own);
         for place in 0..MAX_TENANTS {
             let Some(tenant) = self.tenants.at(&rt, SHARD, place) else {
                 break;
             };
             drop_closed(&mut caller, &mut *tenant.clients.lock(&rt));
         }
-        let _ = seats.push(caller.into_seat());
+        let _ = calls.push(caller.into_calls());
     }
 }
 
-/// A key to each tenant of a registry, in their order.
-fn keys(alloc: Global, registry: &Registry) -> Mem<Vec<Key>> {
-    let mut keys = Vec::new(alloc);
-    for place in 0..MAX_TENANTS {
-        let Some(name) = registry.name_at(place) else {
-            break;
-        };
-        let Some(key) = registry.key(Vec::from_slice(alloc, name)?)? else {
-            return Err(AllocError);
-        };
-        keys.push(key)?;
-    }
-    Ok(keys)
-}
-
-/// The tenants of a registry, with nothing under way, and budgets of so many bytes in the order of the tenants, or by
+/// The tenants that have these keys, with nothing under way, on these terms in the order of the keys, or by
 /// default: where calls go in, and what so many threads share that serve them, of which so many are workers.
-pub fn open<R: Wait + Clock + Drop>(
+pub fn open<R: Wait + Clock + Drop, K: TenantKey>(
     rt: &R,
     alloc: Global,
-    registry: &Registry,
-    budgets: &[usize],
+    keys: Vec<K>,
+    terms: &[TenantTerms],
     threads: usize,
     workers: usize,
-) -> Mem<(Jobs<R>, Arc<Shared<R>>)> {
+) -> Mem<(Jobs<R>, Arc<Shared<R, K>>)> {
     let (scheduler, turns) = Scheduler::new(alloc, threads, workers)?;
     let scheduler = Arc::new(alloc, scheduler)?;
-    let keys = keys(alloc, registry)?;
     let entrances = Entrances::new(alloc, Arc::try_clone(&scheduler)?)?;
     let entrances = Arc::new(alloc, entrances)?;
     let tenants = Tenants::new(alloc, Arc::try_clone(&entrances)?)?;
-    tenants.admit_all(rt, alloc, keys, budgets)?;
+    tenants.admit_all(rt, alloc, keys, terms)?;
     let tenants = Arc::new(alloc, tenants)?;
     let jobs = Jobs::new(entrances);
     let shared = Shared {

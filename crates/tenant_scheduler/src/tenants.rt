@@ -9,6 +9,7 @@
 use crate::clients::Clients;
 use crate::clock::Running;
 use crate::entrances::{Entrance, Entrances};
+use auto_compaction::{Retention, StandingOrder};
 use crossbeam_utils::sync::ShardedLock;
 use etcd_types::Mem;
 use etcd_types::limits::MAX_TENANTS;
@@ -17,19 +18,36 @@ use indexmap::IndexMap;
 use std::alloc::Global;
 use std::rt::Clock;
 use std::sync::{Arc, Mutex, Wait};
-use tenant_registry::Key;
+use tenant_calls::TenantKey;
 use tokio::sync::mpsc;
 
 /// How many jobs wait for one tenant before its callers are held back.
 const WAITING: usize = 256;
 
-/// A tenant as it is served.
-pub struct ServedTenant<R: Wait + Drop> {
-    pub(crate) entrance: Arc<Entrance<R>>,
-    pub(crate) clients: Mutex<Clients<R>>,
+/// What a tenant is served by.
+#[derive(Clone, Copy, Debug)]
+pub struct TenantTerms {
+    /// How many bytes its clients may have under way.
+    pub budget: usize,
+    /// What of its history is kept.
+    pub retention: Retention,
 }
 
-impl<R: Wait + Drop> Drop for ServedTenant<R> {
+impl TenantTerms {
+    /// Those of a tenant of which nothing is told.
+    pub const DEFAULT: TenantTerms = TenantTerms {
+        budget: DEFAULT_BUDGET,
+        retention: Retention::All,
+    };
+}
+
+/// A tenant as it is served.
+pub struct ServedTenant<R: Wait + Drop, K: TenantKey> {
+    pub(crate) entrance: Arc<Entrance<R>>,
+    pub(crate) clients: Mutex<Clients<R, K>>,
+}
+
+impl<R: Wait + Drop, K: TenantKey> Drop for ServedTenant<R, K> {
     fn drop(self) {
         let ServedTenant {
             entrance: _,
@@ -38,16 +56,16 @@ impl<R: Wait + Drop> Drop for ServedTenant<R> {
     }
 }
 
-impl<R: Wait + Drop> ServedTenant<R> {
-    /// The tenant with these turns, whose clients may have so many bytes under way. Without a key it is not there yet.
+impl<R: Wait + Drop, K: TenantKey> ServedTenant<R, K> {
+    /// The tenant with these turns, on these terms. Without a key it is not there yet.
     fn new(
         alloc: Global,
         turns: TenantTurns,
-        budget: usize,
-        key: Option<Key>,
-    ) -> Mem<ServedTenant<R>> {
+        terms: TenantTerms,
+        key: Option<K>,
+    ) -> Mem<ServedTenant<R, K>> {
         let (queue, jobs) = mpsc::channel(alloc, WAITING)?;
-        let budget = Budget::new(alloc, budget)?;
+        let budget = Budget::new(alloc, terms.budget)?;
         let counts = Arc::new(alloc, TenantCounts::new())?;
         let clients = Clients {
             key,
@@ -57,6 +75,7 @@ impl<R: Wait + Drop> ServedTenant<R> {
             watches: Vec::new(alloc),
             next_take: 0,
             running: Running::new(),
+            standing: StandingOrder::new(alloc, terms.retention)?,
             is_slow: false,
             takes_left: 0,
             left_to_workers: 0,
@@ -98,6 +117,16 @@ impl<R: Wait + Drop> ServedTenant<R> {
         &self.entrance.counts
     }
 
+    /// The same, for whoever keeps it.
+    pub fn share_counts(&self) -> Mem<Arc<TenantCounts>> {
+        Arc::try_clone(&self.entrance.counts)
+    }
+
+    /// Has another standing order from now on.
+    pub fn change_order(&self, rt: &R, order: StandingOrder) {
+        self.clients.lock(rt).standing = order;
+    }
+
     /// Gives its clients another budget than they had. What they have under way beyond it is owed.
     pub fn change_budget(&self, before: usize, bytes: usize) {
         if bytes > before {
@@ -109,15 +138,15 @@ impl<R: Wait + Drop> ServedTenant<R> {
 }
 
 /// The tenants by their numbers.
-type Served<R> = IndexMap<u64, Arc<ServedTenant<R>>>;
+type Served<R, K> = IndexMap<u64, Arc<ServedTenant<R, K>>>;
 
 /// All tenants that are served. They are read by every turn, and written where a tenant comes or goes.
-pub struct Tenants<R: Wait + Drop> {
+pub struct Tenants<R: Wait + Drop, K: TenantKey> {
     entrances: Arc<Entrances<R>>,
-    served: ShardedLock<Served<R>>,
+    served: ShardedLock<Served<R, K>>,
 }
 
-impl<R: Wait + Drop> Drop for Tenants<R> {
+impl<R: Wait + Drop, K: TenantKey> Drop for Tenants<R, K> {
     fn drop(self) {
         let Tenants {
             entrances: _,
@@ -127,56 +156,56 @@ impl<R: Wait + Drop> Drop for Tenants<R> {
 }
 
 /// A tenant for which all memory is taken, and which only needs its key.
-pub struct NewTenant<R: Wait + Drop> {
+pub struct NewTenant<R: Wait + Drop, K: TenantKey> {
     name: Vec<u8>,
-    tenant: Arc<ServedTenant<R>>,
+    tenant: Arc<ServedTenant<R, K>>,
 }
 
-impl<R: Wait + Drop> Drop for NewTenant<R> {
+impl<R: Wait + Drop, K: TenantKey> Drop for NewTenant<R, K> {
     fn drop(self) {
         let NewTenant { name: _, tenant: _ } = self;
     }
 }
 
-impl<R: Wait + Drop> NewTenant<R> {
+impl<R: Wait + Drop, K: TenantKey> NewTenant<R, K> {
     /// The number that it will have.
     pub fn number(&self) -> u64 {
         self.tenant.number()
     }
 
-    fn into_parts(self) -> (Vec<u8>, Arc<ServedTenant<R>>) {
+    fn into_parts(self) -> (Vec<u8>, Arc<ServedTenant<R, K>>) {
         let NewTenant { name, tenant } = self;
         (name, tenant)
     }
 }
 
-impl<R: Wait + Drop> Tenants<R> {
+impl<R: Wait + Drop, K: TenantKey> Tenants<R, K> {
     /// None, with where their calls go in.
-    pub(crate) fn new(alloc: Global, entrances: Arc<Entrances<R>>) -> Mem<Tenants<R>> {
+    pub(crate) fn new(alloc: Global, entrances: Arc<Entrances<R>>) -> Mem<Tenants<R, K>> {
         Ok(Tenants {
             entrances,
             served: ShardedLock::new(alloc, IndexMap::new(alloc))?,
         })
     }
 
-    /// Serves tenants by their keys, and for each the bytes that its clients may have under way.
+    /// Serves tenants by their keys, each on its terms.
     pub(crate) fn admit_all(
         &self,
         rt: &R,
         alloc: Global,
-        keys: Vec<Key>,
-        budgets: &[usize],
+        keys: Vec<K>,
+        terms: &[TenantTerms],
     ) -> Mem<()> {
         for (place, key) in keys.into_iter().enumerate() {
-            let budget = budgets.get(place).copied().unwrap_or(DEFAULT_BUDGET);
-            let new = self.prepare(rt, alloc, key.number(), key.name(), budget)?;
+            let own = terms.get(place).copied().unwrap_or(TenantTerms::DEFAULT);
+            let new = self.prepare(rt, alloc, key.number(), key.name(), own)?;
             self.admit(rt, new, key);
         }
         Ok(())
     }
 
     /// The tenant of that name.
-    pub fn named(&self, rt: &R, shard: usize, name: &[u8]) -> Option<Arc<ServedTenant<R>>> {
+    pub fn named(&self, rt: &R, shard: usize, name: &[u8]) -> Option<Arc<ServedTenant<R, K>>> {
         let number = self.entrances.number_of(rt, shard, name)?;
         self.numbered(rt, shard, number)
     }
@@ -187,7 +216,7 @@ impl<R: Wait + Drop> Tenants<R> {
         rt: &R,
         shard: usize,
         number: u64,
-    ) -> Option<Arc<ServedTenant<R>>> {
+    ) -> Option<Arc<ServedTenant<R, K>>> {
         let served = self.served.read(rt, shard);
         Arc::try_clone(served.get(&number)?).ok()
     }
@@ -201,7 +230,7 @@ impl<R: Wait + Drop> Tenants<R> {
     }
 
     /// The tenant at a place, as long as none comes or goes.
-    pub(crate) fn at(&self, rt: &R, shard: usize, place: usize) -> Option<Arc<ServedTenant<R>>> {
+    pub(crate) fn at(&self, rt: &R, shard: usize, place: usize) -> Option<Arc<ServedTenant<R, K>>> {
         let served = self.served.read(rt, shard);
         let (_, tenant) = served.get_index(place)?;
         Arc::try_clone(tenant).ok()
@@ -217,17 +246,17 @@ impl<R: Wait + Drop> Tenants<R> {
         }
     }
 
-    /// Takes all memory that a tenant of that number and name needs, whose clients may have so many bytes under way.
+    /// Takes all memory that a tenant of that number and name needs, which is served on these terms.
     pub fn prepare(
         &self,
         rt: &R,
         alloc: Global,
         number: u64,
         name: &[u8],
-        budget: usize,
-    ) -> Mem<NewTenant<R>> {
+        terms: TenantTerms,
+    ) -> Mem<NewTenant<R, K>> {
         let turns = self.entrances.turns_of(number)?;
-        let tenant = ServedTenant::new(alloc, turns, budget, None)?;
+        let tenant = ServedTenant::new(alloc, turns, terms, None)?;
         let new = NewTenant {
             name: Vec::from_slice(alloc, name)?,
             tenant: Arc::new(alloc, tenant)?,
@@ -238,7 +267,7 @@ impl<R: Wait + Drop> Tenants<R> {
     }
 
     /// Serves a new tenant, which has this key; a key of another number opens nothing.
-    pub fn admit(&self, rt: &R, new: NewTenant<R>, key: Key) {
+    pub fn admit(&self, rt: &R, new: NewTenant<R, K>, key: K) {
         let (name, tenant) = new.into_parts();
         let number = tenant.number();
         if key.number() != number {
@@ -253,7 +282,7 @@ impl<R: Wait + Drop> Tenants<R> {
     }
 }
 
-impl<R: Wait + Clock + Copy + Drop> Tenants<R> {
+impl<R: Wait + Clock + Copy + Drop, K: TenantKey> Tenants<R, K> {
     /// Serves a tenant no more that was removed. It waits until the turn that somebody may have there has ended.
     pub fn retire(&self, rt: &R, shard: usize, alloc: Global, name: &[u8]) {
         let Some(number) = self.entrances.remove(rt, name) else {

@@ -12,7 +12,7 @@ use gateway_json::read_step;
 use std::alloc::Global;
 use std::rt::Clock;
 use std::sync::{Arc, Wait};
-use tenant_registry::{Gate, Receipt, Seat};
+use tenant_calls::{CallReceipt, TenantCalls};
 
 /// How many jobs of a tenant are served in one turn.
 const JOBS_A_TURN: usize = 8;
@@ -25,10 +25,10 @@ const BYTES_A_TURN: usize = 65_536;
 const MILLIS_A_TURN: u64 = 2;
 
 /// Serves a few jobs of each tenant whose turn it is, until there are no more turns.
-pub(crate) fn work<R: Wait + Clock + Copy + Drop, G: Gate>(
+pub(crate) fn work<R: Wait + Clock + Copy + Drop, C: TenantCalls>(
     alloc: Global,
-    thread: ServingThread<'_, R, G>,
-) -> Seat {
+    thread: ServingThread<R, C>,
+) -> C {
     let (rt, place, mut caller, shared) = thread.into_parts();
     for _ in rt.forever() {
         let Some(tenant) = shared.next_turn(&rt, place, &shared.turns.workers) else {
@@ -39,16 +39,16 @@ pub(crate) fn work<R: Wait + Clock + Copy + Drop, G: Gate>(
         };
         take_turn(rt, alloc, &mut caller, &shared.scheduler, &tenant);
     }
-    caller.into_seat()
+    caller.into_calls()
 }
 
 /// Serves a tenant's turn, which goes on to what is due next; a slow tenant may have to wait with it.
-fn take_turn<R: Wait + Clock + Copy + Drop, G: Gate>(
+fn take_turn<R: Wait + Clock + Copy + Drop, C: TenantCalls>(
     rt: R,
     alloc: Global,
-    caller: &mut Caller<'_, R, G>,
+    caller: &mut Caller<R, C>,
     scheduler: &Arc<Scheduler>,
-    tenant: &ServedTenant<R>,
+    tenant: &ServedTenant<R, C::Key>,
 ) {
     let turn = WorkerTurn {
         rt,
@@ -61,16 +61,16 @@ fn take_turn<R: Wait + Clock + Copy + Drop, G: Gate>(
 
 /// A worker's turn on a tenant.
 #[derive(Clone, Copy)]
-struct WorkerTurn<'s, 't, R: Wait + Drop> {
+struct WorkerTurn<'s, 't, R: Wait + Drop, C: TenantCalls> {
     rt: R,
     alloc: Global,
     scheduler: &'s Arc<Scheduler>,
-    tenant: &'t ServedTenant<R>,
+    tenant: &'t ServedTenant<R, C::Key>,
 }
 
-impl<R: Wait + Clock + Copy + Drop> WorkerTurn<'_, '_, R> {
+impl<R: Wait + Clock + Copy + Drop, C: TenantCalls> WorkerTurn<'_, '_, R, C> {
     /// Serves a few of a tenant's jobs, unless the tenant was slow and has to wait with its turn.
-    fn run<G: Gate>(&self, caller: &mut Caller<'_, R, G>) {
+    fn run(&self, caller: &mut Caller<R, C>) {
         let mut clients = self.tenant.clients.lock(&self.rt);
         let turns = self.tenant.turns();
         let has_long_takes = clients.takes_left > 0 && Scheduler::are_takes_due(turns);
@@ -91,7 +91,7 @@ impl<R: Wait + Clock + Copy + Drop> WorkerTurn<'_, '_, R> {
     }
 
     /// Serves the takes of a tenant where they are due and were long lately.
-    fn serve_long_takes<G: Gate>(&self, caller: &mut Caller<'_, R, G>, clients: &mut Clients<R>) {
+    fn serve_long_takes(&self, caller: &mut Caller<R, C>, clients: &mut Clients<R, C::Key>) {
         let turns = self.tenant.turns();
         if clients.takes_left > 0 && Scheduler::begins_takes(turns) {
             serve_takes(&self.rt, caller, self.scheduler, turns, clients);
@@ -99,10 +99,10 @@ impl<R: Wait + Clock + Copy + Drop> WorkerTurn<'_, '_, R> {
     }
 
     /// Serves a few of a tenant's jobs. If there may be more, the tenant comes again behind the others.
-    fn serve_jobs<G: Gate>(
+    fn serve_jobs(
         &self,
-        caller: &mut Caller<'_, R, G>,
-        clients: &mut Clients<R>,
+        caller: &mut Caller<R, C>,
+        clients: &mut Clients<R, C::Key>,
         stopwatch: &Stopwatch,
     ) {
         let mut bytes = 0usize;
@@ -135,10 +135,10 @@ impl<R: Wait + Clock + Copy + Drop> WorkerTurn<'_, '_, R> {
             .schedule(&self.rt, self.tenant.turns(), Work::Jobs);
     }
 
-    fn answer<G: Gate>(
+    fn answer(
         &self,
-        caller: &mut Caller<'_, R, G>,
-        clients: &mut Clients<R>,
+        caller: &mut Caller<R, C>,
+        clients: &mut Clients<R, C::Key>,
         call: Call,
         ask: Ask,
     ) -> Answer<R> {
@@ -165,7 +165,7 @@ impl<R: Wait + Clock + Copy + Drop> WorkerTurn<'_, '_, R> {
 
     /// The step of a long body. It is refused where the tree that is made of it is large, and the tenant's budget has no
     /// room for it.
-    fn read(&self, clients: &Clients<R>, call: Call, body: &[u8]) -> Result<Step, Refusal> {
+    fn read(&self, clients: &Clients<R, C::Key>, call: Call, body: &[u8]) -> Result<Step, Refusal> {
         let weight = tree_weight(body);
         if weight <= SMALL_TREE {
             return read_step(self.alloc, call, body);
@@ -179,10 +179,10 @@ impl<R: Wait + Clock + Copy + Drop> WorkerTurn<'_, '_, R> {
     }
 
     /// Creates a watch that stays open. Its memory is taken before.
-    fn open<G: Gate>(
+    fn open(
         &self,
-        caller: &mut Caller<'_, R, G>,
-        clients: &mut Clients<R>,
+        caller: &mut Caller<R, C>,
+        clients: &mut Clients<R, C::Key>,
         step: Step,
     ) -> Answer<R> {
         if clients.watches.reserve(1).is_err() {
@@ -199,15 +199,15 @@ impl<R: Wait + Clock + Copy + Drop> WorkerTurn<'_, '_, R> {
 }
 
 /// The answer of a watch that was created, which is kept with its tenant's clients, or of what was told instead.
-fn opened<R: Wait + Clock + Copy + Drop, G: Gate>(
-    caller: &mut Caller<'_, R, G>,
-    clients: &mut Clients<R>,
-    receipt: Receipt,
+fn opened<R: Wait + Clock + Copy + Drop, C: TenantCalls>(
+    caller: &mut Caller<R, C>,
+    clients: &mut Clients<R, C::Key>,
+    receipt: CallReceipt,
     sender: TextSender,
     texts: WatchTexts<R>,
 ) -> Answer<R> {
-    let (status, refusal) = (receipt.status(), receipt.refusal());
-    let Some(slot) = receipt.slot() else {
+    let (status, refusal) = (receipt.status, receipt.refusal);
+    let Some(slot) = receipt.slot else {
         return Answer::text(status, refusal, MadeText::short(receipt.into_body()));
     };
     let watch = OpenWatch {

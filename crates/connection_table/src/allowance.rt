@@ -1,8 +1,23 @@
-//! How long a peer may keep a connection waiting.
+//! What a tenant is told to have beside its quota, and how long a peer may keep a connection waiting.
+use auto_compaction::Retention;
 use std::time::Duration;
 
 /// The most seconds that a peer may be given: a day.
-pub(crate) const MAX_PATIENCE: u32 = 86_400;
+pub const MAX_PATIENCE: u32 = 86_400;
+
+/// How many event loops read and write the sockets of connections.
+pub const LOOPS: usize = 4;
+
+/// What the clients of a tenant may take, and what of its history is kept.
+#[derive(Clone, Copy, Debug)]
+pub struct Allowance {
+    /// How many bytes of bodies and answers may be under way.
+    pub budget: usize,
+    /// How many connections may be open; without it a quarter of those of all.
+    pub open_connections: Option<usize>,
+    /// What of its history is kept; a server compacts the rest.
+    pub retention: Retention,
+}
 
 /// How long a peer may keep a connection waiting, in seconds.
 #[derive(Clone, Copy, Debug)]

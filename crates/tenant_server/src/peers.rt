@@ -1,5 +1,5 @@
 //! What the system does about a peer that is gone or reads nothing.
-use host_config::Patience;
+use connection_table::Patience;
 use libc::net as c;
 use std::io;
 use std::net::TcpListener;

@@ -1,10 +1,10 @@
-//! How many connections there may be, and which budgets the tenants have.
-use connection_table::ConnectionTable;
+//! How many connections there may be, and what tenants are served by.
+use connection_table::{Allowance, ConnectionTable};
 use etcd_types::Mem;
-use host_config::Allowance;
 use std::alloc::Global;
 use std::rt::Clock;
 use std::time::Instant;
+use tenant_scheduler::TenantTerms;
 
 /// How many descriptors are left to what is no connection.
 const BESIDE_CONNECTIONS: u64 = 64;
@@ -29,13 +29,16 @@ pub(crate) fn connections_of_tenant(most: usize) -> usize {
     (most / TENANT_PART).max(1)
 }
 
-/// The budget of each tenant, in their order.
-pub(crate) fn budgets(alloc: Global, allowances: &[Allowance]) -> Mem<Vec<usize>> {
-    let mut budgets = Vec::with_capacity(alloc, allowances.len())?;
+/// What each tenant is served by, in their order.
+pub(crate) fn terms_of(alloc: Global, allowances: &[Allowance]) -> Mem<Vec<TenantTerms>> {
+    let mut terms = Vec::with_capacity(alloc, allowances.len())?;
     for allowance in allowances {
-        budgets.push(allowance.budget)?;
+        terms.push(TenantTerms {
+            budget: allowance.budget,
+            retention: allowance.retention,
+        })?;
     }
-    Ok(budgets)
+    Ok(terms)
 }
 
 /// The table of connections, of which so many may be open.

@@ -3,17 +3,14 @@ ghost use Rattle.std.specs.Prelude.{◌≡◌, IfOk, IfSome, None};
 
 use crate::fault::ServeFault;
 use crate::threads::Ended;
-use connection_table::{ConnectionTable, Losses, OpenConnection};
+use connection_table::{ConnectionTable, LOOPS, Losses, OpenConnection, Patience, Stopping};
 use crossbeam_channel::{Receiver, Sender, bounded};
 use etcd_types::Mem;
 use futures::executor::TaskSet;
 use futures::task::{Context, Poll};
 use futures::{Future, ready};
-use gateway_http::Gateway;
-use host_config::{LOOPS, Patience};
-use host_operator::Stopping;
+use gateway_http::{Gateway, Http};
 use hyper::rt::TokioTimer;
-use hyper::server::conn::http1;
 use std::alloc::{AllocGlobal, Global};
 use std::hash::RandomState;
 use std::os::fd::AsRawFd;
@@ -21,7 +18,7 @@ use std::random::RandomSource;
 use std::sync::Wait;
 use std::time::{Clock, Duration, Instant};
 use std::{io, net, thread};
-use tenant_registry::Gate;
+use tenant_calls::TenantCalls;
 use tenant_scheduler::{InlineCalls, Jobs, ServingThread};
 use tokio::net::TcpStream;
 use tokio::runtime::LocalRuntime;
@@ -29,9 +26,6 @@ use tokio::sync::mpsc::error::SendError;
 use tokio::sync::mpsc::{UnboundedReceiver, UnboundedSender, unbounded_channel};
 use tokio::time::Interval;
 use tokio::{reactor, time};
-
-/// How many bytes wait at a connection to be sent, before no more of an answer is handed to it.
-const MAX_UNSENT: usize = 65_536;
 
 /// How many milliseconds no connection is accepted after one could not be, for want of a file descriptor most
 /// likely.
@@ -226,8 +220,8 @@ struct Arrived {
 /// A connection for which there is no memory is closed, and nothing else happens: what is short may be there again
 /// for the next one.
 #[derive(Drop)]
-struct Connections<'a, 'x, R: Wait + Drop, G, F, T: Future> {
-    inline_calls: &'a mut InlineCalls<'x, R, G>,
+struct Connections<'a, R: Wait + Drop, C: TenantCalls, F, T: Future> {
+    inline_calls: &'a mut InlineCalls<R, C>,
     sockets: UnboundedReceiver<Accepted>,
     losses: Losses,
     reactor: reactor::Handle,
@@ -237,10 +231,10 @@ struct Connections<'a, 'x, R: Wait + Drop, G, F, T: Future> {
     beats: Option<Interval>,
 }
 
-impl<R, G, F, T> Future for Connections<'_, '_, R, G, F, T>
+impl<R, C, F, T> Future for Connections<'_, R, C, F, T>
 where
     R: Wait + Clock + Copy + Drop,
-    G: Gate,
+    C: TenantCalls,
     F: Fn(Option<Arrived>) -> Mem<T> + Drop,
     T: Future<Output = ()>,
 {
@@ -287,8 +281,8 @@ fn begin<T: Future<Output = ()>>(tasks: &TaskSet<T>, made: Mem<T>) -> bool
 
 /// What a loop works with, beside its sockets.
 #[derive(Drop)]
-struct Tools<R> {
-    http: http1::Builder<TokioTimer<R>>,
+struct Tools<R: Clock + Copy + Drop> {
+    http: Http<TokioTimer<R>>,
     timers: time::Handle,
     reactor: reactor::Handle,
 }
@@ -302,11 +296,9 @@ impl<R: Clock + RandomSource + Copy + Drop> Tools<R> {
     ) -> io::Result<Tools<R>> {
         let keys = RandomState::new(&rt)?;
         let timers = runtime.handle().time();
-        let mut http = http1::Builder::new(alloc, keys).timer(TokioTimer::new(rt, timers.clone()?));
-        http.header_read_timeout(Some(patience.for_head()));
-        http.max_buf_size(MAX_UNSENT);
+        let timer = TokioTimer::new(rt, timers.clone()?);
         Ok(Tools {
-            http,
+            http: Http::new(alloc, keys, timer, patience.for_head()),
             timers: timers.clone()?,
             reactor: runtime.handle().reactor().clone()?,
         })
@@ -314,37 +306,37 @@ impl<R: Clock + RandomSource + Copy + Drop> Tools<R> {
 }
 
 /// Serves a loop's connections, until there are no more and the last has ended.
-pub(crate) fn serve_connections<R, G>(
+pub(crate) fn serve_connections<R, C>(
     rt: R,
     alloc: Global,
     own: SocketLoop,
     jobs: Jobs<R>,
-    thread: ServingThread<'_, R, G>,
-) -> Ended
+    thread: ServingThread<R, C>,
+) -> Ended<C>
 where
     R: Wait + Clock + RandomSource + AllocGlobal + Copy + Drop,
-    G: Gate,
+    C: TenantCalls,
 {
     let Ok((jobs, inline_calls)) = jobs.with_inline_calls(alloc, own.number) else {
-        return (thread.into_seat(), Err(ServeFault::Memory));
+        return (thread.into_calls(), Err(ServeFault::Memory));
     };
     let mut inline_calls = InlineCalls::new(alloc, own.number, thread, inline_calls);
     let served = serve_sockets(rt, alloc, own, jobs, &mut inline_calls);
     let served = served.map_err(|error| ServeFault::of(&error));
-    (inline_calls.into_seat(), served)
+    (inline_calls.into_calls(), served)
 }
 
 /// Runs a loop's connections as tasks.
-fn serve_sockets<R, G>(
+fn serve_sockets<R, C>(
     rt: R,
     alloc: Global,
     own: SocketLoop,
     jobs: Jobs<R>,
-    inline_calls: &mut InlineCalls<'_, R, G>,
+    inline_calls: &mut InlineCalls<R, C>,
 ) -> io::Result<()>
 where
     R: Wait + Clock + RandomSource + AllocGlobal + Copy + Drop,
-    G: Gate,
+    C: TenantCalls,
 {
     let SocketLoop {
         mut runtime,
@@ -375,7 +367,7 @@ where
             timers: timers.clone().ok(),
             body_patience: patience.for_body(),
         };
-        Served::of(alloc, open, http.serve_connection(stream, gateway))
+        Served::of(alloc, open, http.connect(stream, gateway))
     };
     let arriving = Arriving {
         sockets,
@@ -398,16 +390,16 @@ struct Arriving {
 }
 
 /// Runs a loop's connections as tasks that a function makes; without a connection it makes one that has ended.
-fn run_tasks<R, G, F, T>(
+fn run_tasks<R, C, F, T>(
     rt: &R,
     runtime: &mut LocalRuntime,
-    inline_calls: &mut InlineCalls<'_, R, G>,
+    inline_calls: &mut InlineCalls<R, C>,
     arriving: Arriving,
     make: F,
 ) -> io::Result<()>
 where
     R: Wait + Clock + RandomSource + AllocGlobal + Copy + Drop,
-    G: Gate,
+    C: TenantCalls,
     F: Fn(Option<Arrived>) -> Mem<T> + Drop,
     T: Future<Output = ()>,
     requires callable { F.IsAlwaysCallable make }

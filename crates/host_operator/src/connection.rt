@@ -1,0 +1,56 @@
+//! A connection of the operator: hyper reads heads and writes answers, with an exchange for each request.
+//!
+//! Who serves connections needs to know nothing of what one is made of, and neither does the proof of his code.
+ghost use Rattle.hyper.specs.ServerDispatch.{Runs};
+
+use crate::requests::{OperatorExchange, OperatorGateway};
+use bytes::Bytes;
+use futures::Future;
+use futures::task::{Context, Poll};
+use http_body_util::Full;
+use hyper::Request;
+use hyper::body::{Body, Incoming};
+use hyper::rt::TokioTimer;
+use hyper::server::conn::http1;
+use hyper::service::Service;
+use std::rt::Clock;
+use tokio::io::{AsyncRead, AsyncWrite};
+use tokio::net::TcpStream;
+
+/// A connection of the operator. It is ready once it has ended.
+pub(crate) struct OperatorConnection<R: Clock + Eprint + Copy + Drop> {
+    connection: http1::Connection<TcpStream, OperatorGateway<R>, Full<Bytes>, TokioTimer<R>>,
+}
+
+impl<R: Clock + Eprint + Copy + Drop> Drop for OperatorConnection<R> {
+    fn drop(self) {
+        let OperatorConnection { connection: _ } = self;
+    }
+}
+
+impl<R: Clock + Eprint + Copy + Drop> OperatorConnection<R> {
+    /// It takes no memory until it is polled.
+    pub(crate) fn new(
+        http: &http1::Builder<TokioTimer<R>>,
+        stream: TcpStream,
+        gateway: OperatorGateway<R>,
+    ) -> OperatorConnection<R>
+        ensures { ⟦<OperatorConnection<R> as Future>⟧.can_poll result }
+    {
+        OperatorConnection {
+            connection: http.serve_connection(stream, gateway),
+        }
+    }
+}
+
+impl<R: Clock + Eprint + Copy + Drop> Future for OperatorConnection<R> {
+    type Output = hyper::Result<()>;
+
+    ghost can_poll = { λ c. Runs ⟦<TcpStream as AsyncRead>⟧ ⟦<TcpStream as AsyncWrite>⟧
+        ⟦<OperatorGateway<R> as Service<Request<Incoming<TcpStream>>>>⟧ ⟦<OperatorExchange<TcpStream, R> as Future>⟧
+        ⟦<Full<Bytes> as Body>⟧ ⟦<Bytes as Into<Bytes>>⟧ c.connection.conn };
+
+    fn poll(&mut self, cx: &mut Context<'_>) -> Poll<hyper::Result<()>> {
+        self.connection.poll(cx)
+    }
+}

@@ -1,0 +1,125 @@
+//! How the threads of a server call tenants: by keys, each with a seat of its own.
+ghost use Rattle.std.specs.Prelude.{◌≡◌};
+
+use crate::gate::Gate;
+use crate::kept::Receipt;
+use crate::key::Key;
+use crate::registry::Registry;
+use etcd_types::limits::MAX_TENANTS;
+use etcd_types::{Mem, Refusal, Step};
+use std::alloc::{AllocError, Global};
+use std::rt::Clock;
+use std::sync::Wait;
+use tenant_audit::Seat;
+use tenant_calls::{CallReceipt, TakeHint, TenantCalls};
+use tenant_machine::Hint;
+
+/// A seat by which a thread calls tenants, past a gate that may hold it back.
+#[derive(Drop)]
+pub struct SeatedCalls<'x, G> {
+    seat: Seat,
+    gate: &'x G,
+}
+
+impl<'x, G> SeatedCalls<'x, G> {
+    /// Calls with this seat.
+    pub fn new(seat: Seat, gate: &'x G) -> SeatedCalls<'x, G>
+        ensures { result.seat ≡ seat }
+    {
+        SeatedCalls { seat, gate }
+    }
+
+    /// The seat, with the calls that were made.
+    pub fn into_seat(self) -> Seat
+        ensures { result ≡ self.entry.seat }
+    {
+        let SeatedCalls { seat, gate: _ } = self;
+        seat
+    }
+}
+
+/// Which takes of a tenant's watches may not be quiet.
+#[derive(Clone, Copy, Drop)]
+pub struct WatchHint {
+    hint: Hint,
+}
+
+impl TakeHint for WatchHint {
+    fn has(&self, slot: u8) -> bool {
+        self.hint.has(slot)
+    }
+
+    fn is_far_behind(&self, slot: u8) -> bool {
+        self.hint.is_far_behind(slot)
+    }
+}
+
+/// What a server's thread is told of a receipt.
+fn told(receipt: Receipt) -> CallReceipt
+    ensures status { result.status ≡ receipt.status }
+    ensures body { result.body.items ≡ receipt.body }
+    ensures slot { result.slot ≡ receipt.slot }
+    ensures canceled { result.canceled ≡ receipt.canceled }
+    ensures refusal { result.refusal ≡ receipt.refusal }
+{
+    CallReceipt {
+        status: receipt.status(),
+        slot: receipt.slot(),
+        canceled: receipt.canceled(),
+        refusal: receipt.refusal(),
+        body: receipt.into_body(),
+    }
+}
+
+impl<G: Gate> TenantCalls for SeatedCalls<'_, G> {
+    type Key = Key;
+
+    type Hint = WatchHint;
+
+    fn call<R: Wait + Clock>(
+        &mut self,
+        rt: &R,
+        key: &Key,
+        step: Step,
+    ) -> Result<CallReceipt, Refusal> {
+        match key.call(rt, &mut self.seat, self.gate, step) {
+            Ok(receipt) => Ok(told(receipt)),
+            Err(refusal) => Err(refusal),
+        }
+    }
+
+    fn revision<R: Wait>(&self, rt: &R, key: &Key) -> Result<i64, Refusal> {
+        match key.usage(rt) {
+            Ok(usage) => Ok(usage.revision),
+            Err(refusal) => Err(refusal),
+        }
+    }
+
+    fn hint<R: Wait>(&self, rt: &R, key: &Key) -> Option<WatchHint> {
+        match key.hint(rt) {
+            Some(hint) => Some(WatchHint { hint }),
+            None => None,
+        }
+    }
+
+    fn weight<R: Wait>(&self, rt: &R, key: &Key, step: &Step, enough: u64) -> Result<u64, Refusal> {
+        key.weight(rt, step, enough)
+    }
+}
+
+impl Registry {
+    /// A key to each tenant, in the order in which they were added.
+    pub fn keys(&self, alloc: Global) -> Mem<Vec<Key>> {
+        let mut keys = Vec::new(alloc);
+        for place in 0..MAX_TENANTS {
+            let Some(name) = self.name_at(place) else {
+                break;
+            };
+            let Some(key) = self.key(Vec::from_slice(alloc, name)?)? else {
+                return Err(AllocError);
+            };
+            keys.push(key)?;
+        }
+        Ok(keys)
+    }
+}

@@ -1,0 +1,57 @@
+//! How connections come in, until the server ends.
+use crate::connections::{Acceptor, accept_all, end_connections};
+use crate::fault::ServeFault;
+use connection_table::{ConnectionTable, Stopping};
+use std::net::TcpListener;
+use std::sync::{Arc, Wait};
+use std::time::Clock;
+use std::{io, thread};
+use tenant_calls::TenantKey;
+use tenant_scheduler::Tenants;
+use tokio::sync::mpsc::UnboundedSender;
+
+/// The part of the directory of tenants that is read where the server ends.
+const SHARD: usize = 0;
+
+/// What brings connections in.
+#[derive(Drop)]
+pub(crate) struct Arrivals<R: Wait + Drop, K: TenantKey> {
+    pub(crate) acceptor: Acceptor,
+    pub(crate) listener: Arc<TcpListener>,
+    pub(crate) stopping: Arc<Stopping>,
+    pub(crate) table: ConnectionTable<R>,
+    /// After how many connections the server ends.
+    pub(crate) connections: Option<u32>,
+    pub(crate) tenants: Arc<Tenants<R, K>>,
+}
+
+impl<R: Wait + Clock + Copy + Drop, K: TenantKey> Arrivals<R, K> {
+    /// Accepts connections until the server ends. Where it was told to end, watches and connections end too.
+    pub(crate) fn accept(self, rt: R) -> Result<(), ServeFault> {
+        let Arrivals {
+            acceptor,
+            listener,
+            stopping,
+            mut table,
+            connections,
+            tenants,
+        } = self;
+        let accepted = accept_all(&rt, &listener, &stopping, acceptor, &mut table, connections);
+        if stopping.is_told() {
+            tenants.end_watches(&rt, SHARD);
+            end_connections(&rt, &table);
+        }
+        accepted
+    }
+
+    /// The same, for whoever waits until the other end of a channel is let go.
+    pub(crate) fn accept_and_tell(
+        self,
+        rt: R,
+        ending: UnboundedSender<()>,
+    ) -> Result<(), ServeFault> {
+        let accepted = self.accept(rt);
+        drop(ending);
+        accepted
+    }
+}

@@ -1,0 +1,307 @@
+//! From a socket that listens to the last connection.
+use crate::admission::{connections, connections_of_tenant, most_connections, terms_of};
+use crate::arrivals::Arrivals;
+use crate::connections::{SocketLoop, open_loops};
+use crate::fault::ServeFault;
+use crate::peers::give_up;
+use crate::threads::{run_threads, workers_of};
+use connection_table::{Allowance, LOOPS, Patience, Stopping, TenantBounds};
+use etcd_types::Mem;
+use futures::executor::block_on;
+use gateway_http::{Gateway, Http};
+use hyper::rt::NoTimer;
+use std::alloc::{AllocError, AllocGlobal};
+use std::hash::RandomState;
+use std::io;
+use std::net::{Net, SocketAddr, TcpListener};
+use std::random::RandomSource;
+use std::sync::{Arc, Wait};
+use std::thread::Threads;
+use std::time::{Clock, Instant};
+use tenant_calls::{TenantCalls, TenantKey};
+use tenant_scheduler::{Jobs, Shared, open};
+use tokio::io::{AsyncRead, AsyncWrite};
+use tokio::runtime::LocalRuntime;
+use tokio::sync::mpsc::UnboundedReceiver;
+
+/// On what terms connections are served.
+pub struct Terms {
+    /// After how many connections the server ends; without it there is no end.
+    pub connections: Option<u32>,
+    /// How many connections may be open at once; without it as many as the system allows descriptors, less 64.
+    pub open_connections: Option<usize>,
+    /// How long a peer may keep a connection waiting.
+    pub patience: Patience,
+    /// What the clients of each tenant may take, in the order of the tenants' keys.
+    pub allowances: Vec<Allowance>,
+}
+
+impl Drop for Terms {
+    fn drop(self) {
+        let Terms {
+            connections: _,
+            open_connections: _,
+            patience: _,
+            allowances: _,
+        } = self;
+    }
+}
+
+impl Terms {
+    /// How many connections may be open at once.
+    fn most(&self) -> usize {
+        self.open_connections.unwrap_or(most_connections())
+    }
+}
+
+/// A socket that listens, and what its connections may take.
+pub struct Listening {
+    runtimes: Vec<LocalRuntime>,
+    listener: TcpListener,
+    terms: Terms,
+}
+
+impl Drop for Listening {
+    fn drop(self) {
+        let Listening {
+            runtimes: _,
+            listener: _,
+            terms: _,
+        } = self;
+    }
+}
+
+impl Listening {
+    /// Listens at an address.
+    pub fn bind<R>(rt: &R, address: SocketAddr, terms: Terms) -> io::Result<Listening>
+    where
+        R: Threads + Clock + Net + RandomSource + AllocGlobal,
+    {
+        let runtimes = make_runtimes(rt)?;
+        let listener = bind(rt, address, terms.patience)?;
+        Ok(Listening {
+            runtimes,
+            listener,
+            terms,
+        })
+    }
+
+    /// The address that clients connect to.
+    pub fn address(&self) -> io::Result<SocketAddr> {
+        self.listener.local_addr()
+    }
+
+    fn into_parts(self) -> (Vec<LocalRuntime>, TcpListener, Terms) {
+        let Listening {
+            runtimes,
+            listener,
+            terms,
+        } = self;
+        (runtimes, listener, terms)
+    }
+}
+
+/// A server that is about to run: whoever takes tenants in and out meanwhile is told here by what.
+pub struct Opened<R: Wait + Drop, K: TenantKey> {
+    threads: (Jobs<R>, Arc<Shared<R, K>>),
+    loops: Vec<SocketLoop>,
+    arrivals: Arrivals<R, K>,
+    connections_of_tenant: usize,
+}
+
+impl<R: Wait + Drop, K: TenantKey> Drop for Opened<R, K> {
+    fn drop(self) {
+        let Opened {
+            threads: _,
+            loops: _,
+            arrivals: _,
+            connections_of_tenant: _,
+        } = self;
+    }
+}
+
+impl<R: Wait + Clock + Drop, K: TenantKey> Opened<R, K> {
+    /// What the threads that serve tenants share.
+    pub fn shared(&self) -> &Arc<Shared<R, K>> {
+        let (_, shared) = &self.threads;
+        shared
+    }
+
+    /// How many connections each tenant may have, for whoever changes that; an error where there is no memory.
+    pub fn bounds(&self) -> Mem<TenantBounds> {
+        self.arrivals.table.bounds()
+    }
+
+    /// How many connections a tenant may have where nothing is told.
+    pub fn connections_of_tenant(&self) -> usize {
+        self.connections_of_tenant
+    }
+
+    /// Whether connections are accepted, for whoever tells the server to end.
+    pub fn stopping(&self) -> &Arc<Stopping> {
+        &self.arrivals.stopping
+    }
+}
+
+impl<R, K> Opened<R, K>
+where
+    R: Wait + Threads + Clock + RandomSource + AllocGlobal + Copy + Drop + Send + Sync + 'static,
+    K: TenantKey + Send,
+{
+    /// The server of the tenants that have these keys, with so many threads.
+    pub fn of(
+        rt: R,
+        listening: Listening,
+        keys: Vec<K>,
+        count: usize,
+    ) -> Result<Opened<R, K>, ServeFault> {
+        let (runtimes, listener, terms) = listening.into_parts();
+        let alloc = rt.alloc();
+        let start = Instant::now(&rt).map_err(|error| ServeFault::of(&error))?;
+        let most = terms.most();
+        let allowances = terms.allowances.as_slice();
+        let of_tenants = terms_of(alloc, allowances)?;
+        let table = connections(rt, alloc, start, most, allowances)?;
+        let (acceptor, loops) = open_loops(alloc, runtimes, terms.patience, start, &table)?;
+        let workers = workers_of(count, loops.len());
+        let listener = Arc::new(alloc, listener).map_err(AllocError::from)?;
+        let stopping = Stopping::new(Arc::try_clone(&listener)?);
+        let threads = open(&rt, alloc, keys, of_tenants.as_slice(), count, workers)?;
+        let arrivals = Arrivals {
+            acceptor,
+            listener,
+            stopping: Arc::new(alloc, stopping).map_err(AllocError::from)?,
+            table,
+            connections: terms.connections,
+            tenants: Arc::try_clone(threads.1.tenants())?,
+        };
+        Ok(Opened {
+            threads,
+            loops,
+            arrivals,
+            connections_of_tenant: connections_of_tenant(most),
+        })
+    }
+
+    /// Runs it until as many connections as were told have ended, and gives back what its threads called tenants by. There
+    /// has to be one for the clock, the pump, the catch-up worker and each of the four loops; every other one is a worker's.
+    /// With fewer than eight, or where a thread can't be made, that is out of memory.
+    pub fn run<C>(self, rt: R, calls: Vec<C>) -> Result<Vec<C>, ServeFault>
+    where
+        C: TenantCalls<Key = K> + Send,
+        C::Hint: Send,
+    {
+        let Opened {
+            threads,
+            loops,
+            arrivals,
+            connections_of_tenant: _,
+        } = self;
+        let bring = move |_jobs, _ended| arrivals.accept(rt);
+        run_threads(rt, threads, calls, loops, None, bring)
+    }
+
+    /// The same, while other work is done on this thread, as that of an operator who has the registry to himself. The
+    /// work is to go on until the other end of its channel is let go: until the server ends.
+    pub fn run_beside<C, W>(self, rt: R, calls: Vec<C>, work: W) -> Result<Vec<C>, ServeFault>
+    where
+        C: TenantCalls<Key = K> + Send,
+        C::Hint: Send,
+        W: FnOnce(UnboundedReceiver<()>) -> io::Result<()> + Drop,
+        requires { W.IsAlwaysCallable work }
+    {
+        let Opened {
+            threads,
+            loops,
+            arrivals,
+            connections_of_tenant: _,
+        } = self;
+        let bring = move |_jobs, ended| {
+            if let Some(ended) = ended {
+                let _ = work(ended);
+            }
+            Ok(())
+        };
+        run_threads(rt, threads, calls, loops, Some(arrivals), bring)
+    }
+}
+
+/// Serves what a function brings, over streams of any kind by `serve_one`, until it returns; all connections have to have
+/// ended by then. The threads are as for `Opened::run`, but for those of the loops, of which there is none. Each tenant
+/// has the budget that it has where nothing is told.
+pub fn serve_with<R, C, B>(
+    rt: R,
+    keys: Vec<C::Key>,
+    calls: Vec<C>,
+    bring: B,
+) -> Result<Vec<C>, ServeFault>
+where
+    R: Wait + Threads + Clock + RandomSource + AllocGlobal + Copy + Drop + Send + Sync + 'static,
+    C: TenantCalls + Send,
+    C::Key: Send,
+    C::Hint: Send,
+    B: FnOnce(Jobs<R>) -> Result<(), ServeFault> + Drop,
+    requires { B.IsAlwaysCallable bring }
+{
+    let alloc = rt.alloc();
+    let workers = workers_of(calls.len(), 0);
+    let opened = open(&rt, alloc, keys, &[], calls.len(), workers)?;
+    let bring = move |jobs, _ended| bring(jobs);
+    run_threads(rt, opened, calls, Vec::new(alloc), None, bring)
+}
+
+/// How a connection ended.
+#[derive(Clone, Copy, Debug, PartialEq, Eq)]
+pub enum End {
+    Finished,
+    /// Its stream failed, or what came was no HTTP.
+    Fault,
+}
+
+/// Serves one connection over any stream, by the jobs that `serve_with` uses. It waits for its peer however long that
+/// takes.
+pub fn serve_one<R, I>(rt: R, jobs: &Jobs<R>, io: I) -> End
+where
+    R: Wait + Clock + RandomSource + AllocGlobal + Copy + Drop,
+    I: AsyncRead + AsyncWrite + Drop,
+{
+    let alloc = rt.alloc();
+    let Ok(keys) = RandomState::new(&rt) else {
+        return End::Fault;
+    };
+    let http = Http::new(alloc, keys, NoTimer, Patience::DEFAULT.for_head());
+    let jobs = jobs.share();
+    let gateway = Gateway {
+        rt,
+        alloc,
+        jobs,
+        requests: None,
+        timers: None,
+        body_patience: Patience::DEFAULT.for_body(),
+    };
+    match block_on(&rt, http.connect(io, gateway)) {
+        Ok(Ok(())) => End::Finished,
+        _ => End::Fault,
+    }
+}
+
+/// A runtime for each loop.
+fn make_runtimes<R>(rt: &R) -> io::Result<Vec<LocalRuntime>>
+where
+    R: Clock + Net + RandomSource + AllocGlobal,
+{
+    let mut runtimes = Vec::new(rt.alloc());
+    for _ in 0..LOOPS {
+        runtimes.push(LocalRuntime::new(rt)?)?;
+    }
+    Ok(runtimes)
+}
+
+/// A socket that waits in `accept`, with the longest queue of connections that the system allows, whose peers the
+/// system gives up.
+fn bind<R: Net>(rt: &R, address: SocketAddr, patience: Patience) -> io::Result<TcpListener> {
+    let listener = TcpListener::from(mio::net::TcpListener::bind(rt, address)?);
+    listener.set_nonblocking(false)?;
+    give_up(&listener, patience)?;
+    Ok(listener)
+}

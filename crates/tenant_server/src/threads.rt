@@ -1,0 +1,209 @@
+//! The threads of the server: the event loops, and those that serve tenants beside them.
+
+use crate::arrivals::Arrivals;
+use crate::connections::{SocketLoop, serve_connections};
+use crate::fault::ServeFault;
+use fair_turns::BESIDE_WORKERS;
+use std::alloc::{AllocGlobal, Global};
+use std::random::RandomSource;
+use std::sync::{Arc, Wait};
+use std::thread;
+use std::thread::{JoinHandle, SpawnError, Threads};
+use std::time::Clock;
+use tenant_calls::TenantCalls;
+use tenant_scheduler::{Jobs, Service, ServingThread, Shared};
+use tokio::sync::mpsc::{UnboundedReceiver, unbounded_channel};
+
+/// How many of so many threads are workers, beside so many loops.
+pub(crate) fn workers_of(threads: usize, loops: usize) -> usize {
+    threads.saturating_sub(loops.saturating_add(BESIDE_WORKERS))
+}
+
+/// Runs a function that brings connections, or their calls, and serves them by a thread for each way to call tenants: the
+/// clock, the pump, the catch-up worker, the event loops that are given, and workers. It gives these ways back. Where
+/// connections are accepted beside it, the function is told when the server ends, and does other work until then.
+pub(crate) fn run_threads<R, C, B>(
+    rt: R,
+    opened: (Jobs<R>, Arc<Shared<R, C::Key>>),
+    calls: Vec<C>,
+    loops: Vec<SocketLoop>,
+    beside: Option<Arrivals<R, C::Key>>,
+    bring: B,
+) -> Result<Vec<C>, ServeFault>
+where
+    R: Wait + Threads + Clock + RandomSource + AllocGlobal + Copy + Drop + Send + Sync + 'static,
+    C: TenantCalls + Send,
+    C::Key: Send,
+    C::Hint: Send,
+    B: FnOnce(Jobs<R>, Option<UnboundedReceiver<()>>) -> Result<(), ServeFault> + Drop,
+    requires { B.IsAlwaysCallable bring }
+{
+    let alloc = rt.alloc();
+    let roles = calls.len();
+    let mut loops = loops;
+    let (jobs, shared) = opened;
+    thread::scope(
+        thread::scope_env(),
+        &rt,
+        |scope|
+            requires brings { B.IsAlwaysCallable bring }
+        {
+            let mut group = ThreadGroup::new(alloc);
+            for (place, own_calls) in calls.into_iter().enumerate() {
+                let Ok(own) = Arc::try_clone(&shared) else {
+                    break;
+                };
+                let Some(role) = Role::at(place, &mut loops, &jobs) else {
+                    break;
+                };
+                let ends = role.ends();
+                let thread = ServingThread::new(rt, place, own_calls, own);
+                let made = scope.spawn(move || serve(rt, alloc, role, thread));
+                if !group.keep(ends, made) {
+                    break;
+                }
+            }
+            let mut is_whole = group.is_whole(roles) && loops.is_empty();
+            let mut acceptor = None;
+            let mut ended = None;
+            if let Some(arrivals) = beside {
+                match unbounded_channel(alloc) {
+                    Ok((sender, receiver)) if is_whole => {
+                        let made = scope.spawn(move || arrivals.accept_and_tell(rt, sender));
+                        acceptor = made.ok();
+                        ended = Some(receiver);
+                    }
+                    _ => drop(arrivals),
+                }
+                is_whole = acceptor.is_some();
+            }
+            let brought = if is_whole {
+                bring(jobs, ended)
+            } else {
+                drop(jobs);
+                drop(bring);
+                drop(ended);
+                Err(ServeFault::Memory)
+            };
+            let accepted = match acceptor {
+                Some(thread) => thread.join(&rt),
+                None => Ok(()),
+            };
+            let brought = brought.and(accepted);
+            let (mut back, served) = group.join(&rt, alloc, &shared, roles);
+            brought.and(served)?;
+            shared.free_slots(rt, &mut back);
+            Ok(back)
+        },
+    )
+}
+
+/// What a thread called tenants by, which it gives back, and how its work ended.
+pub(crate) type Ended<C> = (C, Result<(), ServeFault>);
+
+/// When a thread ends.
+#[derive(Clone, Copy)]
+enum Ends {
+    /// With its last connection.
+    WithConnections,
+    /// When there are no more turns.
+    WithTurns,
+}
+
+/// The threads that are at work.
+#[derive(Drop)]
+struct ThreadGroup<C> {
+    loops: Vec<JoinHandle<Ended<C>>>,
+    others: Vec<JoinHandle<Ended<C>>>,
+}
+
+impl<C: TenantCalls> ThreadGroup<C> {
+    fn new(alloc: Global) -> ThreadGroup<C> {
+        ThreadGroup {
+            loops: Vec::new(alloc),
+            others: Vec::new(alloc),
+        }
+    }
+
+    /// Keeps a thread that could be made.
+    fn keep<F: Drop>(
+        &mut self,
+        ends: Ends,
+        made: Result<JoinHandle<Ended<C>>, SpawnError<F>>,
+    ) -> bool {
+        match (made, ends) {
+            (Ok(thread), Ends::WithConnections) => self.loops.push(thread).is_ok(),
+            (Ok(thread), Ends::WithTurns) => self.others.push(thread).is_ok(),
+            (Err(_), _) => false,
+        }
+    }
+
+    /// Waits for the event loops, ends the turns, and waits for the others. It gives back what they called tenants by, and
+    /// how the loops ended.
+    fn join<R: Threads + Wait + Clock + Copy + Drop>(
+        self,
+        rt: &R,
+        alloc: Global,
+        shared: &Shared<R, C::Key>,
+        roles: usize,
+    ) -> (Vec<C>, Result<(), ServeFault>) {
+        let ThreadGroup { loops, others } = self;
+        let mut calls = Vec::new(alloc);
+        let mut served = Ok(());
+        for thread in loops {
+            let (own, end) = thread.join(rt);
+            let _ = calls.push(own);
+            served = served.and(end);
+        }
+        shared.stop(rt, roles);
+        for thread in others {
+            let (own, _) = thread.join(rt);
+            let _ = calls.push(own);
+        }
+        (calls, served)
+    }
+
+    /// There is a thread for each role, and a worker among them.
+    fn is_whole(&self, roles: usize) -> bool {
+        let others = self.others.len();
+        self.loops.len().saturating_add(others) == roles && others > BESIDE_WORKERS
+    }
+}
+
+/// What a thread does.
+#[derive(Drop)]
+enum Role<R: Wait + Drop> {
+    Loop(SocketLoop, Jobs<R>),
+    Service(Service),
+}
+
+impl<R: Wait + Drop> Role<R> {
+    /// The role of the thread at a place; behind the first three come the event loops. None where there is no memory.
+    fn at(place: usize, loops: &mut Vec<SocketLoop>, jobs: &Jobs<R>) -> Option<Role<R>> {
+        if place >= BESIDE_WORKERS
+            && let Some(own) = loops.pop()
+        {
+            return Some(Role::Loop(own, jobs.share()?));
+        }
+        Some(Role::Service(Service::at(place)))
+    }
+
+    fn ends(&self) -> Ends {
+        match self {
+            Role::Loop(_, _) => Ends::WithConnections,
+            Role::Service(_) => Ends::WithTurns,
+        }
+    }
+}
+
+/// A thread's work, until there are no more turns or connections.
+fn serve<R, C>(rt: R, alloc: Global, role: Role<R>, thread: ServingThread<R, C>) -> Ended<C>
+where
+    R: Wait + Clock + RandomSource + AllocGlobal + Copy + Drop,
+    C: TenantCalls,
+{
+    match role {
+        Role::Loop(own, jobs) => serve_connections(rt, alloc, own, jobs, thread),
+        Role::Service(service) => (service.run(alloc, thread), Ok(())),
+    }
+}
