@@ -18,6 +18,9 @@ MAX_BODY = 2_097_152
 SEGMENT_LEAST = 64 * 56
 SEGMENT_MOST = 64 * 200
 TENANT_MOST = 131_072
+# What a standing order notes at the most, and the bytes of a note.
+MAX_NOTES = 7_201
+NOTE_BYTES = 16
 # Of a segment that no tenant has: its place in a list, and what the allocator keeps of it.
 SEGMENT_LISTED = 64
 # What may be configured.
@@ -102,6 +105,7 @@ class Tenant(NamedTuple):
     audit: int
     budget: int
     connections: int
+    has_order: bool
 
     def segments(self):
         return -(-self.quota // SEGMENT_CELLS)
@@ -170,7 +174,8 @@ def tenant_of(of, part):
     budget = DEFAULT_BUDGET + QUOTAS_A_BUDGET * CELL_BYTES * quota
     return Tenant(name, quota, audit=number(of, "audit", 0, 0, MAX_AUDIT),
                   budget=number(of, "budget", budget, MIN_BUDGET, MAX_BUDGET),
-                  connections=number(of, "open_connections", part, 1, MAX_U32))
+                  connections=number(of, "open_connections", part, 1, MAX_U32),
+                  has_order=of.get("auto_compaction_retention") not in (None, 0, "0"))
 
 
 def tenants_of(config, segments, part):
@@ -226,7 +231,8 @@ def read(path, descriptors):
 def rooms(host):
     """What keeps track of the tenants' cells, beside the cells themselves, and of the segments."""
     of_tenants = sum(tenant.segments() * (SEGMENT_MOST - SEGMENT_LEAST) + TENANT_MOST for tenant in host.tenants)
-    return of_tenants + host.segments * SEGMENT_LISTED
+    noted = sum(MAX_NOTES * NOTE_BYTES for tenant in host.tenants if tenant.has_order)
+    return of_tenants + noted + host.segments * SEGMENT_LISTED
 
 
 def text_most(quota):

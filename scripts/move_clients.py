@@ -19,7 +19,7 @@ from lease import Lease
 
 PUTTERS = 2
 KEYS = 8
-PAUSE = 0.01
+PAUSE = 0.03
 TTL = 12
 NUMBERS = b"n/"
 
