@@ -6,7 +6,8 @@ second of three; the other two keep their whole history.
 import re
 import time
 
-from server_client import ALL, Server, configuration, created_line, put_event, tenant_of, text, want
+from server_client import (ALL, KEY, PUT, Server, configuration, created_line, done, events_line, put_event, tenant_of, text,
+                           want)
 
 PERIOD = 10
 COMPACTED = "required revision has been compacted"
@@ -50,8 +51,8 @@ def history_goes_after_its_time(program):
             want(told_at(client, name, 2), "another tenant was compacted")
 
 
-def a_watch_is_told_before_its_history_goes(program):
-    """A client that reads is cancelled for nothing: each event comes, also of what is compacted soon after."""
+def a_watch_is_told_each_event_beside_compactions(program):
+    """A client that reads is cancelled for nothing: each event comes, also of what is compacted soon after it."""
     with three(program, auto_compaction_retention="2s") as server, server.connect() as client:
         with server.watch("two", f"{{{ALL}}}") as watch:
             watch.expect_line(created_line(1))
@@ -63,4 +64,18 @@ def a_watch_is_told_before_its_history_goes(program):
         want(not told_at(client, "two", 2), "nothing was compacted")
 
 
-TESTS = [history_goes_after_its_time, a_watch_is_told_before_its_history_goes]
+def a_quiet_watch_outlives_compactions(program):
+    """A watch of a key that nobody puts is brought on before each compaction, and told of the first put."""
+    puts = 16
+    with three(program, auto_compaction_retention="2s") as server, server.connect() as client:
+        with server.watch("two", KEY) as watch:
+            watch.expect_line(created_line(1))
+            for number in range(puts):
+                put(client, "two", number)
+                time.sleep(0.5)
+            want(not told_at(client, "two", 2), "nothing was compacted")
+            client.expect("two", "kv/put", PUT, done(puts + 2))
+            watch.expect_line(events_line([put_event("YQ==", puts + 2, puts + 2, "MQ==", 1)], puts + 2))
+
+
+TESTS = [history_goes_after_its_time, a_watch_is_told_each_event_beside_compactions, a_quiet_watch_outlives_compactions]
