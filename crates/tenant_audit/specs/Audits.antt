@@ -107,6 +107,14 @@ end_of a = state_after_acts (opening_of a.opening) (acts_of a)
 abbrev pub IsOpen : Log → Type 0
 IsOpen a = length a.entries < a.opening.cap
 
+-- A state of the written machine to which a tenant's acts have led from its opening: those of its audit, and then those
+-- that came once that was full.
+pub record LeadsTo (log : Log) (S : State History) : Type 0 where
+  pub lawful : IsLawful log
+  pub later : List Act
+  pub none : IsOpen log → later ≡ []
+  pub is : S ≡ state_after_acts (end_of log) later
+
 -- the place of the next entry, unless the audit is full
 abbrev pub turn_of : Log → Option ℕ
 turn_of a = if nat_lt (length a.entries) a.opening.cap then Some (length a.entries) else None

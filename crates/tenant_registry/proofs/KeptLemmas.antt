@@ -27,12 +27,12 @@ use Rattle.tenant_machine.specs.Plans.{Plan, Plans, IsAfter, Steps}
 use Rattle.tenant_audit.specs.declared.audit.Entry.{Entry}
 use Rattle.tenant_audit.specs.declared.audit.Opening.{Opening}
 use Rattle.tenant_registry.specs.declared.kept.Served.{Served}
-use Rattle.tenant_audit.specs.Audits.{Act, Asked, Resized, Log, IsOpen, acts_after, acts_of, at_quota, entry, replies_of, replies_to_acts, resized_after, state_after_acts, opened_log, opening_of, first_of, end_of, turn_of, with_entry, with_entry_at, with_change, with_change_at}
+use Rattle.tenant_audit.specs.Audits.{Act, Asked, Resized, LeadsTo, Log, IsOpen, acts_after, acts_of, at_quota, entry, replies_of, replies_to_acts, resized_after, state_after_acts, opened_log, opening_of, first_of, end_of, turn_of, with_entry, with_entry_at, with_change, with_change_at}
 use Rattle.tenant_registry.specs.Keeping.{Content, IsKept, loan_of, segments_of}
 use Rattle.tenant_audit.specs.Receipts.{slip_of}
 use Rattle.tenant_audit.specs.Seats.{call_at}
 use Rattle.tenant_registry.specs.Removing.{GivesBack}
-use Rattle.tenant_registry.specs.Serving.{Serves, ServesThere, IsServed, LeadsTo}
+use Rattle.tenant_registry.specs.Serving.{Serves, ServesThere, IsServed}
 
 -- ---- runs
 

@@ -6,3 +6,4 @@ pub mod RegistryLemmas
 pub mod ResizingLemmas
 pub mod RemovingLemmas
 pub mod SeatLemmas
+pub mod SeatedLemmas

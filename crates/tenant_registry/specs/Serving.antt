@@ -1,5 +1,5 @@
 -- What one step under a tenant's lock leaves.
-use Rattle.std.specs.Prelude.{◌≡◌, ◌≢◌, ℕ, List, [], Option, Some}
+use Rattle.std.specs.Prelude.{◌≡◌, ◌≢◌, ℕ, Option, Some}
 use Rattle.std.specs.List.Sorted.{IsPermutation}
 use Rattle.etcd_types.specs.declared.step.Step.{Step}
 use Rattle.etcd_types.specs.declared.refusal.Refusal.TheVariants.{Memory}
@@ -10,18 +10,10 @@ use Rattle.tenant_registry.specs.declared.kept.Served.{Served}
 use Rattle.etcd_model.specs.declared.state.History.{History}
 use Rattle.etcd_model.specs.declared.state.State.{State}
 use Rattle.etcd_model.specs.Machine.{machine}
-use Rattle.tenant_audit.specs.Audits.{Act, IsLawful, IsOpen, Log, end_of, entry, state_after_acts, turn_of, with_entry_at}
+use Rattle.tenant_audit.specs.Audits.{LeadsTo, Log, entry, turn_of, with_entry_at}
 use Rattle.tenant_registry.specs.Keeping.{Content, segments_of}
 use Rattle.tenant_audit.specs.Receipts.{Slip, slip_of}
 use Rattle.tenant_audit.specs.Seats.{call_at}
-
--- A state of the written machine to which a tenant's acts have led from its opening: those of its audit, and then those
--- that came once that was full.
-pub record LeadsTo (log : Log) (S : State History) : Type 0 where
-  pub lawful : IsLawful log
-  pub later : List Act
-  pub none : IsOpen log → later ≡ []
-  pub is : S ≡ state_after_acts (end_of log) later
 
 -- The receipt of one call on the tenant of its number, by a seat: the text is that of the written machine's reply to
 -- this step, in a state of that tenant.

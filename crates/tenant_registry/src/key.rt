@@ -3,7 +3,7 @@
 //! A key is to one tenant for as long as it lives. Where the tenant was removed it finds nothing, also if another
 //! tenant was added since.
 ghost use Rattle.std.specs.Prelude.{◌≡◌, IfErr, IfOk, IfSome, OnErr};
-ghost use Rattle.tenant_registry.specs.Calling.{IsUncalled};
+ghost use Rattle.tenant_calls.specs.Answers.{IsUncalled};
 ghost use Rattle.tenant_registry.specs.Serving.{IsReceipt};
 ghost use Rattle.tenant_audit.specs.Seats.{Keeps, KeepsLists};
 
@@ -128,6 +128,8 @@ impl Key {
 }
 
 impl TenantKey for Key {
+    ghost number_of = { λ key. key.number };
+
     fn name(&self) -> &[u8] {
         self.name.as_slice()
     }

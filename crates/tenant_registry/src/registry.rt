@@ -13,7 +13,7 @@ ghost use Rattle.tenant_registry.specs.Removing.{remove_fault, without};
 ghost use Rattle.tenant_registry.specs.Resizing.{CanResize, IsUnresized};
 ghost use Rattle.tenant_audit.specs.Seats.{Keeps, KeepsLists};
 ghost use Rattle.tenant_registry.specs.Serving.{IsReceipt, IsServed, ServesThere};
-ghost use Rattle.tenant_registry.specs.Calling.{IsUncalled};
+ghost use Rattle.tenant_calls.specs.Answers.{IsUncalled};
 
 use crate::adding::{TenantConfig, admit, check, left_of};
 use crate::close::close;

@@ -1,5 +1,6 @@
 //! How the threads of a server call tenants: by keys, each with a seat of its own.
-ghost use Rattle.std.specs.Prelude.{◌≡◌};
+ghost use Rattle.std.specs.Prelude.{◌≡◌, IfErr, IfOk};
+ghost use Rattle.tenant_calls.specs.Answers.{IsTold, IsUncalled};
 
 use crate::gate::Gate;
 use crate::kept::Receipt;
@@ -76,12 +77,16 @@ impl<G: Gate> TenantCalls for SeatedCalls<'_, G> {
 
     type Hint = WatchHint;
 
+    #[tactic(auto, using(crate::proofs::SeatedLemmas::told_of))]
     fn call<R: Wait + Clock>(
         &mut self,
         rt: &R,
         key: &Key,
         step: Step,
-    ) -> Result<CallReceipt, Refusal> {
+    ) -> Result<CallReceipt, Refusal>
+        ensures told { IfOk result (λ receipt. IsTold key.now.number step receipt) }
+        ensures refused { IfErr result (λ r. IsUncalled r) }
+    {
         match key.call(rt, &mut self.seat, self.gate, step) {
             Ok(receipt) => Ok(told(receipt)),
             Err(refusal) => Err(refusal),
@@ -102,7 +107,9 @@ impl<G: Gate> TenantCalls for SeatedCalls<'_, G> {
         }
     }
 
-    fn weight<R: Wait>(&self, rt: &R, key: &Key, step: &Step, enough: u64) -> Result<u64, Refusal> {
+    fn weight<R: Wait>(&self, rt: &R, key: &Key, step: &Step, enough: u64) -> Result<u64, Refusal>
+        ensures { IfErr result (λ r. IsUncalled r) }
+    {
         key.weight(rt, step, enough)
     }
 }
