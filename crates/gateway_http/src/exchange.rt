@@ -1,6 +1,9 @@
 //! One exchange of a connection: a request is read, its call is begun, and its answer is awaited.
 ghost use Rattle.futures.specs.Task.{IsArmed, Keeps};
 ghost use Rattle.futures.specs.Poll.{OnPending};
+ghost use Rattle.fair_turns.specs.Texts.{bytes_of};
+ghost use Rattle.gateway_http.specs.Requests.{IsBegun};
+ghost use Rattle.tenant_calls.specs.Answers.{Refuses};
 
 use crate::response::{ResponseBody, respond};
 use crate::routing::route;
@@ -21,7 +24,8 @@ use std::mem;
 use std::rt::Clock;
 use std::sync::Wait;
 use std::time::Duration;
-use tenant_scheduler::{Begun, Jobs, PendingCall, RequestBody, Route};
+use tenant_calls::Route;
+use tenant_scheduler::{Begun, InlineService, Jobs, PendingCall, RequestBody};
 use tokio::time;
 
 /// How many pieces of a body are read in one poll.
@@ -36,13 +40,15 @@ const BYTES_A_POLL: usize = 16_384;
 const MAX_PASSED: u32 = 4096;
 
 /// Begins an exchange for each request of a connection.
-pub struct Gateway<R: Wait + Clock + Drop> {
+pub struct Gateway<R: Wait + Clock + Drop, S: InlineService<R>> {
     /// The runtime.
     pub rt: R,
     /// What takes memory.
     pub alloc: Global,
     /// Where calls go in; none where there was no memory to share it.
     pub jobs: Option<Jobs<R>>,
+    /// What brief calls are served by.
+    pub inline: S,
     /// None where the connection is in no table.
     pub requests: Option<Requests<R>>,
     /// None where a body is waited for however long it takes.
@@ -51,12 +57,13 @@ pub struct Gateway<R: Wait + Clock + Drop> {
     pub body_patience: Duration,
 }
 
-impl<R: Wait + Clock + Drop> Drop for Gateway<R> {
+impl<R: Wait + Clock + Drop, S: InlineService<R>> Drop for Gateway<R, S> {
     fn drop(self) {
         let Gateway {
             rt: _,
             alloc: _,
             jobs: _,
+            inline: _,
             requests: _,
             timers: _,
             body_patience: _,
@@ -65,21 +72,23 @@ impl<R: Wait + Clock + Drop> Drop for Gateway<R> {
 }
 
 /// The exchange of one request.
-pub struct Exchange<I, R: Wait + Clock + Drop> {
+pub struct Exchange<I, R: Wait + Clock + Drop, S: InlineService<R>> {
     rt: R,
     alloc: Global,
     /// None where there was no memory to share them.
     jobs: Option<Jobs<R>>,
+    inline: S,
     standing: Standing<R>,
     stage: Stage<I, R>,
 }
 
-impl<I: Drop, R: Wait + Clock + Drop> Drop for Exchange<I, R> {
+impl<I: Drop, R: Wait + Clock + Drop, S: InlineService<R>> Drop for Exchange<I, R, S> {
     fn drop(self) {
         let Exchange {
             rt: _,
             alloc: _,
             jobs: _,
+            inline: _,
             standing: _,
             stage: _,
         } = self;
@@ -121,14 +130,19 @@ struct Reading<I, R: Wait + Drop> {
     passed: u32,
 }
 
-impl<I: Drop, R: Wait + Clock + Copy + Drop> Service<Request<Incoming<I>>> for Gateway<R> {
+impl<I, R, S> Service<Request<Incoming<I>>> for Gateway<R, S>
+where
+    I: Drop,
+    R: Wait + Clock + Copy + Drop,
+    S: InlineService<R>,
+{
     type Response = Response<ResponseBody<R>>;
 
     type Error = hyper::Error;
 
-    type Future = Exchange<I, R>;
+    type Future = Exchange<I, R, S>;
 
-    fn call(&self, req: Request<Incoming<I>>) -> Exchange<I, R> {
+    fn call(&self, req: Request<Incoming<I>>) -> Exchange<I, R, S> {
         let jobs = match &self.jobs {
             Some(jobs) => jobs.share(),
             None => None,
@@ -144,6 +158,7 @@ impl<I: Drop, R: Wait + Clock + Copy + Drop> Service<Request<Incoming<I>>> for G
             rt: self.rt,
             alloc: self.alloc,
             jobs,
+            inline: self.inline.share(),
             standing,
             stage: Stage::Reading(Reading {
                 route,
@@ -160,7 +175,7 @@ impl<I: Drop, R: Wait + Clock + Copy + Drop> Service<Request<Incoming<I>>> for G
     }
 }
 
-impl<R: Wait + Clock + Copy + Drop> Gateway<R> {
+impl<R: Wait + Clock + Copy + Drop, S: InlineService<R>> Gateway<R, S> {
     /// The route of a request, and how the connection stands to its tenant.
     fn route<B>(
         &self,
@@ -309,7 +324,15 @@ impl<I: Drop, R: Wait + Clock + Copy + Drop> Reading<I, R> {
     }
 
     /// Begins the call of a request that was read, or refuses it.
-    fn begin(self, rt: R, alloc: Global, jobs: &Option<Jobs<R>>) -> Begun<R> {
+    fn begin<S: InlineService<R>>(
+        self,
+        rt: R,
+        alloc: Global,
+        jobs: &Option<Jobs<R>>,
+        inline: &S,
+    ) -> Begun<R>
+        ensures { IsBegun self.route self.lost self.read.items result }
+    {
         let Reading {
             route,
             body: _,
@@ -321,23 +344,40 @@ impl<I: Drop, R: Wait + Clock + Copy + Drop> Reading<I, R> {
             lost,
             passed: _,
         } = self;
-        match (route, lost, jobs) {
-            (Ok(route), None, Some(jobs)) => {
-                let share = share.for_body(read.len());
-                PendingCall::begin(rt, alloc, jobs, route, RequestBody { bytes: read, share })
-            }
-            (Ok(route), Some(refusal), Some(jobs)) => {
-                Begun::Answered(jobs.refused(&rt, alloc, route, read.len(), refusal))
-            }
-            (Err(refusal), _, _) | (Ok(_), Some(refusal), None) => {
-                Begun::Answered(Answer::refused(alloc, refusal))
-            }
-            (Ok(_), None, None) => Begun::Answered(Answer::no_memory()),
+        let route = match route {
+            Ok(route) => route,
+            Err(refusal) => return Begun::Answered(Answer::refused(alloc, refusal)),
+        };
+        if let Some(refusal) = lost {
+            return Begun::Answered(refuse(rt, alloc, jobs, route, read.len(), refusal));
         }
+        let Some(jobs) = jobs else {
+            return Begun::Answered(Answer::no_memory());
+        };
+        let share = share.for_body(read.len());
+        let body = RequestBody { bytes: read, share };
+        PendingCall::begin(rt, alloc, jobs, inline, route, body)
     }
 }
 
-impl<I: Drop, R: Wait + Clock + Copy + Drop> Future for Exchange<I, R> {
+/// The answer of a request that has a route, and is refused; the call is counted, if there was memory for its jobs.
+fn refuse<R: Wait + Drop>(
+    rt: R,
+    alloc: Global,
+    jobs: &Option<Jobs<R>>,
+    route: Route,
+    length: usize,
+    refusal: Refusal,
+) -> Answer<R>
+    ensures { Refuses refusal result.status (bytes_of result.text) }
+{
+    match jobs {
+        Some(jobs) => jobs.refused(&rt, alloc, route, length, refusal),
+        None => Answer::refused(alloc, refusal),
+    }
+}
+
+impl<I: Drop, R: Wait + Clock + Copy + Drop, S: InlineService<R>> Future for Exchange<I, R, S> {
     type Output = Result<Response<ResponseBody<R>>, hyper::Error>;
 
     fn poll(
@@ -365,7 +405,7 @@ impl<I: Drop, R: Wait + Clock + Copy + Drop> Future for Exchange<I, R> {
     }
 }
 
-impl<I: Drop, R: Wait + Clock + Copy + Drop> Exchange<I, R> {
+impl<I: Drop, R: Wait + Clock + Copy + Drop, S: InlineService<R>> Exchange<I, R, S> {
     fn respond(&mut self, answer: Answer<R>) -> Result<Response<ResponseBody<R>>, hyper::Error> {
         respond(
             self.alloc,
@@ -379,7 +419,7 @@ impl<I: Drop, R: Wait + Clock + Copy + Drop> Exchange<I, R> {
         let Stage::Reading(reading) = mem::replace(&mut self.stage, Stage::Over) else {
             return None;
         };
-        match reading.begin(self.rt, self.alloc, &self.jobs) {
+        match reading.begin(self.rt, self.alloc, &self.jobs, &self.inline) {
             Begun::Answered(answer) => Some(answer),
             Begun::Pending(call) => {
                 self.stage = Stage::Pending(call);
