@@ -1,10 +1,4 @@
 //! What a call is answered.
-ghost use Rattle.std.specs.Prelude.{◌≡◌};
-ghost use Rattle.etcd_types.specs.declared.reply.Reply.TheVariants.{Refused};
-ghost use Rattle.etcd_types.specs.declared.refusal.Refusal.TheVariants as refusal;
-ghost use Rattle.fair_turns.specs.Texts.{bytes_of};
-ghost use Rattle.tenant_calls.specs.Answers.{Refuses, Spells};
-
 use crate::budget::MadeText;
 use crate::watch_texts::WatchTexts;
 use etcd_types::{Refusal, Reply};
@@ -12,13 +6,12 @@ use gateway_text::{memory_text, write_reply};
 use std::alloc::Global;
 use std::sync::Wait;
 
-/// A status and a text, and behind that of a watch which was created its texts as they come.
+/// A status and a body.
 pub struct Answer<R: Wait + Drop> {
     status: u16,
     /// Why the call was refused, if it was.
     refusal: Option<Refusal>,
-    text: Text,
-    following: Option<WatchTexts<R>>,
+    body: AnswerBody<R>,
 }
 
 impl<R: Wait + Drop> Drop for Answer<R> {
@@ -26,8 +19,7 @@ impl<R: Wait + Drop> Drop for Answer<R> {
         let Answer {
             status: _,
             refusal: _,
-            text: _,
-            following: _,
+            body: _,
         } = self;
     }
 }
@@ -51,17 +43,24 @@ impl Text {
     }
 }
 
+/// A text, or the texts of a watch as they come.
+#[derive(Drop)]
+pub enum AnswerBody<R: Wait + Drop> {
+    Text(Text),
+    Watch {
+        /// What its create was answered.
+        created: Text,
+        texts: WatchTexts<R>,
+    },
+}
+
 impl<R: Wait + Drop> Answer<R> {
     /// A status and a text of its own, of a refusal or of what was asked for.
-    pub fn text(status: u16, refusal: Option<Refusal>, text: MadeText) -> Answer<R>
-        ensures status { result.status ≡ status }
-        ensures text { bytes_of result.text ≡ text.bytes.items }
-    {
+    pub fn text(status: u16, refusal: Option<Refusal>, text: MadeText) -> Answer<R> {
         Answer {
             status,
             refusal,
-            text: Text::Made(text),
-            following: None,
+            body: AnswerBody::Text(Text::Made(text)),
         }
     }
 
@@ -71,22 +70,19 @@ impl<R: Wait + Drop> Answer<R> {
         refusal: Option<Refusal>,
         created: MadeText,
         texts: WatchTexts<R>,
-    ) -> Answer<R>
-        ensures status { result.status ≡ status }
-        ensures text { bytes_of result.text ≡ created.bytes.items }
-    {
+    ) -> Answer<R> {
         Answer {
             status,
             refusal,
-            text: Text::Made(created),
-            following: Some(texts),
+            body: AnswerBody::Watch {
+                created: Text::Made(created),
+                texts,
+            },
         }
     }
 
     /// The answer of a refusal, or out of memory where there is none for its text.
-    pub fn refused(alloc: Global, refusal: Refusal) -> Answer<R>
-        ensures { Refuses refusal result.status (bytes_of result.text) }
-    {
+    pub fn refused(alloc: Global, refusal: Refusal) -> Answer<R> {
         match write_reply(alloc, &Reply::Refused(refusal)) {
             Ok((status, text)) => Answer::text(status, Some(refusal), MadeText::short(text)),
             Err(_) => Answer::no_memory(),
@@ -94,48 +90,37 @@ impl<R: Wait + Drop> Answer<R> {
     }
 
     /// Out of memory: an answer that takes none.
-    pub fn no_memory() -> Answer<R>
-        ensures { Spells (Refused refusal.Memory) result.status (bytes_of result.text) }
-    {
+    pub fn no_memory() -> Answer<R> {
         Answer {
             status: Refusal::Memory.status(),
             refusal: Some(Refusal::Memory),
-            text: Text::OutOfMemory,
-            following: None,
+            body: AnswerBody::Text(Text::OutOfMemory),
         }
     }
 
-    pub fn status(&self) -> u16
-        ensures { result ≡ self.now.status }
-    {
+    pub fn status(&self) -> u16 {
         self.status
     }
 
     /// Why the call was refused, if it was.
-    pub fn refusal(&self) -> Option<Refusal>
-        ensures { result ≡ self.now.refusal }
-    {
+    pub fn refusal(&self) -> Option<Refusal> {
         self.refusal
     }
 
-    /// Its text, and those that follow it where it is of a watch.
-    pub fn into_texts(self) -> (Text, Option<WatchTexts<R>>)
-        ensures { result.0 ≡ self.text }
-    {
+    pub fn into_body(self) -> AnswerBody<R> {
         let Answer {
             status: _,
             refusal: _,
-            text,
-            following,
+            body,
         } = self;
-        (text, following)
+        body
     }
 
     /// How many bytes its text has; a watch has no end.
     pub fn len(&self) -> usize {
-        if self.following.is_some() {
-            return 0;
+        match &self.body {
+            AnswerBody::Text(text) => text.len(),
+            AnswerBody::Watch { .. } => 0,
         }
-        self.text.len()
     }
 }

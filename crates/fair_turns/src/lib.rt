@@ -23,7 +23,7 @@ mod slow_tenants;
 mod stopwatch;
 mod watch_texts;
 
-pub use answer::{Answer, Text};
+pub use answer::{Answer, AnswerBody, Text};
 pub use answered::{AnsweredCalls, CALLS, LAST_REFUSAL, STATUSES};
 pub use beats::Beats;
 pub use budget::{

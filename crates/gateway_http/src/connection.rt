@@ -19,7 +19,6 @@ use std::hash::RandomState;
 use std::rt::Clock;
 use std::sync::Wait;
 use std::time::Duration;
-use tenant_scheduler::InlineService;
 use tokio::io::{AsyncRead, AsyncWrite};
 
 /// How many bytes wait at a connection to be sent, before no more of an answer is handed to it.
@@ -46,16 +45,11 @@ impl<T: Timer> Http<T> {
     }
 
     /// A connection over a stream. It takes no memory until it is polled.
-    pub fn connect<I, R, S>(
-        &self,
-        stream: I,
-        gateway: Gateway<R, S>,
-    ) -> ClientConnection<I, R, S, T>
+    pub fn connect<I, R>(&self, stream: I, gateway: Gateway<R>) -> ClientConnection<I, R, T>
     where
         I: AsyncRead + AsyncWrite + Drop,
         R: Wait + Clock + Copy + Drop,
-        S: InlineService<R>,
-        ensures { ⟦<ClientConnection<I, R, S, T> as Future>⟧.can_poll result }
+        ensures { ⟦<ClientConnection<I, R, T> as Future>⟧.can_poll result }
     {
         ClientConnection {
             connection: self.builder.serve_connection(stream, gateway),
@@ -67,35 +61,24 @@ impl<T: Timer> Http<T> {
 pub struct ClientConnection<
     I: AsyncRead + AsyncWrite + Drop,
     R: Wait + Clock + Copy + Drop,
-    S: InlineService<R>,
     T: Timer,
 > {
-    connection: http1::Connection<I, Gateway<R, S>, ResponseBody<R>, T>,
+    connection: http1::Connection<I, Gateway<R>, ResponseBody<R>, T>,
 }
 
-impl<I, R, S, T> Drop for ClientConnection<I, R, S, T>
-where
-    I: AsyncRead + AsyncWrite + Drop,
-    R: Wait + Clock + Copy + Drop,
-    S: InlineService<R>,
-    T: Timer,
-{
+impl<I: AsyncRead + AsyncWrite + Drop, R: Wait + Clock + Copy + Drop, T: Timer> Drop
+    for ClientConnection<I, R, T> {
     fn drop(self) {
         let ClientConnection { connection: _ } = self;
     }
 }
 
-impl<I, R, S, T> Future for ClientConnection<I, R, S, T>
-where
-    I: AsyncRead + AsyncWrite + Drop,
-    R: Wait + Clock + Copy + Drop,
-    S: InlineService<R>,
-    T: Timer,
-{
+impl<I: AsyncRead + AsyncWrite + Drop, R: Wait + Clock + Copy + Drop, T: Timer> Future
+    for ClientConnection<I, R, T> {
     type Output = hyper::Result<()>;
 
-    ghost can_poll = { λ c. Runs I.AsyncRead I.AsyncWrite ⟦<Gateway<R, S> as Service<Request<Incoming<I>>>>⟧
-        ⟦<Exchange<I, R, S> as Future>⟧ ⟦<ResponseBody<R> as Body>⟧ ⟦<Bytes as Into<Bytes>>⟧ c.connection.conn };
+    ghost can_poll = { λ c. Runs I.AsyncRead I.AsyncWrite ⟦<Gateway<R> as Service<Request<Incoming<I>>>>⟧
+        ⟦<Exchange<I, R> as Future>⟧ ⟦<ResponseBody<R> as Body>⟧ ⟦<Bytes as Into<Bytes>>⟧ c.connection.conn };
 
     fn poll(&mut self, cx: &mut Context<'_>) -> Poll<hyper::Result<()>> {
         self.connection.poll(cx)

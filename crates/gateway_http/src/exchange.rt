@@ -1,9 +1,6 @@
 //! One exchange of a connection: a request is read, its call is begun, and its answer is awaited.
 ghost use Rattle.futures.specs.Task.{IsArmed, Keeps};
 ghost use Rattle.futures.specs.Poll.{OnPending};
-ghost use Rattle.fair_turns.specs.Texts.{bytes_of};
-ghost use Rattle.gateway_http.specs.Requests.{IsBegun};
-ghost use Rattle.tenant_calls.specs.Answers.{Refuses};
 
 use crate::response::{ResponseBody, respond};
 use crate::routing::route;
@@ -24,8 +21,7 @@ use std::mem;
 use std::rt::Clock;
 use std::sync::Wait;
 use std::time::Duration;
-use tenant_calls::Route;
-use tenant_scheduler::{Begun, InlineService, Jobs, PendingCall, RequestBody};
+use tenant_scheduler::{Begun, Jobs, PendingCall, RequestBody, Route};
 use tokio::time;
 
 /// How many pieces of a body are read in one poll.
@@ -40,15 +36,13 @@ const BYTES_A_POLL: usize = 16_384;
 const MAX_PASSED: u32 = 4096;
 
 /// Begins an exchange for each request of a connection.
-pub struct Gateway<R: Wait + Clock + Drop, S: InlineService<R>> {
+pub struct Gateway<R: Wait + Clock + Drop> {
     /// The runtime.
     pub rt: R,
     /// What takes memory.
     pub alloc: Global,
     /// Where calls go in; none where there was no memory to share it.
     pub jobs: Option<Jobs<R>>,
-    /// What brief calls are served by.
-    pub inline: S,
     /// None where the connection is in no table.
     pub requests: Option<Requests<R>>,
     /// None where a body is waited for however long it takes.
@@ -57,13 +51,12 @@ pub struct Gateway<R: Wait + Clock + Drop, S: InlineService<R>> {
     pub body_patience: Duration,
 }
 
-impl<R: Wait + Clock + Drop, S: InlineService<R>> Drop for Gateway<R, S> {
+impl<R: Wait + Clock + Drop> Drop for Gateway<R> {
     fn drop(self) {
         let Gateway {
             rt: _,
             alloc: _,
             jobs: _,
-            inline: _,
             requests: _,
             timers: _,
             body_patience: _,
@@ -72,23 +65,21 @@ impl<R: Wait + Clock + Drop, S: InlineService<R>> Drop for Gateway<R, S> {
 }
 
 /// The exchange of one request.
-pub struct Exchange<I, R: Wait + Clock + Drop, S: InlineService<R>> {
+pub struct Exchange<I, R: Wait + Clock + Drop> {
     rt: R,
     alloc: Global,
     /// None where there was no memory to share them.
     jobs: Option<Jobs<R>>,
-    inline: S,
     standing: Standing<R>,
     stage: Stage<I, R>,
 }
 
-impl<I: Drop, R: Wait + Clock + Drop, S: InlineService<R>> Drop for Exchange<I, R, S> {
+impl<I: Drop, R: Wait + Clock + Drop> Drop for Exchange<I, R> {
     fn drop(self) {
         let Exchange {
             rt: _,
             alloc: _,
             jobs: _,
-            inline: _,
             standing: _,
             stage: _,
         } = self;
@@ -130,19 +121,14 @@ struct Reading<I, R: Wait + Drop> {
     passed: u32,
 }
 
-impl<I, R, S> Service<Request<Incoming<I>>> for Gateway<R, S>
-where
-    I: Drop,
-    R: Wait + Clock + Copy + Drop,
-    S: InlineService<R>,
-{
+impl<I: Drop, R: Wait + Clock + Copy + Drop> Service<Request<Incoming<I>>> for Gateway<R> {
     type Response = Response<ResponseBody<R>>;
 
     type Error = hyper::Error;
 
-    type Future = Exchange<I, R, S>;
+    type Future = Exchange<I, R>;
 
-    fn call(&self, req: Request<Incoming<I>>) -> Exchange<I, R, S> {
+    fn call(&self, req: Request<Incoming<I>>) -> Exchange<I, R> {
         let jobs = match &self.jobs {
             Some(jobs) => jobs.share(),
             None => None,
@@ -158,7 +144,6 @@ where
             rt: self.rt,
             alloc: self.alloc,
             jobs,
-            inline: self.inline.share(),
             standing,
             stage: Stage::Reading(Reading {
                 route,
@@ -175,7 +160,7 @@ where
     }
 }
 
-impl<R: Wait + Clock + Copy + Drop, S: InlineService<R>> Gateway<R, S> {
+impl<R: Wait + Clock + Copy + Drop> Gateway<R> {
     /// The route of a request, and how the connection stands to its tenant.
     fn route<B>(
         &self,
@@ -324,15 +309,7 @@ impl<I: Drop, R: Wait + Clock + Copy + Drop> Reading<I, R> {
     }
 
     /// Begins the call of a request that was read, or refuses it.
-    fn begin<S: InlineService<R>>(
-        self,
-        rt: R,
-        alloc: Global,
-        jobs: &Option<Jobs<R>>,
-        inline: &S,
-    ) -> Begun<R>
-        ensures { IsBegun self.route self.lost self.read.items result }
-    {
+    fn begin(self, rt: R, alloc: Global, jobs: &Option<Jobs<R>>) -> Begun<R> {
         let Reading {
             route,
             body: _,
@@ -344,40 +321,23 @@ impl<I: Drop, R: Wait + Clock + Copy + Drop> Reading<I, R> {
             lost,
             passed: _,
         } = self;
-        let route = match route {
-            Ok(route) => route,
-            Err(refusal) => return Begun::Answered(Answer::refused(alloc, refusal)),
-        };
-        if let Some(refusal) = lost {
-            return Begun::Answered(refuse(rt, alloc, jobs, route, read.len(), refusal));
+        match (route, lost, jobs) {
+            (Ok(route), None, Some(jobs)) => {
+                let share = share.for_body(read.len());
+                PendingCall::begin(rt, alloc, jobs, route, RequestBody { bytes: read, share })
+            }
+            (Ok(route), Some(refusal), Some(jobs)) => {
+                Begun::Answered(jobs.refused(&rt, alloc, route, read.len(), refusal))
+            }
+            (Err(refusal), _, _) | (Ok(_), Some(refusal), None) => {
+                Begun::Answered(Answer::refused(alloc, refusal))
+            }
+            (Ok(_), None, None) => Begun::Answered(Answer::no_memory()),
         }
-        let Some(jobs) = jobs else {
-            return Begun::Answered(Answer::no_memory());
-        };
-        let share = share.for_body(read.len());
-        let body = RequestBody { bytes: read, share };
-        PendingCall::begin(rt, alloc, jobs, inline, route, body)
     }
 }
 
-/// The answer of a request that has a route, and is refused; the call is counted, if there was memory for its jobs.
-fn refuse<R: Wait + Drop>(
-    rt: R,
-    alloc: Global,
-    jobs: &Option<Jobs<R>>,
-    route: Route,
-    length: usize,
-    refusal: Refusal,
-) -> Answer<R>
-    ensures { Refuses refusal result.status (bytes_of result.text) }
-{
-    match jobs {
-        Some(jobs) => jobs.refused(&rt, alloc, route, length, refusal),
-        None => Answer::refused(alloc, refusal),
-    }
-}
-
-impl<I: Drop, R: Wait + Clock + Copy + Drop, S: InlineService<R>> Future for Exchange<I, R, S> {
+impl<I: Drop, R: Wait + Clock + Copy + Drop> Future for Exchange<I, R> {
     type Output = Result<Response<ResponseBody<R>>, hyper::Error>;
 
     fn poll(
@@ -405,7 +365,7 @@ impl<I: Drop, R: Wait + Clock + Copy + Drop, S: InlineService<R>> Future for Exc
     }
 }
 
-impl<I: Drop, R: Wait + Clock + Copy + Drop, S: InlineService<R>> Exchange<I, R, S> {
+impl<I: Drop, R: Wait + Clock + Copy + Drop> Exchange<I, R> {
     fn respond(&mut self, answer: Answer<R>) -> Result<Response<ResponseBody<R>>, hyper::Error> {
         respond(
             self.alloc,
@@ -419,7 +379,7 @@ impl<I: Drop, R: Wait + Clock + Copy + Drop, S: InlineService<R>> Exchange<I, R,
         let Stage::Reading(reading) = mem::replace(&mut self.stage, Stage::Over) else {
             return None;
         };
-        match reading.begin(self.rt, self.alloc, &self.jobs, &self.inline) {
+        match reading.begin(self.rt, self.alloc, &self.jobs) {
             Begun::Answered(answer) => Some(answer),
             Begun::Pending(call) => {
                 self.stage = Stage::Pending(call);

@@ -1,11 +1,7 @@
 //! An answer as HTTP sends it.
-ghost use Rattle.std.specs.Prelude.{◌≡◌, ◌++◌, IfOk};
-ghost use Rattle.fair_turns.specs.Texts.{bytes_of};
-ghost use Rattle.gateway_http.specs.Responses.{Begins, Sends};
-
 use crate::exchange::Standing;
 use bytes::Bytes;
-use fair_turns::{Answer, MadeText, Share, Text, WatchTexts};
+use fair_turns::{Answer, AnswerBody, MadeText, Share, Text, WatchTexts};
 use futures::ready;
 use futures::task::{Context, Poll};
 use gateway_text::memory_text;
@@ -64,17 +60,14 @@ pub(crate) fn respond<R: Wait + Clock + Drop>(
     alloc: Global,
     answer: Answer<R>,
     standing: Standing<R>,
-) -> Result<Response<ResponseBody<R>>, hyper::Error>
-    ensures { IfOk result (λ response. Sends response answer.status (bytes_of answer.text)) }
-{
-    // No answer has another status than one of HTTP.
-    let Ok(status) = StatusCode::from_u16(answer.status()) else {
-        return Err(hyper::Error::from(AllocError));
-    };
-    let (text, following) = answer.into_texts();
+) -> Result<Response<ResponseBody<R>>, hyper::Error> {
+    let status = answer.status();
+    let body = answer.into_body();
     let ends = matches!(standing, Standing::OneTooMany);
-    let mut response = Response::new(alloc, ResponseBody::of(text, following, standing)?);
-    *response.status_mut() = status;
+    let mut response = Response::new(alloc, ResponseBody::of(body, standing)?);
+    if let Ok(status) = StatusCode::from_u16(status) {
+        *response.status_mut() = status;
+    }
     let kind = HeaderValue::from_static("application/json");
     set(response.headers_mut(), header::CONTENT_TYPE, kind)?;
     if ends {
@@ -92,9 +85,7 @@ fn set(headers: &mut HeaderMap, name: HeaderName, value: HeaderValue) -> Result<
 }
 
 impl Unsent {
-    fn of(text: Text) -> Result<Unsent, AllocError>
-        ensures { IfOk result (λ unsent. unsent.text ≡ bytes_of text) }
-    {
+    fn of(text: Text) -> Result<Unsent, AllocError> {
         match text {
             Text::Made(text) => {
                 let (bytes, share) = text.into_parts();
@@ -109,17 +100,13 @@ impl Unsent {
     }
 
     /// The next piece; the last one may be all.
-    fn next_piece(&mut self) -> Result<Bytes, AllocError>
-        ensures { IfOk result (λ piece. piece ++ self.new.text ≡ self.old.text) }
-    {
+    fn next_piece(&mut self) -> Result<Bytes, AllocError> {
         let length = self.text.len().min(PIECE);
         self.text.split_to(length)
     }
 }
 
-fn shared(bytes: Vec<u8>) -> Result<Bytes, AllocError>
-    ensures { IfOk result (λ text. text ≡ bytes.items) }
-{
+fn shared(bytes: Vec<u8>) -> Result<Bytes, AllocError> {
     match Bytes::from_vec(bytes) {
         Ok(text) => Ok(text),
         Err(_) => Err(AllocError),
@@ -127,13 +114,11 @@ fn shared(bytes: Vec<u8>) -> Result<Bytes, AllocError>
 }
 
 impl<R: Wait + Clock + Drop> ResponseBody<R> {
-    fn of(
-        first: Text,
-        following: Option<WatchTexts<R>>,
-        standing: Standing<R>,
-    ) -> Result<ResponseBody<R>, AllocError>
-        ensures { IfOk result (λ body. Begins body (bytes_of first)) }
-    {
+    fn of(body: AnswerBody<R>, standing: Standing<R>) -> Result<ResponseBody<R>, AllocError> {
+        let (first, following) = match body {
+            AnswerBody::Text(text) => (text, None),
+            AnswerBody::Watch { created, texts } => (created, Some(texts)),
+        };
         Ok(ResponseBody {
             first: Some(Unsent::of(first)?),
             rests: false,

@@ -1,23 +1,16 @@
 //! Which call a request is, and of which tenant.
-ghost use Rattle.std.specs.Prelude.{IfOk};
-ghost use Rattle.gateway_http.specs.Requests.{IsRouted};
-
 use etcd_types::Refusal;
 use gateway_json::{call_of, target_of};
 use std::sync::Wait;
-use tenant_calls::Route;
-use tenant_scheduler::Jobs;
+use tenant_scheduler::{Jobs, Route};
 
 /// The route of a request: the path, the tenant and the method are looked at in this order.
-#[tactic(auto, using(crate::proofs::RequestLemmas::routed))]
 pub(crate) fn route<R: Wait + Drop>(
     rt: &R,
     jobs: &Jobs<R>,
     method: &[u8],
     path: &[u8],
-) -> Result<Route, Refusal>
-    ensures { IfOk result (λ route. IsRouted method.now path.now route.call) }
-{
+) -> Result<Route, Refusal> {
     let Some(target) = target_of(path) else {
         return Err(Refusal::NoPath);
     };

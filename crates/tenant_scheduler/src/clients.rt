@@ -1,19 +1,14 @@
 //! What the clients of a tenant have under way: jobs that wait, and open watches.
-ghost use Rattle.std.specs.Prelude.{◌≡◌, IfSome};
-ghost use Rattle.fair_turns.specs.Texts.{bytes_of};
-ghost use Rattle.tenant_calls.specs.Answers.{IsAnswered};
-ghost use Rattle.tenant_scheduler.specs.Waits.{IsAskOf};
-
 use crate::clock::Running;
 use auto_compaction::StandingOrder;
-use etcd_types::{Refusal, Step};
+use etcd_types::{Call, Refusal, Step};
 use fair_turns::{
     Answer, Budget, Scheduler, Share, Stopwatch, TenantCounts, TenantTurns, TextSender, Work,
 };
 use futures::channel::oneshot;
 use std::alloc::Global;
 use std::sync::{Arc, Wait};
-use tenant_calls::{Route, TenantKey};
+use tenant_calls::TenantKey;
 use tokio::sync::mpsc;
 
 /// What a call asks.
@@ -50,22 +45,13 @@ impl Ask {
 /// A call of a client that waits for a worker, and where its answer goes.
 #[derive(Drop)]
 pub(crate) struct Job<R: Wait + Drop> {
-    pub(crate) route: Route,
+    pub(crate) call: Call,
     pub(crate) ask: Ask,
     /// How many bytes its body has.
     pub(crate) length: usize,
     /// Since it was left in the queue.
     pub(crate) waiting: Stopwatch,
-    pub(crate) reply: oneshot::Sender<JobAnswer<R>>,
-    pub(crate) ghost asked: { ∥ IsAskOf route.call ask ∥₁ },
-}
-
-/// The answer of a job, and of which call it is.
-#[derive(Drop)]
-pub(crate) struct JobAnswer<R: Wait + Drop> {
-    pub(crate) route: Route,
-    pub(crate) answer: Answer<R>,
-    pub(crate) ghost is: { ∥ IsAnswered route answer.status (bytes_of answer.text) ∥₁ },
+    pub(crate) reply: oneshot::Sender<Answer<R>>,
 }
 
 /// A watch whose client is there, and where its texts go.
@@ -98,16 +84,6 @@ pub(crate) struct Clients<R: Wait + Drop, K: TenantKey> {
 }
 
 impl<R: Wait + Drop, K: TenantKey> Clients<R, K> {
-    /// The tenant's key, if the tenant is that of this number.
-    pub(crate) fn key_of(&self, number: u64) -> Option<&K>
-        ensures { IfSome result (λ key. K.number_of key.now ≡ number) }
-    {
-        match &self.key {
-            Some(key) if key.number() == number => Some(key),
-            _ => None,
-        }
-    }
-
     /// Has the pump take for the tenant's watches, if there are any.
     pub(crate) fn schedule_takes(&self, rt: &R, scheduler: &Scheduler, turns: &TenantTurns) {
         if !self.watches.is_empty() {
@@ -126,16 +102,7 @@ impl<R: Wait + Copy + Drop, K: TenantKey> Clients<R, K> {
             let Ok(job) = self.jobs.try_recv() else {
                 return;
             };
-            end(alloc, job);
+            drop(job.reply.send(Answer::refused(alloc, Refusal::NoTenant)));
         }
     }
-}
-
-/// Answers a job that is not served, since its tenant was removed.
-#[tactic(auto, using(crate::proofs::WaitLemmas::gone))]
-fn end<R: Wait + Drop>(alloc: Global, job: Job<R>) {
-    let answer = Answer::refused(alloc, Refusal::NoTenant);
-    let route = job.route;
-    // Whether its client is still there is all one.
-    drop(job.reply.send(JobAnswer { route, answer }));
 }

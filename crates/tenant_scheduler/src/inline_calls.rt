@@ -1,25 +1,30 @@
-//! Brief calls, which a connection serves itself.
+//! Brief calls, which an event loop serves itself.
 //!
-//! A call that goes to a worker wakes two threads, which takes longer than a brief call does. So the connections of an
-//! event loop serve their brief calls where they are read: they take the turn on the tenant, if nobody has it, and answer.
-//! What may take long is left to the workers: a loop has many connections, which wait meanwhile.
-ghost use Rattle.std.specs.Prelude.{◌≡◌, IfErr, IfOk};
-ghost use Rattle.fair_turns.specs.Texts.{bytes_of};
-ghost use Rattle.tenant_calls.specs.Answers.{IsAnswer};
+//! A call that goes to a worker wakes two threads, which takes longer than a brief call does. So the connections of
+//! an event loop hand it their brief calls, and it takes the turn on the tenant, if nobody has it, and answers. What
+//! may take long is left to the workers: a loop has many connections, which wait meanwhile.
+ghost use Rattle.futures.specs.Task.{IsArmed, Keeps};
+ghost use Rattle.futures.specs.Poll.{OnPending};
 
 use crate::caller::Caller;
 use crate::clients::Clients;
+use crate::jobs::Route;
 use crate::serving::ServingThread;
-use crate::shared::Shared;
 use crate::tenants::ServedTenant;
 use crate::worker::may_give;
-use etcd_types::Step;
+use etcd_types::{Call, Step};
 use fair_turns::{Answer, Scheduler, Stopwatch, Work};
+use futures::channel::oneshot;
+use futures::ready;
+use futures::task::{Context, Poll};
 use std::alloc::Global;
-use std::cell::RefCell;
 use std::rt::Clock;
-use std::sync::{Arc, Wait};
-use tenant_calls::{Route, TenantCalls};
+use std::sync::Wait;
+use tenant_calls::{TenantCalls, TenantKey};
+use tokio::sync::mpsc::UnboundedReceiver;
+
+/// How many brief calls are served before the loop looks at its connections again.
+const CALLS_A_POLL: usize = 64;
 
 /// The longest answer after which a loop goes on with its tenant.
 const SHORT_ANSWER: usize = 16_384;
@@ -27,174 +32,157 @@ const SHORT_ANSWER: usize = 16_384;
 /// How many brief calls of a tenant are left to the workers after a longer one.
 const CALLS_LEFT: u32 = 256;
 
-/// How a connection serves its brief calls at once, if it does. Who has it knows no tenant's type.
-pub trait InlineService<R: Wait + Drop>: Drop {
-    /// The same for another exchange.
-    fn share(&self) -> Self;
-
-    /// Answers a brief step of the tenant that a route names, of a body of so many bytes. Where somebody has the turn on the
-    /// tenant, or a worker is to serve it, the step is given back.
-    fn serve(&self, route: Route, length: usize, step: Step) -> Result<Answer<R>, Step>
-        ensures answered { IfOk result
-            (λ answer. IsAnswer route.tenant step answer.status (bytes_of answer.text)) }
-        ensures busy { IfErr result (λ given. given ≡ step) };
+/// A brief call, and where its outcome goes.
+pub struct InlineCall<R: Wait + Drop> {
+    pub(crate) route: Route,
+    pub(crate) step: Step,
+    /// How many bytes its body had.
+    pub(crate) length: usize,
+    pub(crate) reply: oneshot::Sender<InlineOutcome<R>>,
 }
 
-/// Leaves each call to the workers.
-#[derive(Clone, Copy, Drop)]
-pub struct NoInlineCalls;
-
-impl<R: Wait + Drop> InlineService<R> for NoInlineCalls {
-    fn share(&self) -> NoInlineCalls {
-        NoInlineCalls
-    }
-
-    fn serve(&self, route: Route, _: usize, step: Step) -> Result<Answer<R>, Step>
-        ensures answered { IfOk result
-            (λ answer. IsAnswer route.tenant step answer.status (bytes_of answer.text)) }
-        ensures busy { IfErr result (λ given. given ≡ step) }
-    {
-        let _ = route;
-        Err(step)
-    }
-}
-
-/// Serves a connection's brief calls by what its event loop has.
-pub struct LoopService<'c, R: Wait + Drop, C: TenantCalls> {
-    calls: &'c InlineCalls<R, C>,
-}
-
-impl<R: Wait + Drop, C: TenantCalls> Drop for LoopService<'_, R, C> {
+impl<R: Wait + Drop> Drop for InlineCall<R> {
     fn drop(self) {
-        let LoopService { calls: _ } = self;
+        let InlineCall {
+            route: _,
+            step: _,
+            length: _,
+            reply: _,
+        } = self;
     }
 }
 
-impl<R: Wait + Clock + Copy + Drop, C: TenantCalls> InlineService<R> for LoopService<'_, R, C> {
-    fn share(&self) -> Self {
-        LoopService { calls: self.calls }
+impl<R: Wait + Drop> InlineCall<R> {
+    pub(crate) fn into_step(self) -> Step {
+        let (_, step, _, _) = self.into_parts();
+        step
     }
 
-    fn serve(&self, route: Route, length: usize, step: Step) -> Result<Answer<R>, Step>
-        ensures answered { IfOk result
-            (λ answer. IsAnswer route.tenant step answer.status (bytes_of answer.text)) }
-        ensures busy { IfErr result (λ given. given ≡ step) }
-    {
-        self.calls.serve(route, length, step)
+    fn into_parts(self) -> (Route, Step, usize, oneshot::Sender<InlineOutcome<R>>) {
+        let InlineCall {
+            route,
+            step,
+            length,
+            reply,
+        } = self;
+        (route, step, length, reply)
     }
 }
 
-/// What an event loop's connections serve their brief calls by.
+/// What became of a brief call.
+#[derive(Drop)]
+pub(crate) enum InlineOutcome<R: Wait + Drop> {
+    Answered(Answer<R>),
+    /// Its tenant is busy, so it is a worker's.
+    Busy(Step),
+}
+
+impl<R: Wait + Drop> InlineOutcome<R> {
+    /// Counts the call with a body of so many bytes, if it was answered.
+    fn count<K: TenantKey>(
+        self,
+        tenant: &ServedTenant<R, K>,
+        call: Call,
+        length: usize,
+    ) -> InlineOutcome<R> {
+        if let InlineOutcome::Answered(answer) = &self {
+            tenant.counts().add(call, length, answer);
+        }
+        self
+    }
+}
+
+/// Where an event loop receives the brief calls of its connections, and serves them.
 pub struct InlineCalls<R: Wait + Drop, C: TenantCalls> {
-    rt: R,
     alloc: Global,
-    /// Which of the threads it is.
-    place: usize,
     /// The part of the directory that is read here.
     shard: usize,
-    shared: Arc<Shared<R, C::Key>>,
-    caller: RefCell<Caller<R, C>>,
+    thread: ServingThread<R, C>,
+    calls: UnboundedReceiver<InlineCall<R>>,
 }
 
 impl<R: Wait + Drop, C: TenantCalls> Drop for InlineCalls<R, C> {
     fn drop(self) {
         let InlineCalls {
-            rt: _,
             alloc: _,
-            place: _,
             shard: _,
-            shared: _,
-            caller: _,
+            thread: _,
+            calls: _,
         } = self;
     }
 }
 
 impl<R: Wait + Clock + Copy + Drop, C: TenantCalls> InlineCalls<R, C> {
     /// Those of the event loop of that number.
-    pub fn new(alloc: Global, number: usize, thread: ServingThread<R, C>) -> InlineCalls<R, C> {
-        let (rt, place, caller, shared) = thread.into_parts();
+    pub fn new(
+        alloc: Global,
+        number: usize,
+        thread: ServingThread<R, C>,
+        calls: UnboundedReceiver<InlineCall<R>>,
+    ) -> InlineCalls<R, C> {
         InlineCalls {
-            rt,
             alloc,
-            place,
             shard: number,
+            thread,
+            calls,
+        }
+    }
+
+    /// Serves what is there. Ready once no connection is left that could hand something in.
+    pub fn poll_end(&mut self, cx: &mut Context<'_>) -> Poll<()>
+        ensures registered { OnPending result (IsArmed cx.new) }
+        ensures kept { Keeps cx.old cx.new }
+    {
+        for _ in 0..CALLS_A_POLL {
+            match ready!(self.calls.poll_recv(cx)) {
+                Some(call) => self.serve(call),
+                None => return Poll::Ready(()),
+            }
+        }
+        cx.yield_now()
+    }
+
+    /// Serves a call if nobody has the turn on its tenant, and else gives it back.
+    fn serve(&mut self, call: InlineCall<R>) {
+        let (route, step, length, reply) = call.into_parts();
+        let ServingThread {
+            rt,
+            place: _,
+            caller,
             shared,
-            caller: RefCell::new(caller),
-        }
-    }
-
-    /// For a connection of the loop.
-    pub fn service(&self) -> LoopService<'_, R, C> {
-        LoopService { calls: self }
-    }
-
-    /// What `InlineService` says.
-    fn serve(&self, route: Route, length: usize, step: Step) -> Result<Answer<R>, Step>
-        ensures answered { IfOk result
-            (λ answer. IsAnswer route.tenant step answer.status (bytes_of answer.text)) }
-        ensures busy { IfErr result (λ given. given ≡ step) }
-    {
-        let Some(tenant) = self
-            .shared
-            .tenants()
-            .numbered(&self.rt, self.shard, route.tenant)
-        else {
-            return Err(step);
+        } = &mut self.thread;
+        let outcome = match shared.tenants().numbered(rt, self.shard, route.tenant) {
+            Some(tenant) if Scheduler::try_begin(tenant.turns()) => {
+                let stopwatch = Stopwatch::start(rt);
+                let mut clients = tenant.clients.lock(rt);
+                let outcome = answer(self.alloc, caller, &mut *clients, step);
+                if may_give(route.call) {
+                    clients.schedule_takes(rt, &shared.scheduler, tenant.turns());
+                }
+                drop(clients);
+                shared.scheduler.finish(rt, tenant.turns(), Work::Jobs);
+                tenant.counts().turns().add(stopwatch.passed(rt));
+                outcome.count(&tenant, route.call, length)
+            }
+            _ => InlineOutcome::Busy(step),
         };
-        let Ok(mut caller) = self.caller.try_borrow_mut() else {
-            return Err(step);
-        };
-        if !Scheduler::try_begin(tenant.turns()) {
-            return Err(step);
-        }
-        let stopwatch = Stopwatch::start(&self.rt);
-        let answer = self.take_turn(&mut *caller, &tenant, route, step);
-        self.shared
-            .scheduler
-            .finish(&self.rt, tenant.turns(), Work::Jobs);
-        tenant.counts().turns().add(stopwatch.passed(&self.rt));
-        if let Ok(answer) = &answer {
-            tenant.counts().add(route.call, length, answer);
-        }
-        answer
-    }
-
-    /// Answers a step in a turn on its tenant.
-    fn take_turn(
-        &self,
-        caller: &mut Caller<R, C>,
-        tenant: &ServedTenant<R, C::Key>,
-        route: Route,
-        step: Step,
-    ) -> Result<Answer<R>, Step>
-        ensures answered { IfOk result
-            (λ answer. IsAnswer route.tenant step answer.status (bytes_of answer.text)) }
-        ensures busy { IfErr result (λ given. given ≡ step) }
-    {
-        let mut clients = tenant.clients.lock(&self.rt);
-        let answer = answer(self.alloc, caller, &mut *clients, route.tenant, step);
-        if may_give(route.call) {
-            clients.schedule_takes(&self.rt, &self.shared.scheduler, tenant.turns());
-        }
-        answer
+        // Where the client has gone, the call stays made.
+        drop(reply.send(outcome));
     }
 
     /// The loop moves.
     pub fn beat(&self) {
-        self.shared.beats.beat(&self.rt, self.place);
+        self.thread.beat();
     }
 
-    /// What the thread called tenants by.
     pub fn into_calls(self) -> C {
         let InlineCalls {
-            rt: _,
             alloc: _,
-            place: _,
             shard: _,
-            shared: _,
-            caller,
+            thread,
+            calls: _,
         } = self;
-        caller.into_inner().into_calls()
+        thread.into_calls()
     }
 }
 
@@ -203,21 +191,17 @@ fn answer<R: Wait + Clock + Drop, C: TenantCalls>(
     alloc: Global,
     caller: &mut Caller<R, C>,
     clients: &mut Clients<R, C::Key>,
-    number: u64,
     step: Step,
-) -> Result<Answer<R>, Step>
-    ensures answered { IfOk result (λ answer. IsAnswer number step answer.status (bytes_of answer.text)) }
-    ensures busy { IfErr result (λ given. given ≡ step) }
-{
+) -> InlineOutcome<R> {
     if clients.left_to_workers > 0 {
         clients.left_to_workers -= 1;
-        return Err(step);
+        return InlineOutcome::Busy(step);
     }
-    let answer = caller.answer(alloc, clients, number, step);
+    let answer = caller.answer(alloc, clients, step);
     if answer.len() > SHORT_ANSWER {
         clients.left_to_workers = CALLS_LEFT;
     }
-    Ok(answer)
+    InlineOutcome::Answered(answer)
 }
 
 /// A step that looks at one key at most, and at its present row.

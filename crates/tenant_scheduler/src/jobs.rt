@@ -1,20 +1,47 @@
-//! Where calls go in: into their tenants' queues.
-ghost use Rattle.std.specs.Prelude.{IfErr};
-ghost use Rattle.fair_turns.specs.Texts.{bytes_of};
-ghost use Rattle.tenant_calls.specs.Answers.{IsUncalled, Refuses};
+//! Where calls go in: to the event loop that has read them, or into their tenant's queue.
 ghost use Rattle.tokio.specs.Channels.{CanReserve};
 
 use crate::clients::Job;
 use crate::entrances::{Entrance, Entrances};
-use etcd_types::{Mem, Refusal};
+use crate::inline_calls::InlineCall;
+use etcd_types::{Call, Mem, Refusal};
 use fair_turns::{Answer, BodyShare, SHORT, Work};
 use std::alloc::Global;
 use std::sync::{Arc, Wait};
-use tenant_calls::Route;
 use tokio::sync::mpsc::error::TrySendError;
 use tokio::sync::mpsc::{
     self, ReserveOwned, UnboundedReceiver, UnboundedSender, unbounded_channel,
 };
+
+/// A call that a client may make, and the number of the tenant that it names.
+#[derive(Clone, Copy, Drop)]
+pub struct Route {
+    pub tenant: u64,
+    pub call: Call,
+}
+
+/// What became of a job that was offered to its tenant's queue.
+#[derive(Drop)]
+pub(crate) enum Offered<R: Wait + Drop> {
+    Queued,
+    /// The queue is full.
+    Full(HeldBack<R>),
+    /// The tenant was removed, or there is no memory.
+    Refused(Refusal),
+}
+
+impl<R: Wait + Drop> Offered<R> {
+    /// A job whose queue is full, or its refusal where there is no memory.
+    fn held_back(queue: &mpsc::Sender<Job<R>>, job: Job<R>) -> Offered<R> {
+        match queue.clone() {
+            Ok(queue) => Offered::Full(HeldBack {
+                room: queue.reserve_owned(),
+                job,
+            }),
+            Err(_) => Offered::Refused(Refusal::Memory),
+        }
+    }
+}
 
 /// A job that waits for room in its tenant's queue.
 #[derive(Drop)]
@@ -24,35 +51,26 @@ pub(crate) struct HeldBack<R: Wait + Drop> {
     pub(crate) ghost may_wait: { CanReserve room },
 }
 
-impl<R: Wait + Drop> HeldBack<R> {
-    /// A job whose queue is full. None where there is no memory.
-    fn of(queue: &mpsc::Sender<Job<R>>, job: Job<R>) -> Option<HeldBack<R>> {
-        let queue = queue.clone().ok()?;
-        Some(HeldBack {
-            room: queue.reserve_owned(),
-            job,
-        })
-    }
+/// An event loop, for its connections.
+#[derive(Drop)]
+pub(crate) struct LoopEntrance<R: Wait + Drop> {
+    calls: UnboundedSender<InlineCall<R>>,
+    /// The part of the directory that is read here.
+    shard: usize,
 }
-
-/// Tells an event loop that a connection is left, as long as it is held.
-pub type Presence = Arc<UnboundedSender<()>>;
 
 /// Where calls go in, which connections share.
 pub struct Jobs<R: Wait + Drop> {
     entrances: Arc<Entrances<R>>,
-    /// The part of the directory that is read here.
-    shard: usize,
-    /// That of an event loop's connection.
-    presence: Option<Presence>,
+    /// Where the connections of an event loop hand it brief calls.
+    inline: Option<Arc<LoopEntrance<R>>>,
 }
 
 impl<R: Wait + Drop> Drop for Jobs<R> {
     fn drop(self) {
         let Jobs {
             entrances: _,
-            shard: _,
-            presence: _,
+            inline: _,
         } = self;
     }
 }
@@ -61,19 +79,26 @@ impl<R: Wait + Drop> Jobs<R> {
     pub(crate) fn new(entrances: Arc<Entrances<R>>) -> Jobs<R> {
         Jobs {
             entrances,
-            shard: 0,
-            presence: None,
+            inline: None,
+        }
+    }
+
+    /// The part of the directory that is read here.
+    fn shard(&self) -> usize {
+        match &self.inline {
+            Some(inline) => inline.shard,
+            None => 0,
         }
     }
 
     /// The number of the tenant of that name.
     pub fn tenant(&self, rt: &R, name: &[u8]) -> Option<u64> {
-        self.entrances.number_of(rt, self.shard, name)
+        self.entrances.number_of(rt, self.shard(), name)
     }
 
     /// The entrance of the tenant of that number, unless it was removed.
     fn entrance(&self, rt: &R, tenant: u64) -> Option<Arc<Entrance<R>>> {
-        self.entrances.numbered(rt, self.shard, tenant)
+        self.entrances.numbered(rt, self.shard(), tenant)
     }
 
     /// The share of a tenant's budget for a body of so many bytes at the most.
@@ -90,25 +115,19 @@ impl<R: Wait + Drop> Jobs<R> {
         }
     }
 
-    /// Leaves a job in its tenant's queue, and has a worker serve it; where the queue is full, the job that waits for room.
-    /// It is refused if the tenant was removed, and else only for want of memory.
-    pub(crate) fn offer(&self, rt: &R, job: Job<R>) -> Result<Option<HeldBack<R>>, Refusal>
-        ensures { IfErr result (λ r. IsUncalled r) }
-    {
-        let Some(entrance) = self.entrance(rt, job.route.tenant) else {
-            return Err(Refusal::NoTenant);
+    /// Leaves a job in a tenant's queue, if there is room, and has a worker serve it.
+    pub(crate) fn offer(&self, rt: &R, tenant: u64, job: Job<R>) -> Offered<R> {
+        let Some(entrance) = self.entrance(rt, tenant) else {
+            return Offered::Refused(Refusal::NoTenant);
         };
         match entrance.queue.try_send(job) {
             Ok(()) => {
                 self.entrances.schedule(rt, &entrance, Work::Jobs);
-                Ok(None)
+                Offered::Queued
             }
-            Err(TrySendError::Full(job)) => match HeldBack::of(&entrance.queue, job) {
-                Some(held) => Ok(Some(held)),
-                None => Err(Refusal::Memory),
-            },
-            Err(TrySendError::Closed(_)) => Err(Refusal::NoTenant),
-            Err(TrySendError::OutOfMemory(_)) => Err(Refusal::Memory),
+            Err(TrySendError::Full(job)) => Offered::held_back(&entrance.queue, job),
+            Err(TrySendError::Closed(_)) => Offered::Refused(Refusal::NoTenant),
+            Err(TrySendError::OutOfMemory(_)) => Offered::Refused(Refusal::Memory),
         }
     }
 
@@ -127,14 +146,23 @@ impl<R: Wait + Drop> Jobs<R> {
         route: Route,
         length: usize,
         refusal: Refusal,
-    ) -> Answer<R>
-        ensures { Refuses refusal result.status (bytes_of result.text) }
-    {
+    ) -> Answer<R> {
         let answer = Answer::refused(alloc, refusal);
         if let Some(entrance) = self.entrance(rt, route.tenant) {
             entrance.counts.add(route.call, length, &answer);
         }
         answer
+    }
+
+    /// Hands a brief call to the event loop of its connection, or gives it back where there is none.
+    pub(crate) fn hand(&self, call: InlineCall<R>) -> Result<(), InlineCall<R>> {
+        match &self.inline {
+            Some(inline) => {
+                let sent = inline.calls.send(call);
+                sent.map_err(|error| error.into_inner())
+            }
+            None => Err(call),
+        }
     }
 
     /// The same for another connection; none where there is no memory.
@@ -143,25 +171,31 @@ impl<R: Wait + Drop> Jobs<R> {
     }
 
     fn shared(&self) -> Mem<Jobs<R>> {
-        let presence = match &self.presence {
-            Some(presence) => Some(Arc::try_clone(presence)?),
+        let inline = match &self.inline {
+            Some(inline) => Some(Arc::try_clone(inline)?),
             None => None,
         };
         Ok(Jobs {
             entrances: Arc::try_clone(&self.entrances)?,
-            shard: self.shard,
-            presence,
+            inline,
         })
     }
 
-    /// The same for the connections of the event loop of that number, and what ends when the last of them has ended.
-    pub fn of_loop(&self, alloc: Global, number: usize) -> Mem<(Jobs<R>, UnboundedReceiver<()>)> {
-        let (presence, ended) = unbounded_channel(alloc)?;
+    /// The same for the connections of the event loop of that number, and where it receives their brief calls.
+    pub fn with_inline_calls(
+        &self,
+        alloc: Global,
+        number: usize,
+    ) -> Mem<(Jobs<R>, UnboundedReceiver<InlineCall<R>>)> {
+        let (sender, calls) = unbounded_channel(alloc)?;
+        let inline = LoopEntrance {
+            calls: sender,
+            shard: number,
+        };
         let jobs = Jobs {
             entrances: Arc::try_clone(&self.entrances)?,
-            shard: number,
-            presence: Some(Arc::new(alloc, presence)?),
+            inline: Some(Arc::new(alloc, inline)?),
         };
-        Ok((jobs, ended))
+        Ok((jobs, calls))
     }
 }

@@ -1,15 +1,10 @@
 //! A call from where its body was read to its answer.
-ghost use Rattle.std.specs.Prelude.{◌≡◌, true, IfErr, IfSome};
 ghost use Rattle.futures.specs.Task.{IsArmed, Keeps};
-ghost use Rattle.futures.specs.Poll.{IfReady, OnPending};
-ghost use Rattle.fair_turns.specs.Texts.{bytes_of};
-ghost use Rattle.tenant_calls.specs.Answers.{Answers, IsAnswer, IsAnswered, IsUncalled};
-ghost use Rattle.tenant_scheduler.specs.Begins.{IfAnswered, IfPending};
-ghost use Rattle.tenant_scheduler.specs.Waits.{IsAsked, IsAskOf, IsUnmade};
+ghost use Rattle.futures.specs.Poll.{OnPending};
 
-use crate::clients::{Ask, Job, JobAnswer, RequestBody};
-use crate::inline_calls::{InlineService, is_brief};
-use crate::jobs::{HeldBack, Jobs};
+use crate::clients::{Ask, Job, RequestBody};
+use crate::inline_calls::{InlineCall, InlineOutcome, is_brief};
+use crate::jobs::{HeldBack, Jobs, Offered, Route};
 use etcd_types::{Refusal, Step};
 use fair_turns::{Answer, SHORT, Stopwatch};
 use futures::channel::oneshot;
@@ -20,7 +15,6 @@ use std::alloc::Global;
 use std::mem;
 use std::rt::Clock;
 use std::sync::Wait;
-use tenant_calls::Route;
 use tokio::sync::mpsc::error::SendError;
 
 /// A call that was begun, or its answer where nothing is left to wait for.
@@ -34,7 +28,6 @@ pub enum Begun<R: Wait + Drop> {
 pub struct PendingCall<R: Wait + Drop> {
     rt: R,
     alloc: Global,
-    route: Route,
     /// How many bytes its body has.
     length: usize,
     stage: Stage<R>,
@@ -45,7 +38,6 @@ impl<R: Wait + Drop> Drop for PendingCall<R> {
         let PendingCall {
             rt: _,
             alloc: _,
-            route: _,
             length: _,
             stage: _,
         } = self;
@@ -54,36 +46,53 @@ impl<R: Wait + Drop> Drop for PendingCall<R> {
 
 #[derive(Drop)]
 enum Stage<R: Wait + Drop> {
+    Inline(Inline<R>),
     Queueing(Queueing<R>),
-    Waiting(oneshot::Receiver<JobAnswer<R>>),
+    Waiting(oneshot::Receiver<Answer<R>>),
     Over,
+}
+
+/// A brief call that was handed to the event loop.
+#[derive(Drop)]
+struct Inline<R: Wait + Drop> {
+    route: Route,
+    outcome: oneshot::Receiver<InlineOutcome<R>>,
 }
 
 /// A job whose tenant's queue is full.
 #[derive(Drop)]
 struct Queueing<R: Wait + Drop> {
     held: HeldBack<R>,
-    answer: oneshot::Receiver<JobAnswer<R>>,
+    tenant: u64,
+    answer: oneshot::Receiver<Answer<R>>,
 }
 
 impl<R: Wait + Drop> Queueing<R> {
-    /// Leaves the job in the queue once there is room: the stage that follows; or why there is none, since the tenant was
-    /// removed, or for want of memory.
-    fn poll_left(self, cx: &mut Context<'_>) -> (Stage<R>, Poll<Result<(), Refusal>>)
-        ensures refused { IfReady result.1 (λ left. IfErr left (λ r. IsUncalled r)) }
+    /// Leaves the job in the queue once there is room: the stage that follows, and the tenant that has a job then; or why
+    /// there is none, which was removed, or for want of memory.
+    fn poll_left(self, cx: &mut Context<'_>) -> (Stage<R>, Poll<Result<u64, Refusal>>)
         ensures registered { OnPending result.1 (IsArmed cx.new) }
         ensures kept { Keeps cx.old cx.new }
     {
-        let Queueing { held, answer } = self;
+        let Queueing {
+            held,
+            tenant,
+            answer,
+        } = self;
         let HeldBack { mut room, job } = held;
         match room.poll(cx) {
             Poll::Pending => {
                 let held = HeldBack { room, job };
-                (Stage::Queueing(Queueing { held, answer }), Poll::Pending)
+                let queueing = Queueing {
+                    held,
+                    tenant,
+                    answer,
+                };
+                (Stage::Queueing(queueing), Poll::Pending)
             }
             Poll::Ready(Ok(permit)) => {
                 drop(permit.send(job));
-                (Stage::Waiting(answer), Poll::Ready(Ok(())))
+                (Stage::Waiting(answer), Poll::Ready(Ok(tenant)))
             }
             Poll::Ready(Err(SendError::Closed(()))) => {
                 (Stage::Over, Poll::Ready(Err(Refusal::NoTenant)))
@@ -96,143 +105,146 @@ impl<R: Wait + Drop> Queueing<R> {
 }
 
 impl<R: Wait + Clock + Copy + Drop> PendingCall<R> {
-    /// Begins a call by the body that was read: serves it where it is brief and nobody has the turn on its tenant, leaves it
-    /// in its tenant's queue, or refuses it.
-    pub fn begin<S: InlineService<R>>(
+    /// Begins a call by the body that was read: hands it to the event loop, leaves it in its tenant's queue, or
+    /// refuses it.
+    pub fn begin(
         rt: R,
         alloc: Global,
         jobs: &Jobs<R>,
-        inline: &S,
         route: Route,
         body: RequestBody,
-    ) -> Begun<R>
-        ensures answered { IfAnswered result (λ answer.
-            Answers route.tenant route.call body.bytes.items answer.status (bytes_of answer.text)) }
-        ensures pending { IfPending result (λ call. call.route ≡ route) }
-    {
+    ) -> Begun<R> {
         let mut pending = PendingCall {
             rt,
             alloc,
-            route,
             length: body.bytes.len(),
             stage: Stage::Over,
         };
-        match pending.ask(jobs, inline, body) {
+        match pending.ask(jobs, route, body) {
             Some(answer) => Begun::Answered(answer),
             None => Begun::Pending(pending),
         }
     }
 
-    /// Reads the step of a short body, and serves it or hands it on; its answer, if there is one already.
-    #[tactic(auto, using(crate::proofs::WaitLemmas::is_asked))]
-    fn ask<S: InlineService<R>>(
-        &mut self,
-        jobs: &Jobs<R>,
-        inline: &S,
-        body: RequestBody,
-    ) -> Option<Answer<R>>
-        ensures answered { IfSome result (λ answer.
-            Answers self.old.route.tenant self.old.route.call body.bytes.items answer.status (bytes_of answer.text)) }
-        ensures route { self.new.route ≡ self.old.route }
-    {
-        let call = self.route.call;
+    /// Reads the step of a short body, and hands the call on; its answer, if there is one already.
+    fn ask(&mut self, jobs: &Jobs<R>, route: Route, body: RequestBody) -> Option<Answer<R>> {
         if self.length > SHORT {
-            return self.queue(jobs, Ask::Body(body));
+            return self.queue(jobs, route, Ask::Body(body));
         }
-        match read_step(self.alloc, call, body.bytes.as_slice()) {
-            Ok(step) if is_brief(&step) => self.serve(jobs, inline, step),
-            Ok(step) => self.queue(jobs, Ask::Step(step)),
+        match read_step(self.alloc, route.call, body.bytes.as_slice()) {
+            Ok(step) if is_brief(&step) => self.hand(jobs, route, step),
+            Ok(step) => self.queue(jobs, route, Ask::Step(step)),
             Err(refusal) => {
-                Some(jobs.refused(&self.rt, self.alloc, self.route, self.length, refusal))
+                Some(jobs.refused(&self.rt, self.alloc, route, self.length, refusal))
             }
         }
     }
 
-    /// Serves a brief step, or leaves it in its tenant's queue where that can't be done now.
-    #[tactic(auto, using(crate::proofs::WaitLemmas::unmade_served))]
-    fn serve<S: InlineService<R>>(
-        &mut self,
-        jobs: &Jobs<R>,
-        inline: &S,
-        step: Step,
-    ) -> Option<Answer<R>>
-        requires { ∥ IsAsked self.old.route.call step ∥₁ }
-        ensures answered { IfSome result (λ answer.
-            IsAnswer self.old.route.tenant step answer.status (bytes_of answer.text)) }
-        ensures route { self.new.route ≡ self.old.route }
-    {
-        match inline.serve(self.route, self.length, step) {
-            Ok(answer) => Some(answer),
-            Err(step) => self.queue(jobs, Ask::Step(step)),
+    /// Hands a brief call to the event loop, or leaves it in its tenant's queue where there is no loop.
+    fn hand(&mut self, jobs: &Jobs<R>, route: Route, step: Step) -> Option<Answer<R>> {
+        match self.handed(jobs, route, step) {
+            Some(Ok(inline)) => self.go_on(Stage::Inline(inline)),
+            Some(Err(step)) => self.queue(jobs, route, Ask::Step(step)),
+            None => Some(Answer::no_memory()),
         }
     }
 
-    /// Leaves a job in its tenant's queue, or waits for room there; its answer where neither can be.
-    #[tactic(auto, using(crate::proofs::WaitLemmas::is_unmade))]
-    fn queue(&mut self, jobs: &Jobs<R>, ask: Ask) -> Option<Answer<R>>
-        requires { ∥ IsAskOf self.old.route.call ask ∥₁ }
-        ensures answered { IfSome result (λ answer. IsUnmade answer.status (bytes_of answer.text)) }
-        ensures route { self.new.route ≡ self.old.route }
-    {
-        match self.queued(jobs, ask) {
-            Ok(stage) => {
-                self.stage = stage;
-                None
-            }
+    /// There is no answer yet.
+    fn go_on(&mut self, stage: Stage<R>) -> Option<Answer<R>> {
+        self.stage = stage;
+        None
+    }
+
+    /// What waits for the event loop, or the step given back where there is no loop; none where there is no memory.
+    fn handed(&self, jobs: &Jobs<R>, route: Route, step: Step) -> Option<Result<Inline<R>, Step>> {
+        let (reply, outcome) = oneshot::channel(self.alloc).ok()?;
+        let call = InlineCall {
+            route,
+            step,
+            length: self.length,
+            reply,
+        };
+        match jobs.hand(call) {
+            Ok(()) => Some(Ok(Inline { route, outcome })),
+            Err(call) => Some(Err(call.into_step())),
+        }
+    }
+
+    /// Leaves a job in a tenant's queue, or waits for room there.
+    fn queue(&mut self, jobs: &Jobs<R>, route: Route, ask: Ask) -> Option<Answer<R>> {
+        match self.queued(jobs, route, ask) {
+            Ok(stage) => self.go_on(stage),
             Err(refusal) => Some(Answer::refused(self.alloc, refusal)),
         }
     }
 
-    /// The stage of a job that was left in its tenant's queue, or waits for room there.
-    fn queued(&self, jobs: &Jobs<R>, ask: Ask) -> Result<Stage<R>, Refusal>
-        requires { ∥ IsAskOf self.now.route.call ask ∥₁ }
-        ensures { IfErr result (λ r. IsUncalled r) }
-    {
+    /// The stage of a job that was left in a tenant's queue, or waits for room there.
+    fn queued(&self, jobs: &Jobs<R>, route: Route, ask: Ask) -> Result<Stage<R>, Refusal> {
         let Ok((reply, answer)) = oneshot::channel(self.alloc) else {
             return Err(Refusal::Memory);
         };
+        let Route { tenant, call } = route;
         let job = Job {
-            route: self.route,
+            call,
             ask,
             length: self.length,
             waiting: Stopwatch::start(&self.rt),
             reply,
         };
-        match jobs.offer(&self.rt, job)? {
-            None => Ok(Stage::Waiting(answer)),
-            Some(held) => Ok(Stage::Queueing(Queueing { held, answer })),
+        match jobs.offer(&self.rt, tenant, job) {
+            Offered::Queued => Ok(Stage::Waiting(answer)),
+            Offered::Full(held) => Ok(Stage::Queueing(Queueing {
+                held,
+                tenant,
+                answer,
+            })),
+            Offered::Refused(refusal) => Err(refusal),
         }
     }
 
-    /// The answer, which is one of this call on its tenant; none where the server ended before the call was served.
-    #[tactic(auto, using(crate::proofs::WaitLemmas::unmade_answered))]
+    /// The answer; none where the server ended before the call was served.
     pub fn poll_answer(&mut self, jobs: &Jobs<R>, cx: &mut Context<'_>) -> Poll<Option<Answer<R>>>
-        ensures answered { IfReady result (λ told. IfSome told (λ answer.
-            ∥ IsAnswered self.old.route answer.status (bytes_of answer.text) ∥₁)) }
         ensures registered { OnPending result (IsArmed cx.new) }
         ensures kept { Keeps cx.old cx.new }
     {
-        let route = self.route;
-        if let Stage::Queueing(_) = &self.stage
-            && let Some(answer) = ready!(self.poll_room(jobs, cx))
-        {
+        if let Some(answer) = ready!(self.poll_inline(jobs, cx)) {
             return Poll::Ready(Some(answer));
+        }
+        if let Stage::Queueing(_) = &self.stage
+            && let Some(refusal) = ready!(self.poll_room(jobs, cx))
+        {
+            return Poll::Ready(Some(Answer::refused(self.alloc, refusal)));
         }
         let Stage::Waiting(answer) = &mut self.stage else {
             return Poll::Ready(None);
         };
         match ready!(answer.poll(cx)) {
-            Ok(told) if is_same(told.route, route) => Poll::Ready(Some(told.answer)),
-            _ => Poll::Ready(None),
+            Ok(answer) => Poll::Ready(Some(answer)),
+            Err(_) => Poll::Ready(None),
         }
     }
 
-    /// Leaves the job in the queue once there is room; its answer where it can't be.
-    #[tactic(auto, using(crate::proofs::WaitLemmas::is_unmade))]
-    fn poll_room(&mut self, jobs: &Jobs<R>, cx: &mut Context<'_>) -> Poll<Option<Answer<R>>>
-        ensures answered { IfReady result (λ told. IfSome told (λ answer.
-            IsUnmade answer.status (bytes_of answer.text))) }
-        ensures route { self.new.route ≡ self.old.route }
+    /// The answer of a call that the event loop has served, if it did. One whose tenant is busy is left in its
+    /// tenant's queue.
+    fn poll_inline(&mut self, jobs: &Jobs<R>, cx: &mut Context<'_>) -> Poll<Option<Answer<R>>>
+        ensures registered { OnPending result (IsArmed cx.new) }
+        ensures kept { Keeps cx.old cx.new }
+    {
+        let Stage::Inline(inline) = &mut self.stage else {
+            return Poll::Ready(None);
+        };
+        let outcome = ready!(inline.outcome.poll(cx));
+        let route = inline.route;
+        Poll::Ready(match outcome {
+            Ok(InlineOutcome::Answered(answer)) => Some(answer),
+            Ok(InlineOutcome::Busy(step)) => self.queue(jobs, route, Ask::Step(step)),
+            // The loop ended for want of memory.
+            Err(_) => self.go_on(Stage::Over),
+        })
+    }
+
+    /// Leaves the job in the queue once there is room, or tells why not.
+    fn poll_room(&mut self, jobs: &Jobs<R>, cx: &mut Context<'_>) -> Poll<Option<Refusal>>
         ensures registered { OnPending result (IsArmed cx.new) }
         ensures kept { Keeps cx.old cx.new }
     {
@@ -242,19 +254,11 @@ impl<R: Wait + Clock + Copy + Drop> PendingCall<R> {
         let (stage, left) = queueing.poll_left(cx);
         self.stage = stage;
         Poll::Ready(match ready!(left) {
-            Ok(()) => {
-                jobs.schedule(&self.rt, self.route.tenant);
+            Ok(tenant) => {
+                jobs.schedule(&self.rt, tenant);
                 None
             }
-            Err(refusal) => Some(Answer::refused(self.alloc, refusal)),
+            Err(refusal) => Some(refusal),
         })
     }
-}
-
-/// It is the same call, on the same tenant.
-#[tactic(auto, using(crate::proofs::WaitLemmas::same_route))]
-fn is_same(one: Route, other: Route) -> bool
-    ensures { result ≡ true → one ≡ other }
-{
-    one.tenant == other.tenant && one.call == other.call
 }

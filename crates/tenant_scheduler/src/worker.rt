@@ -1,14 +1,6 @@
 //! The workers: the calls of clients.
-ghost use Rattle.std.specs.Prelude.{IfErr, IfOk, ℕ};
-ghost use Rattle.etcd_types.specs.declared.step.Step.{Step};
-ghost use Rattle.etcd_model.specs.Members.{IsAnswer as IsRead};
-ghost use Rattle.etcd_model.specs.Calls.{read_step};
-ghost use Rattle.fair_turns.specs.Texts.{bytes_of};
-ghost use Rattle.tenant_calls.specs.Answers.{IsAnswer, IsAnswered, IsTold};
-ghost use Rattle.tenant_scheduler.specs.Waits.{IsAsked, IsAskOf, IsUnread};
-
 use crate::caller::Caller;
-use crate::clients::{Ask, Clients, Job, JobAnswer, OpenWatch};
+use crate::clients::{Ask, Clients, Job, OpenWatch};
 use crate::pump::{serve_takes, take_all};
 use crate::serving::ServingThread;
 use crate::tenants::ServedTenant;
@@ -20,7 +12,7 @@ use gateway_json::read_step;
 use std::alloc::Global;
 use std::rt::Clock;
 use std::sync::{Arc, Wait};
-use tenant_calls::{CallReceipt, Route, TenantCalls};
+use tenant_calls::{CallReceipt, TenantCalls};
 
 /// How many jobs of a tenant are served in one turn.
 const JOBS_A_TURN: usize = 8;
@@ -122,7 +114,7 @@ impl<R: Wait + Clock + Copy + Drop, C: TenantCalls> WorkerTurn<'_, '_, R, C> {
                 return;
             };
             let Job {
-                route,
+                call,
                 ask,
                 length,
                 waiting,
@@ -130,12 +122,12 @@ impl<R: Wait + Clock + Copy + Drop, C: TenantCalls> WorkerTurn<'_, '_, R, C> {
             } = job;
             clients.counts.waits().add(waiting.passed(&self.rt));
             bytes = bytes.saturating_add(ask.len());
-            let answer = self.answer(caller, clients, route, ask);
-            clients.counts.add(route.call, length, &answer);
+            let answer = self.answer(caller, clients, call, ask);
+            clients.counts.add(call, length, &answer);
             bytes = bytes.saturating_add(answer.len());
             // Where the client has gone, the call stays made.
-            drop(reply.send(JobAnswer { route, answer }));
-            if may_give(route.call) {
+            drop(reply.send(answer));
+            if may_give(call) {
                 clients.schedule_takes(&self.rt, self.scheduler, self.tenant.turns());
             }
         }
@@ -143,66 +135,37 @@ impl<R: Wait + Clock + Copy + Drop, C: TenantCalls> WorkerTurn<'_, '_, R, C> {
             .schedule(&self.rt, self.tenant.turns(), Work::Jobs);
     }
 
-    /// What a job of a call is answered.
-    #[tactic(auto, using(crate::proofs::WaitLemmas::step_answered, crate::proofs::WaitLemmas::unread_answered))]
     fn answer(
         &self,
         caller: &mut Caller<R, C>,
         clients: &mut Clients<R, C::Key>,
-        route: Route,
+        call: Call,
         ask: Ask,
-    ) -> Answer<R>
-        requires { ∥ IsAskOf route.call ask ∥₁ }
-        ensures { ∥ IsAnswered route result.status (bytes_of result.text) ∥₁ }
-    {
-        match self.step_of(clients, route.call, ask) {
-            Ok(step) => self.serve(caller, clients, route.tenant, step),
-            Err(refusal) => Answer::refused(self.alloc, refusal),
-        }
-    }
-
-    /// The step that a call asks for.
-    #[tactic(auto, using(crate::proofs::WaitLemmas::is_asked, crate::proofs::WaitLemmas::is_unread))]
-    fn step_of(&self, clients: &Clients<R, C::Key>, call: Call, ask: Ask) -> Result<Step, Refusal>
-        requires { ∥ IsAskOf call ask ∥₁ }
-        ensures step { IfOk result (λ step. ∥ IsAsked call step ∥₁) }
-        ensures refused { IfErr result (λ r. ∥ IsUnread call r ∥₁) }
-    {
-        match ask {
-            Ask::Step(step) => Ok(step),
-            Ask::Body(body) => self.read(clients, call, body.bytes.as_slice()),
-        }
-    }
-
-    /// What a step of the tenant of that number is answered.
-    fn serve(
-        &self,
-        caller: &mut Caller<R, C>,
-        clients: &mut Clients<R, C::Key>,
-        number: u64,
-        step: Step,
-    ) -> Answer<R>
-        ensures { IsAnswer number step result.status (bytes_of result.text) }
-    {
+    ) -> Answer<R> {
+        let step = match ask {
+            Ask::Step(step) => step,
+            Ask::Body(body) => match self.read(clients, call, body.bytes.as_slice()) {
+                Ok(step) => step,
+                Err(refusal) => return Answer::refused(self.alloc, refusal),
+            },
+        };
         match step {
-            Step::Watch(_) => self.open(caller, clients, number, step),
+            Step::Watch(_) => self.open(caller, clients, step),
             Step::Compact(_) => {
                 // A watch with nothing to tell moves on by being taken; else it would be cancelled for what it
                 // has only not been asked about.
                 if !take_all(caller, clients) {
                     return Answer::no_memory();
                 }
-                caller.answer(self.alloc, clients, number, step)
+                caller.answer(self.alloc, clients, step)
             }
-            _ => caller.answer(self.alloc, clients, number, step),
+            _ => caller.answer(self.alloc, clients, step),
         }
     }
 
     /// The step of a long body. It is refused where the tree that is made of it is large, and the tenant's budget has no
     /// room for it.
-    fn read(&self, clients: &Clients<R, C::Key>, call: Call, body: &[u8]) -> Result<Step, Refusal>
-        ensures { IsRead result (read_step call body.now) }
-    {
+    fn read(&self, clients: &Clients<R, C::Key>, call: Call, body: &[u8]) -> Result<Step, Refusal> {
         let weight = tree_weight(body);
         if weight <= SMALL_TREE {
             return read_step(self.alloc, call, body);
@@ -220,18 +183,15 @@ impl<R: Wait + Clock + Copy + Drop, C: TenantCalls> WorkerTurn<'_, '_, R, C> {
         &self,
         caller: &mut Caller<R, C>,
         clients: &mut Clients<R, C::Key>,
-        number: u64,
         step: Step,
-    ) -> Answer<R>
-        ensures { IsAnswer number step result.status (bytes_of result.text) }
-    {
+    ) -> Answer<R> {
         if clients.watches.reserve(1).is_err() {
             return Answer::no_memory();
         }
         let Ok((sender, texts)) = TextSender::new(self.rt, self.alloc, self.tenant.turns()) else {
             return Answer::no_memory();
         };
-        match caller.serve(clients, number, step) {
+        match caller.call(&clients.key, step) {
             Ok(receipt) => opened(caller, clients, receipt, sender, texts),
             Err(refusal) => Answer::refused(self.alloc, refusal),
         }
@@ -245,10 +205,7 @@ fn opened<R: Wait + Clock + Copy + Drop, C: TenantCalls>(
     receipt: CallReceipt,
     sender: TextSender,
     texts: WatchTexts<R>,
-) -> Answer<R>
-    ensures { (number : ℕ) (step : Step) → IsTold number step receipt
-        → IsAnswer number step result.status (bytes_of result.text) }
-{
+) -> Answer<R> {
     let (status, refusal) = (receipt.status, receipt.refusal);
     let Some(slot) = receipt.slot else {
         return Answer::text(status, refusal, MadeText::short(receipt.into_body()));

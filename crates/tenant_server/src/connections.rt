@@ -9,7 +9,7 @@ use etcd_types::Mem;
 use futures::executor::TaskSet;
 use futures::task::{Context, Poll};
 use futures::{Future, ready};
-use gateway_http::{ClientConnection, Gateway, Http};
+use gateway_http::{Gateway, Http};
 use hyper::rt::TokioTimer;
 use std::alloc::{AllocGlobal, Global};
 use std::hash::RandomState;
@@ -19,7 +19,7 @@ use std::sync::Wait;
 use std::time::{Clock, Duration, Instant};
 use std::{io, net, thread};
 use tenant_calls::TenantCalls;
-use tenant_scheduler::{InlineCalls, InlineService, Jobs, ServingThread};
+use tenant_scheduler::{InlineCalls, Jobs, ServingThread};
 use tokio::net::TcpStream;
 use tokio::runtime::LocalRuntime;
 use tokio::sync::mpsc::error::SendError;
@@ -215,73 +215,57 @@ struct Arrived {
     stream: TcpStream,
 }
 
-/// How a loop's connections become tasks. Of what they are made is all one to the loop: its code is proved over none of
-/// their types.
-trait MakeTask: Drop {
-    type Task: Future<Output = ()>;
-
-    /// A connection as a task; without one a task that has ended.
-    fn make(&self, arrived: Option<Arrived>) -> Mem<Self::Task>
-        ensures { IfOk result Self.Task.can_poll };
-}
-
-/// The thread of an event loop. What it calls tenants by is all one to its connections: over those types hyper's pass the
-/// prover's limit.
-trait LoopThread {
-    /// It shows that it is not stuck.
-    fn beat(&self);
-}
-
-impl<R: Wait + Clock + Copy + Drop, C: TenantCalls> LoopThread for InlineCalls<R, C> {
-    fn beat(&self) {
-        InlineCalls::beat(self);
-    }
-}
-
-/// Takes a loop's connections in, each as a task of a set. Ready once no more come, and the last has ended.
+/// Takes a loop's connections in, each as a task of a set, and serves their inline calls. Ready once no more come.
 ///
 /// A connection for which there is no memory is closed, and nothing else happens: what is short may be there again
 /// for the next one.
 #[derive(Drop)]
-struct Connections<'a, L, M: MakeTask> {
-    thread: &'a L,
+struct Connections<'a, R: Wait + Drop, C: TenantCalls, F, T: Future> {
+    inline_calls: &'a mut InlineCalls<R, C>,
     sockets: UnboundedReceiver<Accepted>,
-    /// It ends with the last connection, and receives nothing.
-    ended: UnboundedReceiver<()>,
     losses: Losses,
     reactor: reactor::Handle,
-    tasks: &'a TaskSet<M::Task>,
+    tasks: &'a TaskSet<T>,
     /// None once no more connections come.
-    maker: Option<M>,
+    make: Option<F>,
     beats: Option<Interval>,
 }
 
-impl<L: LoopThread, M: MakeTask> Future for Connections<'_, L, M> {
+impl<R, C, F, T> Future for Connections<'_, R, C, F, T>
+where
+    R: Wait + Clock + Copy + Drop,
+    C: TenantCalls,
+    F: Fn(Option<Arrived>) -> Mem<T> + Drop,
+    T: Future<Output = ()>,
+{
     type Output = ();
+
+    ghost can_poll = { λ a. IfSome a.make (λ make. F.IsAlwaysCallable make
+        × ((arrived : _) (made : _) → F.post make arrived made → IfOk made T.can_poll)) };
 
     fn poll(&mut self, cx: &mut Context<'_>) -> Poll<()> {
         if let Some(beats) = &mut self.beats
             && beats.poll_tick(cx).is_ready()
         {
-            self.thread.beat();
+            self.inline_calls.beat();
             return cx.yield_now();
         }
-        if let Some(maker) = &self.maker {
+        if let Some(make) = &self.make {
             match self.sockets.poll_recv(cx) {
                 Poll::Ready(Some(Accepted { open, socket })) => {
                     if let Ok(stream) = TcpStream::from_std(socket, &self.reactor) {
                         let _ = stream.set_nodelay(true);
-                        if !begin(self.tasks, maker.make(Some(Arrived { open, stream }))) {
+                        if !begin(self.tasks, make(Some(Arrived { open, stream }))) {
                             self.losses.add();
                         }
                     }
                     return cx.yield_now();
                 }
-                Poll::Ready(None) => self.maker = None,
+                Poll::Ready(None) => self.make = None,
                 Poll::Pending => {}
             }
         }
-        self.ended.poll_recv(cx).map(|_| ())
+        self.inline_calls.poll_end(cx)
     }
 }
 
@@ -333,98 +317,26 @@ where
     R: Wait + Clock + RandomSource + AllocGlobal + Copy + Drop,
     C: TenantCalls,
 {
-    let Ok((jobs, ended)) = jobs.of_loop(alloc, own.number) else {
+    let Ok((jobs, inline_calls)) = jobs.with_inline_calls(alloc, own.number) else {
         return (thread.into_calls(), Err(ServeFault::Memory));
     };
-    let inline_calls = InlineCalls::new(alloc, own.number, thread);
-    let served = serve_loop(rt, alloc, own, (jobs, ended), &inline_calls);
+    let mut inline_calls = InlineCalls::new(alloc, own.number, thread, inline_calls);
+    let served = serve_sockets(rt, alloc, own, jobs, &mut inline_calls);
+    let served = served.map_err(|error| ServeFault::of(&error));
     (inline_calls.into_calls(), served)
 }
 
-/// Runs a loop's connections, whose brief calls are served by what the loop has.
-fn serve_loop<R, C>(
+/// Runs a loop's connections as tasks.
+fn serve_sockets<R, C>(
     rt: R,
     alloc: Global,
     own: SocketLoop,
-    jobs: (Jobs<R>, UnboundedReceiver<()>),
-    calls: &InlineCalls<R, C>,
-) -> Result<(), ServeFault>
-where
-    R: Wait + Clock + RandomSource + AllocGlobal + Copy + Drop,
-    C: TenantCalls,
-{
-    match serve_sockets(rt, alloc, own, jobs, calls, calls.service()) {
-        Ok(()) => Ok(()),
-        Err(error) => Err(ServeFault::of(&error)),
-    }
-}
-
-/// What a loop's connections are made of.
-struct Maker<R: Wait + Clock + Copy + Drop, S: InlineService<R>> {
-    rt: R,
-    alloc: Global,
-    http: Http<TokioTimer<R>>,
-    timers: time::Handle,
     jobs: Jobs<R>,
-    service: S,
-    patience: Patience,
-    start: Instant,
-}
-
-impl<R: Wait + Clock + Copy + Drop, S: InlineService<R>> Drop for Maker<R, S> {
-    fn drop(self) {
-        let Maker {
-            rt: _,
-            alloc: _,
-            http: _,
-            timers: _,
-            jobs: _,
-            service: _,
-            patience: _,
-            start: _,
-        } = self;
-    }
-}
-
-impl<R: Wait + Clock + Copy + Drop, S: InlineService<R>> MakeTask for Maker<R, S> {
-    type Task = Served<ClientConnection<TcpStream, R, S, TokioTimer<R>>>;
-
-    fn make(
-        &self,
-        arrived: Option<Arrived>,
-    ) -> Mem<Served<ClientConnection<TcpStream, R, S, TokioTimer<R>>>>
-        ensures { IfOk result (λ served. IfSome served.connection (λ connection.
-            ⟦<ClientConnection<TcpStream, R, S, TokioTimer<R>> as Future>⟧.can_poll connection.value)) }
-    {
-        let Some(Arrived { open, stream }) = arrived else {
-            return Ok(Served::ended());
-        };
-        let gateway = Gateway {
-            rt: self.rt,
-            alloc: self.alloc,
-            jobs: self.jobs.share(),
-            inline: self.service.share(),
-            requests: open.requests(self.rt, self.start),
-            timers: self.timers.clone().ok(),
-            body_patience: self.patience.for_body(),
-        };
-        Served::of(self.alloc, open, self.http.connect(stream, gateway))
-    }
-}
-
-/// Runs a loop's connections as tasks, whose brief calls a service serves.
-fn serve_sockets<R, L, S>(
-    rt: R,
-    alloc: Global,
-    own: SocketLoop,
-    jobs: (Jobs<R>, UnboundedReceiver<()>),
-    thread: &L,
-    service: S,
+    inline_calls: &mut InlineCalls<R, C>,
 ) -> io::Result<()>
 where
     R: Wait + Clock + RandomSource + AllocGlobal + Copy + Drop,
-    L: LoopThread,
-    S: InlineService<R>,
+    C: TenantCalls,
 {
     let SocketLoop {
         mut runtime,
@@ -440,59 +352,61 @@ where
         timers,
         reactor,
     } = Tools::new(rt, alloc, &runtime, patience)?;
-    let (jobs, ended) = jobs;
     let beats = timers
         .interval(&rt, Duration::from_secs(SECONDS_A_BEAT))
         .ok();
-    let maker = Maker {
-        rt,
-        alloc,
-        http,
-        timers,
-        jobs,
-        service,
-        patience,
-        start,
+    let make = move |arrived| {
+        let Some(Arrived { open, stream }) = arrived else {
+            return Ok(Served::ended());
+        };
+        let gateway = Gateway {
+            rt,
+            alloc,
+            jobs: jobs.share(),
+            requests: open.requests(rt, start),
+            timers: timers.clone().ok(),
+            body_patience: patience.for_body(),
+        };
+        Served::of(alloc, open, http.connect(stream, gateway))
     };
     let arriving = Arriving {
         sockets,
-        ended,
         losses,
         reactor,
         beats,
         ready,
     };
-    run_tasks(&rt, &mut runtime, thread, arriving, maker)
+    run_tasks(&rt, &mut runtime, inline_calls, arriving, make)
 }
 
 /// What a loop's connections come by.
 #[derive(Drop)]
 struct Arriving {
     sockets: UnboundedReceiver<Accepted>,
-    /// It ends with the last connection.
-    ended: UnboundedReceiver<()>,
     losses: Losses,
     reactor: reactor::Handle,
     beats: Option<Interval>,
     ready: Sender<()>,
 }
 
-/// Runs a loop's connections as tasks.
-fn run_tasks<R, L, M>(
+/// Runs a loop's connections as tasks that a function makes; without a connection it makes one that has ended.
+fn run_tasks<R, C, F, T>(
     rt: &R,
     runtime: &mut LocalRuntime,
-    thread: &L,
+    inline_calls: &mut InlineCalls<R, C>,
     arriving: Arriving,
-    maker: M,
+    make: F,
 ) -> io::Result<()>
 where
     R: Wait + Clock + RandomSource + AllocGlobal + Copy + Drop,
-    L: LoopThread,
-    M: MakeTask,
+    C: TenantCalls,
+    F: Fn(Option<Arrived>) -> Mem<T> + Drop,
+    T: Future<Output = ()>,
+    requires callable { F.IsAlwaysCallable make }
+    requires pollable { (arrived : _) (made : _) → F.post make arrived made → IfOk made T.can_poll }
 {
     let Arriving {
         sockets,
-        ended,
         losses,
         reactor,
         beats,
@@ -500,18 +414,17 @@ where
     } = arriving;
     let tasks = runtime.task_set(rt)?;
     for _ in 0..ROOMS {
-        let _ = begin(&tasks, maker.make(None));
+        let _ = begin(&tasks, make(None));
     }
     let _ = ready.send(rt, ());
     drop(ready);
     let connections = Connections {
-        thread,
+        inline_calls,
         sockets,
-        ended,
         losses,
         reactor,
         tasks: &tasks,
-        maker: Some(maker),
+        make: Some(make),
         beats,
     };
     runtime.block_on_with(rt, &tasks, connections)

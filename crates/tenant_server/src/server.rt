@@ -19,7 +19,7 @@ use std::sync::{Arc, Wait};
 use std::thread::Threads;
 use std::time::{Clock, Instant};
 use tenant_calls::{TenantCalls, TenantKey};
-use tenant_scheduler::{Jobs, NoInlineCalls, Shared, open};
+use tenant_scheduler::{Jobs, Shared, open};
 use tokio::io::{AsyncRead, AsyncWrite};
 use tokio::runtime::LocalRuntime;
 use tokio::sync::mpsc::UnboundedReceiver;
@@ -47,13 +47,18 @@ impl Drop for Terms {
     }
 }
 
+impl Terms {
+    /// How many connections may be open at once.
+    fn most(&self) -> usize {
+        self.open_connections.unwrap_or(most_connections())
+    }
+}
+
 /// A socket that listens, and what its connections may take.
 pub struct Listening {
     runtimes: Vec<LocalRuntime>,
     listener: TcpListener,
     terms: Terms,
-    /// How many connections may be open at once, as the system allowed when the socket began to listen.
-    most: usize,
 }
 
 impl Drop for Listening {
@@ -62,7 +67,6 @@ impl Drop for Listening {
             runtimes: _,
             listener: _,
             terms: _,
-            most: _,
         } = self;
     }
 }
@@ -75,12 +79,10 @@ impl Listening {
     {
         let runtimes = make_runtimes(rt)?;
         let listener = bind(rt, address, terms.patience)?;
-        let most = terms.open_connections.unwrap_or(most_connections());
         Ok(Listening {
             runtimes,
             listener,
             terms,
-            most,
         })
     }
 
@@ -89,14 +91,13 @@ impl Listening {
         self.listener.local_addr()
     }
 
-    fn into_parts(self) -> (Vec<LocalRuntime>, TcpListener, Terms, usize) {
+    fn into_parts(self) -> (Vec<LocalRuntime>, TcpListener, Terms) {
         let Listening {
             runtimes,
             listener,
             terms,
-            most,
         } = self;
-        (runtimes, listener, terms, most)
+        (runtimes, listener, terms)
     }
 }
 
@@ -154,9 +155,10 @@ where
         keys: Vec<K>,
         count: usize,
     ) -> Result<Opened<R, K>, ServeFault> {
-        let (runtimes, listener, terms, most) = listening.into_parts();
+        let (runtimes, listener, terms) = listening.into_parts();
         let alloc = rt.alloc();
         let start = Instant::now(&rt).map_err(|error| ServeFault::of(&error))?;
+        let most = terms.most();
         let allowances = terms.allowances.as_slice();
         let of_tenants = terms_of(alloc, allowances)?;
         let table = connections(rt, alloc, start, most, allowances)?;
@@ -268,11 +270,11 @@ where
         return End::Fault;
     };
     let http = Http::new(alloc, keys, NoTimer, Patience::DEFAULT.for_head());
+    let jobs = jobs.share();
     let gateway = Gateway {
         rt,
         alloc,
-        jobs: jobs.share(),
-        inline: NoInlineCalls,
+        jobs,
         requests: None,
         timers: None,
         body_patience: Patience::DEFAULT.for_body(),

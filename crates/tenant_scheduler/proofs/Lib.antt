@@ -1,2 +1,0 @@
--- Proofs of this crate.
-pub mod WaitLemmas

@@ -1,2 +1,0 @@
-pub mod Begins
-pub mod Waits
