@@ -6,9 +6,7 @@
 #![tactic(auto)]
 
 mod receipt;
-mod route;
 mod tenant;
 
 pub use receipt::CallReceipt;
-pub use route::Route;
 pub use tenant::{TakeHint, TenantCalls, TenantKey};

@@ -1,2 +1,0 @@
--- Proofs of this crate, and lemmas for who serves tenants.
-pub mod AnswerLemmas
