@@ -1,4 +1,8 @@
 //! What a call is answered.
+ghost use Rattle.std.specs.Prelude.{◌≡◌, Some, None};
+ghost use Rattle.etcd_types.specs.declared.refusal.Refusal.TheVariants as refusal;
+ghost use Rattle.fair_turns.specs.Answers.{bytes_of, Refuses};
+
 use crate::budget::MadeText;
 use crate::watch_texts::WatchTexts;
 use etcd_types::{Refusal, Reply};
@@ -6,12 +10,13 @@ use gateway_text::{memory_text, write_reply};
 use std::alloc::Global;
 use std::sync::Wait;
 
-/// A status and a body.
+/// A status and a text, and behind that of a watch which was created its texts as they come.
 pub struct Answer<R: Wait + Drop> {
     status: u16,
     /// Why the call was refused, if it was.
     refusal: Option<Refusal>,
-    body: AnswerBody<R>,
+    text: Text,
+    following: Option<WatchTexts<R>>,
 }
 
 impl<R: Wait + Drop> Drop for Answer<R> {
@@ -19,7 +24,8 @@ impl<R: Wait + Drop> Drop for Answer<R> {
         let Answer {
             status: _,
             refusal: _,
-            body: _,
+            text: _,
+            following: _,
         } = self;
     }
 }
@@ -43,24 +49,18 @@ impl Text {
     }
 }
 
-/// A text, or the texts of a watch as they come.
-#[derive(Drop)]
-pub enum AnswerBody<R: Wait + Drop> {
-    Text(Text),
-    Watch {
-        /// What its create was answered.
-        created: Text,
-        texts: WatchTexts<R>,
-    },
-}
-
 impl<R: Wait + Drop> Answer<R> {
     /// A status and a text of its own, of a refusal or of what was asked for.
-    pub fn text(status: u16, refusal: Option<Refusal>, text: MadeText) -> Answer<R> {
+    pub fn text(status: u16, refusal: Option<Refusal>, text: MadeText) -> Answer<R>
+        ensures status { result.status ≡ status }
+        ensures text { bytes_of result.text ≡ text.bytes.items }
+        ensures last { result.following ≡ None }
+    {
         Answer {
             status,
             refusal,
-            body: AnswerBody::Text(Text::Made(text)),
+            text: Text::Made(text),
+            following: None,
         }
     }
 
@@ -70,19 +70,23 @@ impl<R: Wait + Drop> Answer<R> {
         refusal: Option<Refusal>,
         created: MadeText,
         texts: WatchTexts<R>,
-    ) -> Answer<R> {
+    ) -> Answer<R>
+        ensures status { result.status ≡ status }
+        ensures text { bytes_of result.text ≡ created.bytes.items }
+        ensures following { result.following ≡ Some texts }
+    {
         Answer {
             status,
             refusal,
-            body: AnswerBody::Watch {
-                created: Text::Made(created),
-                texts,
-            },
+            text: Text::Made(created),
+            following: Some(texts),
         }
     }
 
     /// The answer of a refusal, or out of memory where there is none for its text.
-    pub fn refused(alloc: Global, refusal: Refusal) -> Answer<R> {
+    pub fn refused(alloc: Global, refusal: Refusal) -> Answer<R>
+        ensures { Refuses refusal result }
+    {
         match write_reply(alloc, &Reply::Refused(refusal)) {
             Ok((status, text)) => Answer::text(status, Some(refusal), MadeText::short(text)),
             Err(_) => Answer::no_memory(),
@@ -90,37 +94,49 @@ impl<R: Wait + Drop> Answer<R> {
     }
 
     /// Out of memory: an answer that takes none.
-    pub fn no_memory() -> Answer<R> {
+    pub fn no_memory() -> Answer<R>
+        ensures { Refuses refusal.Memory result }
+    {
         Answer {
             status: Refusal::Memory.status(),
             refusal: Some(Refusal::Memory),
-            body: AnswerBody::Text(Text::OutOfMemory),
+            text: Text::OutOfMemory,
+            following: None,
         }
     }
 
-    pub fn status(&self) -> u16 {
+    pub fn status(&self) -> u16
+        ensures { result ≡ self.now.status }
+    {
         self.status
     }
 
     /// Why the call was refused, if it was.
-    pub fn refusal(&self) -> Option<Refusal> {
+    pub fn refusal(&self) -> Option<Refusal>
+        ensures { result ≡ self.now.refusal }
+    {
         self.refusal
     }
 
-    pub fn into_body(self) -> AnswerBody<R> {
+    /// Its text, and those that follow it where it is of a watch.
+    pub fn into_texts(self) -> (Text, Option<WatchTexts<R>>)
+        ensures text { result.0 ≡ self.text }
+        ensures following { result.1 ≡ self.following }
+    {
         let Answer {
             status: _,
             refusal: _,
-            body,
+            text,
+            following,
         } = self;
-        body
+        (text, following)
     }
 
     /// How many bytes its text has; a watch has no end.
     pub fn len(&self) -> usize {
-        match &self.body {
-            AnswerBody::Text(text) => text.len(),
-            AnswerBody::Watch { .. } => 0,
+        if self.following.is_some() {
+            return 0;
         }
+        self.text.len()
     }
 }

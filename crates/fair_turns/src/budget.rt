@@ -6,6 +6,7 @@
 //! before it is planned, and is refused where so much is not left; its answer keeps the share of its text. How long the
 //! text of a watch is shows once it is made: what is not there then is owed, and paid before anything else is given
 //! back.
+ghost use Rattle.std.specs.Prelude.{◌≡◌};
 ghost use Rattle.futures.specs.Task.{IsArmed, Keeps};
 ghost use Rattle.futures.specs.Poll.{OnPending};
 ghost use Rattle.tokio.specs.Locks.{CanAcquire};
@@ -90,7 +91,9 @@ impl Budget {
 
     /// A text that was made, with a share of its length, for which something may have been reserved. A short one takes
     /// none.
-    pub fn charge(&self, reserved: Option<Share>, bytes: Vec<u8>) -> MadeText {
+    pub fn charge(&self, reserved: Option<Share>, bytes: Vec<u8>) -> MadeText
+        ensures { result.bytes ≡ bytes }
+    {
         if bytes.len() <= SHORT {
             return MadeText::short(bytes);
         }
@@ -236,7 +239,9 @@ impl Drop for MadeText {
 
 impl MadeText {
     /// A text that is short by what it tells.
-    pub fn short(bytes: Vec<u8>) -> MadeText {
+    pub fn short(bytes: Vec<u8>) -> MadeText
+        ensures { result.bytes ≡ bytes }
+    {
         MadeText { bytes, share: None }
     }
 
@@ -245,7 +250,9 @@ impl MadeText {
         self.bytes.len()
     }
 
-    pub fn into_parts(self) -> (Vec<u8>, Option<Share>) {
+    pub fn into_parts(self) -> (Vec<u8>, Option<Share>)
+        ensures { result.0 ≡ self.bytes }
+    {
         let MadeText { bytes, share } = self;
         (bytes, share)
     }

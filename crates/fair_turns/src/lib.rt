@@ -23,7 +23,7 @@ mod slow_tenants;
 mod stopwatch;
 mod watch_texts;
 
-pub use answer::{Answer, AnswerBody, Text};
+pub use answer::{Answer, Text};
 pub use answered::{AnsweredCalls, CALLS, LAST_REFUSAL, STATUSES};
 pub use beats::Beats;
 pub use budget::{
@@ -34,4 +34,4 @@ pub use counts::TenantCounts;
 pub use durations::{Durations, ENDS};
 pub use scheduler::{BESIDE_WORKERS, Scheduler, TenantTurns, Turn, Turns, Work};
 pub use stopwatch::Stopwatch;
-pub use watch_texts::{NoRoom, TextSender, WatchTexts};
+pub use watch_texts::{NoRoom, TakenText, TextSender, WatchTexts};

@@ -4,7 +4,9 @@
 //! holds one text, and one that stops reading holds up nobody. A second place is for the text that is taken right
 //! before a compaction.
 ghost use Rattle.futures.specs.Task.{IsArmed, Keeps};
-ghost use Rattle.futures.specs.Poll.{OnPending};
+ghost use Rattle.std.specs.Prelude.{◌≡◌, IfSome};
+ghost use Rattle.futures.specs.Poll.{IfReady, OnPending};
+ghost use Rattle.fair_turns.specs.Watching.{IsTaken};
 
 use crate::budget::MadeText;
 use crate::scheduler::TenantTurns;
@@ -28,9 +30,18 @@ pub enum NoRoom {
     Memory,
 }
 
+/// A text that was taken of a tenant's watch.
+#[derive(Drop)]
+pub struct TakenText {
+    pub tenant: u64,
+    pub slot: u8,
+    pub text: MadeText,
+    pub ghost is: { ∥ IsTaken tenant slot text.bytes.items ∥₁ },
+}
+
 /// Where the texts of an open watch are put in.
 pub struct TextSender {
-    texts: mpsc::Sender<MadeText>,
+    texts: mpsc::Sender<TakenText>,
     may_have_more: Arc<AtomicBool>,
 }
 
@@ -46,7 +57,10 @@ impl Drop for TextSender {
 /// The texts of an open watch, for its client. Letting go of them ends the watch.
 pub struct WatchTexts<R: Wait + Drop> {
     rt: R,
-    texts: mpsc::Receiver<MadeText>,
+    /// The tenant and slot of the watch, once it was created.
+    tenant: u64,
+    slot: u8,
+    texts: mpsc::Receiver<TakenText>,
     may_have_more: Arc<AtomicBool>,
     turns: Arc<TenantTurns>,
 }
@@ -66,6 +80,8 @@ impl TextSender {
         };
         let texts = WatchTexts {
             rt,
+            tenant: 0,
+            slot: 0,
             texts,
             may_have_more,
             turns: Arc::try_clone(turns)?,
@@ -79,7 +95,7 @@ impl TextSender {
     }
 
     /// A right to put one text in.
-    pub fn permit(&self) -> Result<mpsc::Permit<'_, MadeText>, NoRoom> {
+    pub fn permit(&self) -> Result<mpsc::Permit<'_, TakenText>, NoRoom> {
         match self.texts.try_reserve() {
             Ok(permit) => Ok(permit),
             Err(TrySendError::OutOfMemory(())) => Err(NoRoom::Memory),
@@ -101,16 +117,51 @@ impl TextSender {
 }
 
 impl<R: Wait + Drop> WatchTexts<R> {
+    /// The watch was created: they are those of this slot of that tenant.
+    pub fn belong_to(&mut self, tenant: u64, slot: u8)
+        ensures tenant { self.new.tenant ≡ tenant }
+        ensures slot { self.new.slot ≡ slot }
+    {
+        self.tenant = tenant;
+        self.slot = slot;
+    }
+
     /// The next text, or the end of the watch.
     pub fn poll_text(&mut self, cx: &mut Context<'_>) -> Poll<Option<MadeText>>
+        ensures taken { IfReady result (λ told. IfSome told (λ text.
+            ∥ IsTaken self.old.tenant self.old.slot text.bytes.items ∥₁)) }
+        ensures tenant { self.new.tenant ≡ self.old.tenant }
+        ensures slot { self.new.slot ≡ self.old.slot }
         ensures registered { OnPending result (IsArmed cx.new) }
         ensures kept { Keeps cx.old cx.new }
     {
-        let text = ready!(self.texts.poll_recv(cx));
+        let taken = ready!(self.texts.poll_recv(cx));
         if self.may_have_more.swap(false, Ordering::SeqCst) {
             self.turns.schedule_takes(&self.rt);
         }
-        Poll::Ready(text)
+        let Some(taken) = taken else {
+            return Poll::Ready(None);
+        };
+        Poll::Ready(taken.of(self.tenant, self.slot))
+    }
+}
+
+impl TakenText {
+    /// The text, if it is of this slot of that tenant.
+    #[tactic(auto, using(crate::proofs::AnswerLemmas::of_the_same_watch))]
+    fn of(self, tenant: u64, slot: u8) -> Option<MadeText>
+        ensures { IfSome result (λ text. ∥ IsTaken tenant slot text.bytes.items ∥₁) }
+    {
+        let TakenText {
+            tenant: of_tenant,
+            slot: of_slot,
+            text,
+        } = self;
+        if of_tenant == tenant && of_slot == slot {
+            Some(text)
+        } else {
+            None
+        }
     }
 }
 
@@ -118,6 +169,8 @@ impl<R: Wait + Drop> Drop for WatchTexts<R> {
     fn drop(self) {
         let WatchTexts {
             rt,
+            tenant: _,
+            slot: _,
             texts,
             may_have_more: _,
             turns,

@@ -1,7 +1,14 @@
 //! One exchange of a connection: a request is read, its call is begun, and its answer is awaited.
+ghost use Rattle.std.specs.Prelude.{IfOk, IfSome};
 ghost use Rattle.futures.specs.Task.{IsArmed, Keeps};
-ghost use Rattle.futures.specs.Poll.{OnPending};
+ghost use Rattle.futures.specs.Poll.{IfReady, OnPending};
+ghost use Rattle.http.specs.Request.{head_of};
+ghost use Rattle.http_uri.specs.Uri.{uri_path};
+ghost use Rattle.gateway_http.specs.Exchanges.{Exchanges, GoesOn, IsResponseOf, IsStageAnswer};
+ghost use Rattle.gateway_http.specs.Requests.{IsRouteOf};
+ghost use Rattle.gateway_http.specs.Responses.{Sends};
 
+use crate::reading::{Reading, bound_of, refusal_of};
 use crate::response::{ResponseBody, respond};
 use crate::routing::route;
 use crate::stall::{BodyTimer, Stall};
@@ -11,9 +18,8 @@ use etcd_types::limits::MAX_BODY;
 use fair_turns::{Answer, BodyShare};
 use futures::task::{Context, Poll};
 use futures::{Future, ready};
-use http_body_util::{Limited, LimitedError};
-use hyper::body::{Body, Incoming};
-use hyper::header::{self, HeaderMap};
+use http_body_util::Limited;
+use hyper::body::Incoming;
 use hyper::service::Service;
 use hyper::{Request, Response};
 use std::alloc::{AllocError, Global};
@@ -21,19 +27,8 @@ use std::mem;
 use std::rt::Clock;
 use std::sync::Wait;
 use std::time::Duration;
-use tenant_scheduler::{Begun, Jobs, PendingCall, RequestBody, Route};
+use tenant_scheduler::{Begun, Jobs, PendingCall, Route};
 use tokio::time;
-
-/// How many pieces of a body are read in one poll.
-const PIECES_A_POLL: usize = 128;
-
-/// How many bytes of a body are read before the other connections of the loop come. They would wait for milliseconds for
-/// some long bodies that are there at once.
-const BYTES_A_POLL: usize = 16_384;
-
-/// How many pieces of a body that is too long are passed over before it is answered. A client that still
-/// writes when its connection closes may never see the answer.
-const MAX_PASSED: u32 = 4096;
 
 /// Begins an exchange for each request of a connection.
 pub struct Gateway<R: Wait + Clock + Drop> {
@@ -104,29 +99,14 @@ enum Stage<I, R: Wait + Drop> {
     Over,
 }
 
-/// A request whose body is being read.
-#[derive(Drop)]
-struct Reading<I, R: Wait + Drop> {
-    route: Result<Route, Refusal>,
-    body: Limited<Incoming<I>>,
-    read: Vec<u8>,
-    /// The most bytes that it may come to have.
-    bound: usize,
-    share: BodyShare,
-    stall: Stall<R>,
-    /// Much of it was read: the next piece is left for a later turn of its loop.
-    rests: bool,
-    /// Why the body is read on and thrown away.
-    lost: Option<Refusal>,
-    passed: u32,
-}
-
 impl<I: Drop, R: Wait + Clock + Copy + Drop> Service<Request<Incoming<I>>> for Gateway<R> {
     type Response = Response<ResponseBody<R>>;
 
     type Error = hyper::Error;
 
     type Future = Exchange<I, R>;
+
+    ghost calls = { λ _ request exchange. Exchanges request exchange.stage };
 
     fn call(&self, req: Request<Incoming<I>>) -> Exchange<I, R> {
         let jobs = match &self.jobs {
@@ -166,7 +146,9 @@ impl<R: Wait + Clock + Copy + Drop> Gateway<R> {
         &self,
         jobs: &Option<Jobs<R>>,
         req: &Request<B>,
-    ) -> (Result<Route, Refusal>, Standing<R>) {
+    ) -> (Result<Route, Refusal>, Standing<R>)
+        ensures { IsRouteOf (head_of req.now).method (uri_path (head_of req.now).uri) result.0 }
+    {
         let Some(jobs) = jobs else {
             return (Err(Refusal::Memory), Standing::Free);
         };
@@ -194,164 +176,61 @@ impl<R: Wait + Clock + Copy + Drop> Gateway<R> {
     }
 }
 
-/// The most bytes that a body may come to have: those that were announced, or those of the longest one.
-fn bound_of<B: Body>(body: &B) -> usize {
-    match body.size_hint().upper() {
-        Some(length) => usize::try_from(length).unwrap_or(usize::MAX),
-        None => MAX_BODY,
-    }
-}
-
-/// Why a body is not kept, by its head.
-fn refusal_of(headers: &HeaderMap, bound: usize) -> Option<Refusal> {
-    if is_coded(headers) {
-        Some(Refusal::NotOffered)
-    } else if bound > MAX_BODY {
-        Some(Refusal::TooLarge)
-    } else {
-        None
-    }
-}
-
-/// A body comes with a length or in chunks; no other coding is offered.
-fn is_coded(headers: &HeaderMap) -> bool {
-    match headers.get(header::TRANSFER_ENCODING) {
-        Some(coding) => !coding.as_bytes().eq_ignore_ascii_case(b"chunked"),
-        None => false,
-    }
-}
-
-impl<I: Drop, R: Wait + Clock + Copy + Drop> Reading<I, R> {
-    /// Ready once the body is read, or once enough of it was passed over. It fails where the peer breaks off, or takes
-    /// too long for the next piece.
-    fn poll_whole(&mut self, cx: &mut Context<'_>) -> Poll<Result<(), hyper::Error>>
-        ensures registered { OnPending result (IsArmed cx.new) }
-        ensures kept { Keeps cx.old cx.new }
-    {
-        ready!(self.poll_share(cx));
-        if self.rests {
-            self.rests = false;
-            return cx.yield_now();
-        }
-        let mut bytes = 0usize;
-        for _ in 0..PIECES_A_POLL {
-            let Poll::Ready(frame) = self.body.poll_frame(cx) else {
-                ready!(self.stall.poll_over(cx));
-                return Poll::Ready(Err(hyper::Error::from(AllocError)));
-            };
-            self.stall.relent();
-            match frame {
-                Some(Ok(frame)) => {
-                    if let Ok(data) = frame.into_data() {
-                        bytes = bytes.saturating_add(data.as_slice().len());
-                        self.keep(data.as_slice());
-                    }
-                }
-                Some(Err(LimitedError::LengthLimit)) => self.lost = Some(Refusal::TooLarge),
-                Some(Err(LimitedError::Body(e))) => return Poll::Ready(Err(e)),
-                None => return Poll::Ready(Ok(())),
-            }
-            if self.lost.is_some() {
-                self.passed = self.passed.saturating_add(1);
-                if self.passed > MAX_PASSED {
-                    return Poll::Ready(Ok(()));
-                }
-            }
-            if bytes >= BYTES_A_POLL {
-                self.rests = true;
-                break;
-            }
-        }
-        cx.yield_now()
-    }
-
-    /// Ready once the body has its share of its tenant's budget, or was refused since it waited as long for it as for a
-    /// piece. Nothing is read before.
-    fn poll_share(&mut self, cx: &mut Context<'_>) -> Poll<()>
-        ensures registered { OnPending result (IsArmed cx.new) }
-        ensures kept { Keeps cx.old cx.new }
-    {
-        let BodyShare::Awaited(_) = &self.share else {
-            return Poll::Ready(());
-        };
-        let (share, held) = mem::replace(&mut self.share, BodyShare::None).poll_held(cx);
-        self.share = share;
-        match held {
-            Poll::Ready(true) => {
-                if self.read.reserve_exact(self.bound).is_err() {
-                    self.refuse(Refusal::Memory);
-                }
-            }
-            Poll::Ready(false) => self.refuse(Refusal::Memory),
-            Poll::Pending => {
-                ready!(self.stall.poll_over(cx));
-                self.refuse(Refusal::Memory);
-            }
-        }
-        self.stall.relent();
-        Poll::Ready(())
-    }
-
-    /// The body is read on and thrown away.
-    fn refuse(&mut self, refusal: Refusal) {
-        self.lost = Some(refusal);
-        self.share = BodyShare::None;
-    }
-
-    /// Keeps a piece of the body of a request that is not refused yet.
-    fn keep(&mut self, data: &[u8]) {
-        if self.route.is_err() || self.lost.is_some() {
-            return;
-        }
-        if self.read.extend_from_slice(data).is_err() {
-            self.refuse(Refusal::Memory);
-        }
-    }
-
-    /// Begins the call of a request that was read, or refuses it.
-    fn begin(self, rt: R, alloc: Global, jobs: &Option<Jobs<R>>) -> Begun<R> {
-        let Reading {
-            route,
-            body: _,
-            read,
-            bound: _,
-            share,
-            stall: _,
-            rests: _,
-            lost,
-            passed: _,
-        } = self;
-        match (route, lost, jobs) {
-            (Ok(route), None, Some(jobs)) => {
-                let share = share.for_body(read.len());
-                PendingCall::begin(rt, alloc, jobs, route, RequestBody { bytes: read, share })
-            }
-            (Ok(route), Some(refusal), Some(jobs)) => {
-                Begun::Answered(jobs.refused(&rt, alloc, route, read.len(), refusal))
-            }
-            (Err(refusal), _, _) | (Ok(_), Some(refusal), None) => {
-                Begun::Answered(Answer::refused(alloc, refusal))
-            }
-            (Ok(_), None, None) => Begun::Answered(Answer::no_memory()),
-        }
-    }
-}
-
 impl<I: Drop, R: Wait + Clock + Copy + Drop> Future for Exchange<I, R> {
     type Output = Result<Response<ResponseBody<R>>, hyper::Error>;
+
+    ghost gives = { λ exchange told. IfOk told (λ response. ∥ IsResponseOf exchange.stage response ∥₁) };
 
     fn poll(
         &mut self,
         cx: &mut Context<'_>,
     ) -> Poll<Result<Response<ResponseBody<R>>, hyper::Error>> {
-        if let Stage::Reading(reading) = &mut self.stage {
-            if let Err(e) = ready!(reading.poll_whole(cx)) {
-                return Poll::Ready(Err(e));
-            }
-            if let Some(answer) = self.begin() {
-                return Poll::Ready(self.respond(answer));
-            }
+        match ready!(self.poll_answer(cx)) {
+            Ok(answer) => Poll::Ready(self.respond(answer)),
+            Err(e) => Poll::Ready(Err(e)),
         }
+    }
+}
+
+impl<I: Drop, R: Wait + Clock + Copy + Drop> Exchange<I, R> {
+    /// The answer. It fails where the peer breaks off, or the server ends.
+    fn poll_answer(&mut self, cx: &mut Context<'_>) -> Poll<Result<Answer<R>, hyper::Error>>
+        ensures answered { IfReady result (λ told. IfOk told (λ answer. IsStageAnswer self.old.stage answer)) }
+        ensures goes_on { GoesOn self.old.stage self.new.stage }
+        ensures registered { OnPending result (IsArmed cx.new) }
+        ensures kept { Keeps cx.old cx.new }
+    {
+        match ready!(self.poll_begun(cx)) {
+            Ok(None) => self.poll_served(cx),
+            Ok(Some(answer)) => Poll::Ready(Ok(answer)),
+            Err(e) => Poll::Ready(Err(e)),
+        }
+    }
+
+    /// Ready once the call has begun; with its answer, if there is one already.
+    fn poll_begun(&mut self, cx: &mut Context<'_>) -> Poll<Result<Option<Answer<R>>, hyper::Error>>
+        ensures answered { IfReady result (λ told. IfOk told (λ begun.
+            IfSome begun (λ answer. IsStageAnswer self.old.stage answer))) }
+        ensures goes_on { GoesOn self.old.stage self.new.stage }
+        ensures registered { OnPending result (IsArmed cx.new) }
+        ensures kept { Keeps cx.old cx.new }
+    {
+        let Stage::Reading(reading) = &mut self.stage else {
+            return Poll::Ready(Ok(None));
+        };
+        match ready!(reading.poll_whole(cx)) {
+            Ok(()) => Poll::Ready(Ok(self.begin())),
+            Err(e) => Poll::Ready(Err(e)),
+        }
+    }
+
+    /// The answer of a call that waits.
+    fn poll_served(&mut self, cx: &mut Context<'_>) -> Poll<Result<Answer<R>, hyper::Error>>
+        ensures answered { IfReady result (λ told. IfOk told (λ answer. IsStageAnswer self.old.stage answer)) }
+        ensures goes_on { GoesOn self.old.stage self.new.stage }
+        ensures registered { OnPending result (IsArmed cx.new) }
+        ensures kept { Keeps cx.old cx.new }
+    {
         let Some(jobs) = &self.jobs else {
             return Poll::Ready(Err(hyper::Error::from(AllocError)));
         };
@@ -359,14 +238,14 @@ impl<I: Drop, R: Wait + Clock + Copy + Drop> Future for Exchange<I, R> {
             return Poll::Ready(Err(hyper::Error::from(AllocError)));
         };
         match ready!(call.poll_answer(jobs, cx)) {
-            Some(answer) => Poll::Ready(self.respond(answer)),
+            Some(answer) => Poll::Ready(Ok(answer)),
             None => Poll::Ready(Err(hyper::Error::from(AllocError))),
         }
     }
-}
 
-impl<I: Drop, R: Wait + Clock + Copy + Drop> Exchange<I, R> {
-    fn respond(&mut self, answer: Answer<R>) -> Result<Response<ResponseBody<R>>, hyper::Error> {
+    fn respond(&mut self, answer: Answer<R>) -> Result<Response<ResponseBody<R>>, hyper::Error>
+        ensures { IfOk result (λ response. Sends response answer) }
+    {
         respond(
             self.alloc,
             answer,
@@ -375,7 +254,10 @@ impl<I: Drop, R: Wait + Clock + Copy + Drop> Exchange<I, R> {
     }
 
     /// Begins the call of a request that was read; its answer, if there is one already.
-    fn begin(&mut self) -> Option<Answer<R>> {
+    fn begin(&mut self) -> Option<Answer<R>>
+        ensures answered { IfSome result (λ answer. IsStageAnswer self.old.stage answer) }
+        ensures goes_on { GoesOn self.old.stage self.new.stage }
+    {
         let Stage::Reading(reading) = mem::replace(&mut self.stage, Stage::Over) else {
             return None;
         };

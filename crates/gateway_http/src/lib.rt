@@ -1,15 +1,20 @@
 //! Requests and responses of HTTP/1.1, between hyper and the scheduler.
 //!
-//! 1. Hyper reads a head, and `Gateway::call` begins an `Exchange` (`exchange`). `route` says which call it is, of
-//!    which tenant (`routing`), whose the connection is from then on. The body is read, whether the request is to be refused
-//!    or not; one that stops coming ends its connection (`stall`).
-//! 2. `PendingCall::begin` hands the call to the scheduler, and the exchange waits for its answer, which `respond`
-//!    makes a response (`response`). The body of a watch's response goes on with the texts of its watch.
+//! 1. Hyper reads a head, and `Gateway::call` begins an `Exchange` (`exchange`). `route` says which call it is, of which
+//!    tenant (`routing`), whose the connection is from then on. The body is read (`reading`), whether the request is to be
+//!    refused or not; one that stops coming ends its connection (`stall`).
+//! 2. `PendingCall::begin` hands the call to the scheduler, and the exchange waits for its answer, which `respond` makes a
+//!    response (`response`). The body of a watch's response goes on with the texts of its watch.
 //! 3. `Http::connect` makes the connection that does all this, for whoever polls it (`connection`).
+//!
+//! What hyper's statements ask of a service is told here: which exchange a request begins (`calls`, specs `Exchanges`), which
+//! response an exchange gives (`gives`), and what comes of a response's body (`yields`, specs `Bodies`). By them each response
+//! that hyper writes is one of the request at its place.
 #![tactic(auto)]
 
 mod connection;
 mod exchange;
+mod reading;
 mod response;
 mod routing;
 mod stall;

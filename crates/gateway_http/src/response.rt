@@ -1,7 +1,14 @@
 //! An answer as HTTP sends it.
+ghost use Rattle.std.specs.Prelude.{◌≡◌, ◌++◌, IfOk, Some};
+ghost use Rattle.futures.specs.Task.{IsArmed, Keeps};
+ghost use Rattle.futures.specs.Poll.{IfReady, OnPending};
+ghost use Rattle.fair_turns.specs.Answers.{bytes_of};
+ghost use Rattle.gateway_http.specs.Bodies.{GivesNext, bytes_left, run_of, text_of, watch_of};
+ghost use Rattle.gateway_http.specs.Responses.{Sends};
+
 use crate::exchange::Standing;
 use bytes::Bytes;
-use fair_turns::{Answer, AnswerBody, MadeText, Share, Text, WatchTexts};
+use fair_turns::{Answer, MadeText, Share, Text, WatchTexts};
 use futures::ready;
 use futures::task::{Context, Poll};
 use gateway_text::memory_text;
@@ -60,14 +67,17 @@ pub(crate) fn respond<R: Wait + Clock + Drop>(
     alloc: Global,
     answer: Answer<R>,
     standing: Standing<R>,
-) -> Result<Response<ResponseBody<R>>, hyper::Error> {
-    let status = answer.status();
-    let body = answer.into_body();
+) -> Result<Response<ResponseBody<R>>, hyper::Error>
+    ensures { IfOk result (λ response. Sends response answer) }
+{
+    // No answer has another status than one of HTTP.
+    let Ok(status) = StatusCode::from_u16(answer.status()) else {
+        return Err(hyper::Error::from(AllocError));
+    };
+    let (text, following) = answer.into_texts();
     let ends = matches!(standing, Standing::OneTooMany);
-    let mut response = Response::new(alloc, ResponseBody::of(body, standing)?);
-    if let Ok(status) = StatusCode::from_u16(status) {
-        *response.status_mut() = status;
-    }
+    let mut response = Response::new(alloc, ResponseBody::of(text, following, standing)?);
+    *response.status_mut() = status;
     let kind = HeaderValue::from_static("application/json");
     set(response.headers_mut(), header::CONTENT_TYPE, kind)?;
     if ends {
@@ -85,7 +95,9 @@ fn set(headers: &mut HeaderMap, name: HeaderName, value: HeaderValue) -> Result<
 }
 
 impl Unsent {
-    fn of(text: Text) -> Result<Unsent, AllocError> {
+    fn of(text: Text) -> Result<Unsent, AllocError>
+        ensures { IfOk result (λ unsent. unsent.text ≡ bytes_of text) }
+    {
         match text {
             Text::Made(text) => {
                 let (bytes, share) = text.into_parts();
@@ -100,13 +112,17 @@ impl Unsent {
     }
 
     /// The next piece; the last one may be all.
-    fn next_piece(&mut self) -> Result<Bytes, AllocError> {
+    fn next_piece(&mut self) -> Result<Bytes, AllocError>
+        ensures { IfOk result (λ piece. piece ++ self.new.text ≡ self.old.text) }
+    {
         let length = self.text.len().min(PIECE);
         self.text.split_to(length)
     }
 }
 
-fn shared(bytes: Vec<u8>) -> Result<Bytes, AllocError> {
+fn shared(bytes: Vec<u8>) -> Result<Bytes, AllocError>
+    ensures { IfOk result (λ text. text ≡ bytes.items) }
+{
     match Bytes::from_vec(bytes) {
         Ok(text) => Ok(text),
         Err(_) => Err(AllocError),
@@ -114,11 +130,14 @@ fn shared(bytes: Vec<u8>) -> Result<Bytes, AllocError> {
 }
 
 impl<R: Wait + Clock + Drop> ResponseBody<R> {
-    fn of(body: AnswerBody<R>, standing: Standing<R>) -> Result<ResponseBody<R>, AllocError> {
-        let (first, following) = match body {
-            AnswerBody::Text(text) => (text, None),
-            AnswerBody::Watch { created, texts } => (created, Some(texts)),
-        };
+    fn of(
+        first: Text,
+        following: Option<WatchTexts<R>>,
+        standing: Standing<R>,
+    ) -> Result<ResponseBody<R>, AllocError>
+        ensures text { IfOk result (λ body. text_of body.first ≡ Some (bytes_of first)) }
+        ensures following { IfOk result (λ body. body.following ≡ following) }
+    {
         Ok(ResponseBody {
             first: Some(Unsent::of(first)?),
             rests: false,
@@ -128,19 +147,48 @@ impl<R: Wait + Clock + Drop> ResponseBody<R> {
         })
     }
 
-    /// The next piece of the first text.
-    fn first_piece(&mut self) -> Option<Result<Bytes, AllocError>> {
-        let first = self.first.as_mut()?;
+    /// The next piece: of the first text, and behind it the texts of a watch, each once.
+    fn poll_piece(&mut self, cx: &mut Context<'_>) -> Poll<Option<Result<Bytes, AllocError>>>
+        ensures given { IfReady result (λ told. GivesNext self.old told self.new) }
+        ensures text { OnPending result (text_of self.new.first ≡ text_of self.old.first) }
+        ensures watch { watch_of self.new.following ≡ watch_of self.old.following }
+        ensures registered { OnPending result (IsArmed cx.new) }
+        ensures kept { Keeps cx.old cx.new }
+    {
+        if self.rests {
+            self.rests = false;
+            return cx.yield_now();
+        }
+        if let Some(first) = self.first.take() {
+            return Poll::Ready(Some(self.first_piece(first)));
+        }
+        self.forget_sent();
+        let Some(texts) = &mut self.following else {
+            return Poll::Ready(None);
+        };
+        match ready!(texts.poll_text(cx)) {
+            Some(text) => Poll::Ready(Some(self.watched(text))),
+            None => Poll::Ready(None),
+        }
+    }
+
+    /// The next piece of the first text, of which the rest is kept.
+    fn first_piece(&mut self, first: Unsent) -> Result<Bytes, AllocError>
+        ensures piece { IfOk result (λ piece. piece ++ bytes_left (text_of self.new.first) ≡ first.text) }
+        ensures following { self.new.following ≡ self.old.following }
+    {
+        let mut first = first;
         let piece = first.next_piece();
         self.rests = !first.text.is_empty();
-        if !self.rests {
-            self.first = None;
-        }
-        Some(piece)
+        self.first = if self.rests { Some(first) } else { None };
+        piece
     }
 
     /// Lets go of the last text of a watch, once it is sent.
-    fn forget_sent(&mut self) {
+    fn forget_sent(&mut self)
+        ensures first { self.new.first ≡ self.old.first }
+        ensures following { self.new.following ≡ self.old.following }
+    {
         if let Some(sending) = &self.sending
             && sending.text.is_unique()
         {
@@ -150,7 +198,11 @@ impl<R: Wait + Clock + Drop> ResponseBody<R> {
 
     /// A text of a watch, whole. One that can't be shared ends the connection: what was taken of a watch is not given
     /// again.
-    fn watched(&mut self, text: MadeText) -> Result<Bytes, AllocError> {
+    fn watched(&mut self, text: MadeText) -> Result<Bytes, AllocError>
+        ensures text { IfOk result (λ sent. sent ≡ text.bytes.items) }
+        ensures first { self.new.first ≡ self.old.first }
+        ensures following { self.new.following ≡ self.old.following }
+    {
         let (bytes, share) = text.into_parts();
         let text = shared(bytes)?;
         if let Some(share) = share {
@@ -160,7 +212,10 @@ impl<R: Wait + Clock + Drop> ResponseBody<R> {
     }
 
     /// Keeps a long text's share until it is sent. An earlier one is sent before it.
-    fn keep(&mut self, text: Bytes, share: Share) {
+    fn keep(&mut self, text: Bytes, share: Share)
+        ensures first { self.new.first ≡ self.old.first }
+        ensures following { self.new.following ≡ self.old.following }
+    {
         let mut share = share;
         if let Some(earlier) = self.sending.take() {
             share.absorb(earlier.share);
@@ -174,23 +229,15 @@ impl<R: Wait + Clock + Drop> Body for ResponseBody<R> {
 
     type Error = AllocError;
 
+    ghost yields = { run_of };
+
     fn poll_frame(
         &mut self,
         cx: &mut Context<'_>,
     ) -> Poll<Option<Result<Frame<Bytes>, AllocError>>> {
-        if self.rests {
-            self.rests = false;
-            return cx.yield_now();
-        }
-        if let Some(piece) = self.first_piece() {
-            return Poll::Ready(Some(framed(piece)));
-        }
-        self.forget_sent();
-        let Some(texts) = &mut self.following else {
-            return Poll::Ready(None);
-        };
-        match ready!(texts.poll_text(cx)) {
-            Some(text) => Poll::Ready(Some(framed(self.watched(text)))),
+        match ready!(self.poll_piece(cx)) {
+            Some(Ok(piece)) => Poll::Ready(Some(Ok(Frame::data(piece)))),
+            Some(Err(e)) => Poll::Ready(Some(Err(e))),
             None => Poll::Ready(None),
         }
     }
@@ -205,12 +252,5 @@ impl<R: Wait + Clock + Drop> Body for ResponseBody<R> {
             (Some(first), None) => SizeHint::with_exact(first.text.len() as u64),
             (None, None) => SizeHint::with_exact(0),
         }
-    }
-}
-
-fn framed(piece: Result<Bytes, AllocError>) -> Result<Frame<Bytes>, AllocError> {
-    match piece {
-        Ok(piece) => Ok(Frame::data(piece)),
-        Err(_) => Err(AllocError),
     }
 }

@@ -1,4 +1,6 @@
 //! Which call a request is, and of which tenant.
+ghost use Rattle.gateway_http.specs.Requests.{IsRouteOf};
+
 use etcd_types::Refusal;
 use gateway_json::{call_of, target_of};
 use std::sync::Wait;
@@ -10,7 +12,9 @@ pub(crate) fn route<R: Wait + Drop>(
     jobs: &Jobs<R>,
     method: &[u8],
     path: &[u8],
-) -> Result<Route, Refusal> {
+) -> Result<Route, Refusal>
+    ensures { IsRouteOf method.now path.now result }
+{
     let Some(target) = target_of(path) else {
         return Err(Refusal::NoPath);
     };

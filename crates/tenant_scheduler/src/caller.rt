@@ -1,5 +1,9 @@
 //! A thread's way to the tenants.
-use crate::clients::Clients;
+ghost use Rattle.std.specs.Prelude.{IfErr, IfOk};
+ghost use Rattle.fair_turns.specs.Answers.{IsAnswer};
+ghost use Rattle.tenant_calls.specs.Answers.{IsTold, IsUncalled};
+
+use crate::clients::{Clients, key_of};
 use crate::inline_calls::is_brief;
 use etcd_types::{Refusal, Step};
 use fair_turns::{Answer, LONGEST_ROW, Share, may_be_long};
@@ -32,19 +36,38 @@ impl<R: Wait + Clock + Drop, C: TenantCalls> Caller<R, C> {
         }
     }
 
-    /// What a step is answered that opens nothing. It is refused before it is planned where its answer may be long and
-    /// the tenant's budget has no room for that.
+    /// One step of the tenant of that number, if the key is to it.
+    pub(crate) fn serve(
+        &mut self,
+        key: &Option<C::Key>,
+        number: u64,
+        step: Step,
+    ) -> Result<CallReceipt, Refusal>
+        ensures told { IfOk result (λ receipt. IsTold number step receipt) }
+        ensures refused { IfErr result (λ r. IsUncalled r) }
+    {
+        match key_of(key, number) {
+            Some(key) => self.calls.call(&self.rt, key, step),
+            None => Err(Refusal::NoTenant),
+        }
+    }
+
+    /// What a step of the tenant of that number is answered, if it opens nothing. It is refused before it is planned where
+    /// its answer may be long and the tenant's budget has no room for that.
     pub(crate) fn answer(
         &mut self,
         alloc: Global,
         clients: &Clients<R, C::Key>,
+        number: u64,
         step: Step,
-    ) -> Answer<R> {
+    ) -> Answer<R>
+        ensures { IsAnswer number step result }
+    {
         if !may_be_long(&step) || (is_brief(&step) && clients.budget.left() >= LONGEST_ROW) {
-            return self.answer_within(alloc, clients, step, None);
+            return self.answer_within(alloc, clients, number, step, None);
         }
         match self.reserve(clients, &step) {
-            Ok(Some(share)) => self.answer_within(alloc, clients, step, Some(share)),
+            Ok(Some(share)) => self.answer_within(alloc, clients, number, step, Some(share)),
             Ok(None) => Answer::no_memory(),
             Err(refusal) => Answer::refused(alloc, refusal),
         }
@@ -54,10 +77,13 @@ impl<R: Wait + Clock + Drop, C: TenantCalls> Caller<R, C> {
         &mut self,
         alloc: Global,
         clients: &Clients<R, C::Key>,
+        number: u64,
         step: Step,
         reserved: Option<Share>,
-    ) -> Answer<R> {
-        match self.call(&clients.key, step) {
+    ) -> Answer<R>
+        ensures { IsAnswer number step result }
+    {
+        match self.serve(&clients.key, number, step) {
             Ok(receipt) => {
                 let (status, refusal) = (receipt.status, receipt.refusal);
                 let text = clients.budget.charge(reserved, receipt.into_body());
@@ -68,7 +94,9 @@ impl<R: Wait + Clock + Drop, C: TenantCalls> Caller<R, C> {
     }
 
     /// The share of what a step may take until its answer is sent, if the budget has so much.
-    fn reserve(&self, clients: &Clients<R, C::Key>, step: &Step) -> Result<Option<Share>, Refusal> {
+    fn reserve(&self, clients: &Clients<R, C::Key>, step: &Step) -> Result<Option<Share>, Refusal>
+        ensures { IfErr result (λ r. IsUncalled r) }
+    {
         let Some(key) = &clients.key else {
             return Err(Refusal::NoTenant);
         };

@@ -1,9 +1,13 @@
 //! What the clients of a tenant have under way: jobs that wait, and open watches.
+ghost use Rattle.std.specs.Prelude.{◌≡◌, IfSome};
+ghost use Rattle.tenant_scheduler.specs.Requests.{IsAnswerOf, IsReadAs};
+
 use crate::clock::Running;
+use crate::request::Request;
 use auto_compaction::StandingOrder;
-use etcd_types::{Call, Refusal, Step};
+use etcd_types::{Refusal, Step};
 use fair_turns::{
-    Answer, Budget, Scheduler, Share, Stopwatch, TenantCounts, TenantTurns, TextSender, Work,
+    Answer, Budget, Scheduler, Stopwatch, TenantCounts, TenantTurns, TextSender, Work,
 };
 use futures::channel::oneshot;
 use std::alloc::Global;
@@ -11,52 +15,31 @@ use std::sync::{Arc, Wait};
 use tenant_calls::TenantKey;
 use tokio::sync::mpsc;
 
-/// What a call asks.
-#[derive(Drop)]
-pub(crate) enum Ask {
-    /// The step that was read from its body.
-    Step(Step),
-    /// The body, which is too long to be read by an event loop.
-    Body(RequestBody),
-}
-
-/// The body of a request, with its share of its tenant's budget if it is long.
-pub struct RequestBody {
-    pub bytes: Vec<u8>,
-    pub share: Option<Share>,
-}
-
-impl Drop for RequestBody {
-    fn drop(self) {
-        let RequestBody { bytes: _, share: _ } = self;
-    }
-}
-
-impl Ask {
-    /// How many bytes a worker has to read.
-    pub(crate) fn len(&self) -> usize {
-        match self {
-            Ask::Step(_) => 0,
-            Ask::Body(body) => body.bytes.len(),
-        }
-    }
-}
-
-/// A call of a client that waits for a worker, and where its answer goes.
+/// A request that waits for a worker, and where its answer goes.
 #[derive(Drop)]
 pub(crate) struct Job<R: Wait + Drop> {
-    pub(crate) call: Call,
-    pub(crate) ask: Ask,
-    /// How many bytes its body has.
-    pub(crate) length: usize,
+    pub(crate) request: Arc<Request>,
+    /// The step that its body is read as; none where a worker has to read it.
+    pub(crate) step: Option<Step>,
     /// Since it was left in the queue.
     pub(crate) waiting: Stopwatch,
-    pub(crate) reply: oneshot::Sender<Answer<R>>,
+    pub(crate) reply: oneshot::Sender<JobAnswer<R>>,
+    pub(crate) ghost asked: { IsReadAs request.value step },
+}
+
+/// The answer of a request.
+#[derive(Drop)]
+pub(crate) struct JobAnswer<R: Wait + Drop> {
+    pub(crate) request: Arc<Request>,
+    pub(crate) answer: Answer<R>,
+    pub(crate) ghost is: { ∥ IsAnswerOf request.value answer ∥₁ },
 }
 
 /// A watch whose client is there, and where its texts go.
 #[derive(Drop)]
 pub(crate) struct OpenWatch {
+    /// The number of its tenant.
+    pub(crate) tenant: u64,
     pub(crate) slot: u8,
     pub(crate) texts: TextSender,
 }
@@ -102,7 +85,26 @@ impl<R: Wait + Copy + Drop, K: TenantKey> Clients<R, K> {
             let Ok(job) = self.jobs.try_recv() else {
                 return;
             };
-            drop(job.reply.send(Answer::refused(alloc, Refusal::NoTenant)));
+            end(alloc, job);
         }
     }
+}
+
+/// The key, if it is to the tenant of that number.
+pub(crate) fn key_of<K: TenantKey>(key: &Option<K>, number: u64) -> Option<&K>
+    ensures { IfSome result (λ found. K.number_of found.now ≡ number) }
+{
+    match key {
+        Some(key) if key.number() == number => Some(key),
+        _ => None,
+    }
+}
+
+/// Answers a job that is not served, since its tenant was removed.
+#[tactic(auto, using(crate::proofs::RequestLemmas::gone))]
+fn end<R: Wait + Drop>(alloc: Global, job: Job<R>) {
+    let answer = Answer::refused(alloc, Refusal::NoTenant);
+    let request = job.request;
+    // Whether its client is still there is all one.
+    drop(job.reply.send(JobAnswer { request, answer }));
 }

@@ -5,21 +5,22 @@
 //! may take long is left to the workers: a loop has many connections, which wait meanwhile.
 ghost use Rattle.futures.specs.Task.{IsArmed, Keeps};
 ghost use Rattle.futures.specs.Poll.{OnPending};
+ghost use Rattle.tenant_scheduler.specs.Requests.{IsStepOf};
 
 use crate::caller::Caller;
-use crate::clients::Clients;
-use crate::jobs::Route;
+use crate::clients::{Clients, JobAnswer};
+use crate::request::Request;
 use crate::serving::ServingThread;
 use crate::tenants::ServedTenant;
 use crate::worker::may_give;
-use etcd_types::{Call, Step};
-use fair_turns::{Answer, Scheduler, Stopwatch, Work};
+use etcd_types::Step;
+use fair_turns::{Scheduler, Stopwatch, Work};
 use futures::channel::oneshot;
 use futures::ready;
 use futures::task::{Context, Poll};
 use std::alloc::Global;
 use std::rt::Clock;
-use std::sync::Wait;
+use std::sync::{Arc, Wait};
 use tenant_calls::{TenantCalls, TenantKey};
 use tokio::sync::mpsc::UnboundedReceiver;
 
@@ -32,61 +33,52 @@ const SHORT_ANSWER: usize = 16_384;
 /// How many brief calls of a tenant are left to the workers after a longer one.
 const CALLS_LEFT: u32 = 256;
 
+/// A request whose step looks at one key at most.
+#[derive(Drop)]
+pub(crate) struct BriefRequest {
+    pub(crate) request: Arc<Request>,
+    pub(crate) step: Step,
+    pub(crate) ghost asked: { IsStepOf request.value step },
+}
+
 /// A brief call, and where its outcome goes.
 pub struct InlineCall<R: Wait + Drop> {
-    pub(crate) route: Route,
-    pub(crate) step: Step,
-    /// How many bytes its body had.
-    pub(crate) length: usize,
+    pub(crate) brief: BriefRequest,
     pub(crate) reply: oneshot::Sender<InlineOutcome<R>>,
 }
 
 impl<R: Wait + Drop> Drop for InlineCall<R> {
     fn drop(self) {
-        let InlineCall {
-            route: _,
-            step: _,
-            length: _,
-            reply: _,
-        } = self;
+        let InlineCall { brief: _, reply: _ } = self;
     }
 }
 
 impl<R: Wait + Drop> InlineCall<R> {
-    pub(crate) fn into_step(self) -> Step {
-        let (_, step, _, _) = self.into_parts();
-        step
+    pub(crate) fn into_brief(self) -> BriefRequest {
+        let (brief, _) = self.into_parts();
+        brief
     }
 
-    fn into_parts(self) -> (Route, Step, usize, oneshot::Sender<InlineOutcome<R>>) {
-        let InlineCall {
-            route,
-            step,
-            length,
-            reply,
-        } = self;
-        (route, step, length, reply)
+    fn into_parts(self) -> (BriefRequest, oneshot::Sender<InlineOutcome<R>>) {
+        let InlineCall { brief, reply } = self;
+        (brief, reply)
     }
 }
 
 /// What became of a brief call.
 #[derive(Drop)]
 pub(crate) enum InlineOutcome<R: Wait + Drop> {
-    Answered(Answer<R>),
+    Answered(JobAnswer<R>),
     /// Its tenant is busy, so it is a worker's.
-    Busy(Step),
+    Busy(BriefRequest),
 }
 
 impl<R: Wait + Drop> InlineOutcome<R> {
-    /// Counts the call with a body of so many bytes, if it was answered.
-    fn count<K: TenantKey>(
-        self,
-        tenant: &ServedTenant<R, K>,
-        call: Call,
-        length: usize,
-    ) -> InlineOutcome<R> {
-        if let InlineOutcome::Answered(answer) = &self {
-            tenant.counts().add(call, length, answer);
+    /// Counts the call, if it was answered.
+    fn count<K: TenantKey>(self, tenant: &ServedTenant<R, K>) -> InlineOutcome<R> {
+        if let InlineOutcome::Answered(told) = &self {
+            let (call, length) = (told.request.route.call, told.request.len());
+            tenant.counts().add(call, length, &told.answer);
         }
         self
     }
@@ -144,27 +136,28 @@ impl<R: Wait + Clock + Copy + Drop, C: TenantCalls> InlineCalls<R, C> {
 
     /// Serves a call if nobody has the turn on its tenant, and else gives it back.
     fn serve(&mut self, call: InlineCall<R>) {
-        let (route, step, length, reply) = call.into_parts();
+        let (brief, reply) = call.into_parts();
         let ServingThread {
             rt,
             place: _,
             caller,
             shared,
         } = &mut self.thread;
+        let route = brief.request.route;
         let outcome = match shared.tenants().numbered(rt, self.shard, route.tenant) {
             Some(tenant) if Scheduler::try_begin(tenant.turns()) => {
                 let stopwatch = Stopwatch::start(rt);
                 let mut clients = tenant.clients.lock(rt);
-                let outcome = answer(self.alloc, caller, &mut *clients, step);
+                let outcome = answer(self.alloc, caller, &mut *clients, brief);
                 if may_give(route.call) {
                     clients.schedule_takes(rt, &shared.scheduler, tenant.turns());
                 }
                 drop(clients);
                 shared.scheduler.finish(rt, tenant.turns(), Work::Jobs);
                 tenant.counts().turns().add(stopwatch.passed(rt));
-                outcome.count(&tenant, route.call, length)
+                outcome.count(&tenant)
             }
-            _ => InlineOutcome::Busy(step),
+            _ => InlineOutcome::Busy(brief),
         };
         // Where the client has gone, the call stays made.
         drop(reply.send(outcome));
@@ -191,17 +184,18 @@ fn answer<R: Wait + Clock + Drop, C: TenantCalls>(
     alloc: Global,
     caller: &mut Caller<R, C>,
     clients: &mut Clients<R, C::Key>,
-    step: Step,
+    brief: BriefRequest,
 ) -> InlineOutcome<R> {
     if clients.left_to_workers > 0 {
         clients.left_to_workers -= 1;
-        return InlineOutcome::Busy(step);
+        return InlineOutcome::Busy(brief);
     }
-    let answer = caller.answer(alloc, clients, step);
+    let BriefRequest { request, step } = brief;
+    let answer = caller.answer(alloc, clients, request.route.tenant, step);
     if answer.len() > SHORT_ANSWER {
         clients.left_to_workers = CALLS_LEFT;
     }
-    InlineOutcome::Answered(answer)
+    InlineOutcome::Answered(JobAnswer { request, answer })
 }
 
 /// A step that looks at one key at most, and at its present row.

@@ -1,10 +1,14 @@
 //! Where calls go in: to the event loop that has read them, or into their tenant's queue.
+ghost use Rattle.std.specs.Prelude.{IfErr};
+ghost use Rattle.fair_turns.specs.Answers.{Refuses};
+ghost use Rattle.tenant_calls.specs.Answers.{IsUncalled};
 ghost use Rattle.tokio.specs.Channels.{CanReserve};
 
 use crate::clients::Job;
 use crate::entrances::{Entrance, Entrances};
 use crate::inline_calls::InlineCall;
-use etcd_types::{Call, Mem, Refusal};
+use crate::request::Route;
+use etcd_types::{Mem, Refusal};
 use fair_turns::{Answer, BodyShare, SHORT, Work};
 use std::alloc::Global;
 use std::sync::{Arc, Wait};
@@ -13,42 +17,23 @@ use tokio::sync::mpsc::{
     self, ReserveOwned, UnboundedReceiver, UnboundedSender, unbounded_channel,
 };
 
-/// A call that a client may make, and the number of the tenant that it names.
-#[derive(Clone, Copy, Drop)]
-pub struct Route {
-    pub tenant: u64,
-    pub call: Call,
-}
-
-/// What became of a job that was offered to its tenant's queue.
-#[derive(Drop)]
-pub(crate) enum Offered<R: Wait + Drop> {
-    Queued,
-    /// The queue is full.
-    Full(HeldBack<R>),
-    /// The tenant was removed, or there is no memory.
-    Refused(Refusal),
-}
-
-impl<R: Wait + Drop> Offered<R> {
-    /// A job whose queue is full, or its refusal where there is no memory.
-    fn held_back(queue: &mpsc::Sender<Job<R>>, job: Job<R>) -> Offered<R> {
-        match queue.clone() {
-            Ok(queue) => Offered::Full(HeldBack {
-                room: queue.reserve_owned(),
-                job,
-            }),
-            Err(_) => Offered::Refused(Refusal::Memory),
-        }
-    }
-}
-
 /// A job that waits for room in its tenant's queue.
 #[derive(Drop)]
 pub(crate) struct HeldBack<R: Wait + Drop> {
     pub(crate) room: ReserveOwned<Job<R>>,
     pub(crate) job: Job<R>,
     pub(crate) ghost may_wait: { CanReserve room },
+}
+
+impl<R: Wait + Drop> HeldBack<R> {
+    /// A job whose queue is full. None where there is no memory.
+    fn of(queue: &mpsc::Sender<Job<R>>, job: Job<R>) -> Option<HeldBack<R>> {
+        let queue = queue.clone().ok()?;
+        Some(HeldBack {
+            room: queue.reserve_owned(),
+            job,
+        })
+    }
 }
 
 /// An event loop, for its connections.
@@ -115,19 +100,25 @@ impl<R: Wait + Drop> Jobs<R> {
         }
     }
 
-    /// Leaves a job in a tenant's queue, if there is room, and has a worker serve it.
-    pub(crate) fn offer(&self, rt: &R, tenant: u64, job: Job<R>) -> Offered<R> {
-        let Some(entrance) = self.entrance(rt, tenant) else {
-            return Offered::Refused(Refusal::NoTenant);
+    /// Leaves a job in its tenant's queue, and has a worker serve it; where the queue is full, the job that waits for room.
+    /// It is refused if the tenant was removed, and else only for want of memory.
+    pub(crate) fn offer(&self, rt: &R, job: Job<R>) -> Result<Option<HeldBack<R>>, Refusal>
+        ensures { IfErr result (λ r. IsUncalled r) }
+    {
+        let Some(entrance) = self.entrance(rt, job.request.route.tenant) else {
+            return Err(Refusal::NoTenant);
         };
         match entrance.queue.try_send(job) {
             Ok(()) => {
                 self.entrances.schedule(rt, &entrance, Work::Jobs);
-                Offered::Queued
+                Ok(None)
             }
-            Err(TrySendError::Full(job)) => Offered::held_back(&entrance.queue, job),
-            Err(TrySendError::Closed(_)) => Offered::Refused(Refusal::NoTenant),
-            Err(TrySendError::OutOfMemory(_)) => Offered::Refused(Refusal::Memory),
+            Err(TrySendError::Full(job)) => match HeldBack::of(&entrance.queue, job) {
+                Some(held) => Ok(Some(held)),
+                None => Err(Refusal::Memory),
+            },
+            Err(TrySendError::Closed(_)) => Err(Refusal::NoTenant),
+            Err(TrySendError::OutOfMemory(_)) => Err(Refusal::Memory),
         }
     }
 
@@ -146,7 +137,9 @@ impl<R: Wait + Drop> Jobs<R> {
         route: Route,
         length: usize,
         refusal: Refusal,
-    ) -> Answer<R> {
+    ) -> Answer<R>
+        ensures { Refuses refusal result }
+    {
         let answer = Answer::refused(alloc, refusal);
         if let Some(entrance) = self.entrance(rt, route.tenant) {
             entrance.counts.add(route.call, length, &answer);

@@ -2,20 +2,21 @@
 //!
 //! How a call goes through:
 //!
-//! 1. `Jobs::tenant` finds the tenant that the call names (`jobs`, `entrances`). `PendingCall::begin` (`pending`) reads the step of
-//!    a short body. A brief step becomes an *inline call*, for the event loop whose connection it came by; any other
+//! 1. `Jobs::tenant` finds the tenant that the call names (`jobs`, `entrances`). `PendingCall::begin` (`pending`) reads the
+//!    step of a short body. A brief step becomes an *inline call*, for the event loop whose connection it came by; any other
 //!    step, and a long body as it is, becomes a *job* in its tenant's queue.
 //! 2. A tenant is served by one thread at a time, which has the *turn* there. Whose turn it is, and what a tenant's clients
 //!    may have under way, is `fair_turns`'.
-//! 3. An event loop serves an inline call if nobody has the turn (`inline_calls`), and else the call becomes a job. A
-//!    worker serves a few jobs a turn (`worker`). Both call the tenant by its key, with what their `Caller` has: it knows
-//!    tenants by the traits of `tenant_calls` alone.
-//! 4. The answer comes back through `PendingCall::poll_answer`. That of a watch has `WatchTexts`: the pump takes the next
-//!    text when the client has read the last one (`pump`). The catch-up worker moves watches on that are behind, and
-//!    compacts by standing orders (`catch_up`); the clock ticks each tenant once a second (`clock`).
+//! 3. An event loop serves an inline call if nobody has the turn (`inline_calls`), and else the call becomes a job. A worker
+//!    serves a few jobs a turn (`worker`). Both call the tenant by its key, with what their `Caller` has: it knows tenants by the traits
+//!    of `tenant_calls` alone. So what is answered is the written machine's reply, by contract (specs `Requests`).
+//! 4. The answer comes back through `PendingCall::poll_answer`, with its call and tenant. That of a watch has
+//!    `WatchTexts`: the pump takes the next text when the client has read the last one (`pump`). The catch-up worker moves
+//!    watches on that are behind, and compacts by standing orders (`catch_up`); the clock ticks each tenant once a second
+//!    (`clock`).
 //!
-//! Each thread has its own way to call tenants (`serving`), and all of them work over what `open` makes (`shared`, `clients`). Tenants come and
-//! go meanwhile (`tenants`).
+//! Each thread has its own way to call tenants (`serving`), and all of them work over what `open` makes (`shared`,
+//! `clients`). Tenants come and go meanwhile (`tenants`).
 #![tactic(auto)]
 
 mod caller;
@@ -27,15 +28,16 @@ mod inline_calls;
 mod jobs;
 mod pending;
 mod pump;
+mod request;
 mod serving;
 mod shared;
 mod tenants;
 mod worker;
 
-pub use clients::RequestBody;
 pub use inline_calls::{InlineCall, InlineCalls};
-pub use jobs::{Jobs, Route};
+pub use jobs::Jobs;
 pub use pending::{Begun, PendingCall};
+pub use request::{RequestBody, Route};
 pub use serving::{Service, ServingThread};
 pub use shared::{Shared, open};
 pub use tenants::{NewTenant, ServedTenant, TenantTerms, Tenants};

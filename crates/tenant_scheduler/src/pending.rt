@@ -1,20 +1,24 @@
 //! A call from where its body was read to its answer.
+ghost use Rattle.std.specs.Prelude.{◌≡◌, IfErr, IfOk, IfSome};
 ghost use Rattle.futures.specs.Task.{IsArmed, Keeps};
-ghost use Rattle.futures.specs.Poll.{OnPending};
+ghost use Rattle.futures.specs.Poll.{IfReady, OnPending};
+ghost use Rattle.tenant_calls.specs.Answers.{IsUncalled};
+ghost use Rattle.tenant_scheduler.specs.Begins.{IsBegun};
+ghost use Rattle.tenant_scheduler.specs.Requests.{IsAnswerOf, IsReadAs, IsStepOf, IsUnmade};
 
-use crate::clients::{Ask, Job, RequestBody};
-use crate::inline_calls::{InlineCall, InlineOutcome, is_brief};
-use crate::jobs::{HeldBack, Jobs, Offered, Route};
+use crate::clients::{Job, JobAnswer};
+use crate::inline_calls::{BriefRequest, InlineCall, InlineOutcome, is_brief};
+use crate::jobs::{HeldBack, Jobs};
+use crate::request::{Request, RequestBody, Route};
 use etcd_types::{Refusal, Step};
 use fair_turns::{Answer, SHORT, Stopwatch};
 use futures::channel::oneshot;
 use futures::task::{Context, Poll};
 use futures::{Future, ready};
-use gateway_json::read_step;
 use std::alloc::Global;
 use std::mem;
 use std::rt::Clock;
-use std::sync::Wait;
+use std::sync::{Arc, Wait};
 use tokio::sync::mpsc::error::SendError;
 
 /// A call that was begun, or its answer where nothing is left to wait for.
@@ -28,8 +32,7 @@ pub enum Begun<R: Wait + Drop> {
 pub struct PendingCall<R: Wait + Drop> {
     rt: R,
     alloc: Global,
-    /// How many bytes its body has.
-    length: usize,
+    request: Arc<Request>,
     stage: Stage<R>,
 }
 
@@ -38,7 +41,7 @@ impl<R: Wait + Drop> Drop for PendingCall<R> {
         let PendingCall {
             rt: _,
             alloc: _,
-            length: _,
+            request: _,
             stage: _,
         } = self;
     }
@@ -46,53 +49,38 @@ impl<R: Wait + Drop> Drop for PendingCall<R> {
 
 #[derive(Drop)]
 enum Stage<R: Wait + Drop> {
-    Inline(Inline<R>),
+    /// A brief call that was handed to the event loop.
+    Inline(oneshot::Receiver<InlineOutcome<R>>),
     Queueing(Queueing<R>),
-    Waiting(oneshot::Receiver<Answer<R>>),
+    Waiting(oneshot::Receiver<JobAnswer<R>>),
     Over,
-}
-
-/// A brief call that was handed to the event loop.
-#[derive(Drop)]
-struct Inline<R: Wait + Drop> {
-    route: Route,
-    outcome: oneshot::Receiver<InlineOutcome<R>>,
 }
 
 /// A job whose tenant's queue is full.
 #[derive(Drop)]
 struct Queueing<R: Wait + Drop> {
     held: HeldBack<R>,
-    tenant: u64,
-    answer: oneshot::Receiver<Answer<R>>,
+    answer: oneshot::Receiver<JobAnswer<R>>,
 }
 
 impl<R: Wait + Drop> Queueing<R> {
-    /// Leaves the job in the queue once there is room: the stage that follows, and the tenant that has a job then; or why
-    /// there is none, which was removed, or for want of memory.
-    fn poll_left(self, cx: &mut Context<'_>) -> (Stage<R>, Poll<Result<u64, Refusal>>)
+    /// Leaves the job in the queue once there is room: the stage that follows; or why there is none, since the tenant was
+    /// removed, or for want of memory.
+    fn poll_left(self, cx: &mut Context<'_>) -> (Stage<R>, Poll<Result<(), Refusal>>)
+        ensures refused { IfReady result.1 (λ left. IfErr left (λ r. IsUncalled r)) }
         ensures registered { OnPending result.1 (IsArmed cx.new) }
         ensures kept { Keeps cx.old cx.new }
     {
-        let Queueing {
-            held,
-            tenant,
-            answer,
-        } = self;
+        let Queueing { held, answer } = self;
         let HeldBack { mut room, job } = held;
         match room.poll(cx) {
             Poll::Pending => {
                 let held = HeldBack { room, job };
-                let queueing = Queueing {
-                    held,
-                    tenant,
-                    answer,
-                };
-                (Stage::Queueing(queueing), Poll::Pending)
+                (Stage::Queueing(Queueing { held, answer }), Poll::Pending)
             }
             Poll::Ready(Ok(permit)) => {
                 drop(permit.send(job));
-                (Stage::Waiting(answer), Poll::Ready(Ok(tenant)))
+                (Stage::Waiting(answer), Poll::Ready(Ok(())))
             }
             Poll::Ready(Err(SendError::Closed(()))) => {
                 (Stage::Over, Poll::Ready(Err(Refusal::NoTenant)))
@@ -105,105 +93,155 @@ impl<R: Wait + Drop> Queueing<R> {
 }
 
 impl<R: Wait + Clock + Copy + Drop> PendingCall<R> {
-    /// Begins a call by the body that was read: hands it to the event loop, leaves it in its tenant's queue, or
-    /// refuses it.
-    pub fn begin(
-        rt: R,
-        alloc: Global,
-        jobs: &Jobs<R>,
-        route: Route,
-        body: RequestBody,
-    ) -> Begun<R> {
+    /// Begins a call by the body that was read: hands it to the event loop, leaves it in its tenant's queue, or refuses it.
+    pub fn begin(rt: R, alloc: Global, jobs: &Jobs<R>, route: Route, body: RequestBody) -> Begun<R>
+        ensures { IsBegun result route body.bytes.items }
+    {
+        let Ok(request) = Arc::new(alloc, Request { route, body }) else {
+            return Begun::Answered(Answer::no_memory());
+        };
         let mut pending = PendingCall {
             rt,
             alloc,
-            length: body.bytes.len(),
+            request,
             stage: Stage::Over,
         };
-        match pending.ask(jobs, route, body) {
+        match pending.ask(jobs) {
             Some(answer) => Begun::Answered(answer),
             None => Begun::Pending(pending),
         }
     }
 
     /// Reads the step of a short body, and hands the call on; its answer, if there is one already.
-    fn ask(&mut self, jobs: &Jobs<R>, route: Route, body: RequestBody) -> Option<Answer<R>> {
-        if self.length > SHORT {
-            return self.queue(jobs, route, Ask::Body(body));
+    fn ask(&mut self, jobs: &Jobs<R>) -> Option<Answer<R>>
+        ensures answered { IfSome result (λ answer.
+            IsAnswerOf self.old.request.value answer) }
+        ensures request { self.new.request ≡ self.old.request }
+    {
+        if self.request.len() > SHORT {
+            return self.queue(jobs, None);
         }
-        match read_step(self.alloc, route.call, body.bytes.as_slice()) {
-            Ok(step) if is_brief(&step) => self.hand(jobs, route, step),
-            Ok(step) => self.queue(jobs, route, Ask::Step(step)),
+        match self.request.read(self.alloc) {
+            Ok(step) if is_brief(&step) => self.hand(jobs, step),
+            Ok(step) => self.queue(jobs, Some(step)),
             Err(refusal) => {
-                Some(jobs.refused(&self.rt, self.alloc, route, self.length, refusal))
+                let (route, length) = (self.request.route, self.request.len());
+                Some(jobs.refused(&self.rt, self.alloc, route, length, refusal))
             }
         }
     }
 
-    /// Hands a brief call to the event loop, or leaves it in its tenant's queue where there is no loop.
-    fn hand(&mut self, jobs: &Jobs<R>, route: Route, step: Step) -> Option<Answer<R>> {
-        match self.handed(jobs, route, step) {
-            Some(Ok(inline)) => self.go_on(Stage::Inline(inline)),
-            Some(Err(step)) => self.queue(jobs, route, Ask::Step(step)),
-            None => Some(Answer::no_memory()),
+    /// Hands a brief step to the event loop, or leaves it in its tenant's queue where there is no loop; the answer where
+    /// neither can be.
+    fn hand(&mut self, jobs: &Jobs<R>, step: Step) -> Option<Answer<R>>
+        requires { IsStepOf self.old.request.value step }
+        ensures answered { IfSome result (λ answer. IsUnmade answer) }
+        ensures request { self.new.request ≡ self.old.request }
+    {
+        match self.handed(step) {
+            Ok((call, outcome)) => match jobs.hand(call) {
+                Ok(()) => {
+                    self.stage = Stage::Inline(outcome);
+                    None
+                }
+                Err(call) => self.leave(jobs, call.into_brief()),
+            },
+            Err(refusal) => self.refused(refusal),
         }
     }
 
-    /// There is no answer yet.
-    fn go_on(&mut self, stage: Stage<R>) -> Option<Answer<R>> {
-        self.stage = stage;
+    /// A brief call for the event loop, and what waits for its outcome.
+    fn handed(
+        &self,
+        step: Step,
+    ) -> Result<(InlineCall<R>, oneshot::Receiver<InlineOutcome<R>>), Refusal>
+        requires { IsStepOf self.now.request.value step }
+        ensures { IfErr result (λ r. IsUncalled r) }
+    {
+        let request = self.shared()?;
+        let Ok((reply, outcome)) = oneshot::channel(self.alloc) else {
+            return Err(Refusal::Memory);
+        };
+        let brief = BriefRequest { request, step };
+        Ok((InlineCall { brief, reply }, outcome))
+    }
+
+    /// Leaves a brief request that came back in its tenant's queue, if it is this one; the answer where that can't be.
+    #[tactic(auto, using(crate::proofs::RequestLemmas::same_step))]
+    fn leave(&mut self, jobs: &Jobs<R>, brief: BriefRequest) -> Option<Answer<R>>
+        ensures answered { IfSome result (λ answer. IsUnmade answer) }
+        ensures request { self.new.request ≡ self.old.request }
+    {
+        let BriefRequest { request, step } = brief;
+        if request.is_same(&*self.request) {
+            return self.queue(jobs, Some(step));
+        }
+        self.stage = Stage::Over;
         None
     }
 
-    /// What waits for the event loop, or the step given back where there is no loop; none where there is no memory.
-    fn handed(&self, jobs: &Jobs<R>, route: Route, step: Step) -> Option<Result<Inline<R>, Step>> {
-        let (reply, outcome) = oneshot::channel(self.alloc).ok()?;
-        let call = InlineCall {
-            route,
-            step,
-            length: self.length,
-            reply,
-        };
-        match jobs.hand(call) {
-            Ok(()) => Some(Ok(Inline { route, outcome })),
-            Err(call) => Some(Err(call.into_step())),
+    /// Leaves the request in its tenant's queue, or waits for room there; the answer where neither can be.
+    fn queue(&mut self, jobs: &Jobs<R>, step: Option<Step>) -> Option<Answer<R>>
+        requires { IsReadAs self.old.request.value step }
+        ensures answered { IfSome result (λ answer. IsUnmade answer) }
+        ensures request { self.new.request ≡ self.old.request }
+    {
+        match self.queued(jobs, step) {
+            Ok(stage) => {
+                self.stage = stage;
+                None
+            }
+            Err(refusal) => self.refused(refusal),
         }
     }
 
-    /// Leaves a job in a tenant's queue, or waits for room there.
-    fn queue(&mut self, jobs: &Jobs<R>, route: Route, ask: Ask) -> Option<Answer<R>> {
-        match self.queued(jobs, route, ask) {
-            Ok(stage) => self.go_on(stage),
-            Err(refusal) => Some(Answer::refused(self.alloc, refusal)),
-        }
-    }
-
-    /// The stage of a job that was left in a tenant's queue, or waits for room there.
-    fn queued(&self, jobs: &Jobs<R>, route: Route, ask: Ask) -> Result<Stage<R>, Refusal> {
+    /// The stage of a request that was left in its tenant's queue, or waits for room there.
+    fn queued(&self, jobs: &Jobs<R>, step: Option<Step>) -> Result<Stage<R>, Refusal>
+        requires { IsReadAs self.now.request.value step }
+        ensures { IfErr result (λ r. IsUncalled r) }
+    {
+        let request = self.shared()?;
         let Ok((reply, answer)) = oneshot::channel(self.alloc) else {
             return Err(Refusal::Memory);
         };
-        let Route { tenant, call } = route;
         let job = Job {
-            call,
-            ask,
-            length: self.length,
+            request,
+            step,
             waiting: Stopwatch::start(&self.rt),
             reply,
         };
-        match jobs.offer(&self.rt, tenant, job) {
-            Offered::Queued => Ok(Stage::Waiting(answer)),
-            Offered::Full(held) => Ok(Stage::Queueing(Queueing {
-                held,
-                tenant,
-                answer,
-            })),
-            Offered::Refused(refusal) => Err(refusal),
+        match jobs.offer(&self.rt, job)? {
+            None => Ok(Stage::Waiting(answer)),
+            Some(held) => Ok(Stage::Queueing(Queueing { held, answer })),
         }
     }
 
-    /// The answer; none where the server ended before the call was served.
+    /// The request, for who serves it.
+    fn shared(&self) -> Result<Arc<Request>, Refusal>
+        ensures shared { IfOk result (λ request. request.value ≡ self.now.request.value) }
+        ensures memory { IfErr result (λ r. IsUncalled r) }
+    {
+        match Arc::try_clone(&self.request) {
+            Ok(request) => Ok(request),
+            Err(_) => Err(Refusal::Memory),
+        }
+    }
+
+    /// The answer of a call that is not made.
+    #[tactic(auto, using(crate::proofs::RequestLemmas::is_unmade))]
+    fn refused(&self, refusal: Refusal) -> Option<Answer<R>>
+        requires { IsUncalled refusal }
+        ensures { IfSome result (λ answer. IsUnmade answer) }
+    {
+        Some(Answer::refused(self.alloc, refusal))
+    }
+
+    /// The answer, which is that of this very request; none where the server ended before the call was served.
+    #[tactic(auto, using(crate::proofs::RequestLemmas::unmade_told))]
     pub fn poll_answer(&mut self, jobs: &Jobs<R>, cx: &mut Context<'_>) -> Poll<Option<Answer<R>>>
+        ensures answered { IfReady result (λ told. IfSome told (λ answer.
+            ∥ IsAnswerOf self.old.request.value answer ∥₁)) }
+        ensures request { self.new.request ≡ self.old.request }
         ensures registered { OnPending result (IsArmed cx.new) }
         ensures kept { Keeps cx.old cx.new }
     {
@@ -211,40 +249,43 @@ impl<R: Wait + Clock + Copy + Drop> PendingCall<R> {
             return Poll::Ready(Some(answer));
         }
         if let Stage::Queueing(_) = &self.stage
-            && let Some(refusal) = ready!(self.poll_room(jobs, cx))
+            && let Some(answer) = ready!(self.poll_room(jobs, cx))
         {
-            return Poll::Ready(Some(Answer::refused(self.alloc, refusal)));
+            return Poll::Ready(Some(answer));
         }
         let Stage::Waiting(answer) = &mut self.stage else {
             return Poll::Ready(None);
         };
         match ready!(answer.poll(cx)) {
-            Ok(answer) => Poll::Ready(Some(answer)),
+            Ok(told) => Poll::Ready(told.of(&*self.request)),
             Err(_) => Poll::Ready(None),
         }
     }
 
-    /// The answer of a call that the event loop has served, if it did. One whose tenant is busy is left in its
-    /// tenant's queue.
+    /// The answer of a call that the event loop has served, if it did. One whose tenant is busy is left in its tenant's queue.
     fn poll_inline(&mut self, jobs: &Jobs<R>, cx: &mut Context<'_>) -> Poll<Option<Answer<R>>>
+        ensures answered { IfReady result (λ told. IfSome told (λ answer.
+            ∥ IsAnswerOf self.old.request.value answer ∥₁)) }
+        ensures request { self.new.request ≡ self.old.request }
         ensures registered { OnPending result (IsArmed cx.new) }
         ensures kept { Keeps cx.old cx.new }
     {
-        let Stage::Inline(inline) = &mut self.stage else {
+        let Stage::Inline(outcome) = &mut self.stage else {
             return Poll::Ready(None);
         };
-        let outcome = ready!(inline.outcome.poll(cx));
-        let route = inline.route;
-        Poll::Ready(match outcome {
-            Ok(InlineOutcome::Answered(answer)) => Some(answer),
-            Ok(InlineOutcome::Busy(step)) => self.queue(jobs, route, Ask::Step(step)),
+        match ready!(outcome.poll(cx)) {
+            Ok(InlineOutcome::Answered(told)) => Poll::Ready(told.of(&*self.request)),
+            Ok(InlineOutcome::Busy(brief)) => Poll::Ready(self.leave(jobs, brief)),
             // The loop ended for want of memory.
-            Err(_) => self.go_on(Stage::Over),
-        })
+            Err(_) => Poll::Ready(None),
+        }
     }
 
-    /// Leaves the job in the queue once there is room, or tells why not.
-    fn poll_room(&mut self, jobs: &Jobs<R>, cx: &mut Context<'_>) -> Poll<Option<Refusal>>
+    /// Leaves the request in the queue once there is room; the answer where it can't be.
+    fn poll_room(&mut self, jobs: &Jobs<R>, cx: &mut Context<'_>) -> Poll<Option<Answer<R>>>
+        ensures answered { IfReady result (λ told. IfSome told (λ answer.
+            IsUnmade answer)) }
+        ensures request { self.new.request ≡ self.old.request }
         ensures registered { OnPending result (IsArmed cx.new) }
         ensures kept { Keeps cx.old cx.new }
     {
@@ -254,11 +295,26 @@ impl<R: Wait + Clock + Copy + Drop> PendingCall<R> {
         let (stage, left) = queueing.poll_left(cx);
         self.stage = stage;
         Poll::Ready(match ready!(left) {
-            Ok(tenant) => {
-                jobs.schedule(&self.rt, tenant);
+            Ok(()) => {
+                jobs.schedule(&self.rt, self.request.route.tenant);
                 None
             }
-            Err(refusal) => Some(refusal),
+            Err(refusal) => self.refused(refusal),
         })
+    }
+}
+
+impl<R: Wait + Drop> JobAnswer<R> {
+    /// The answer, if it is that of this request.
+    #[tactic(auto, using(crate::proofs::RequestLemmas::of_the_same))]
+    fn of(self, asked: &Request) -> Option<Answer<R>>
+        ensures { IfSome result (λ answer. ∥ IsAnswerOf asked.now answer ∥₁) }
+    {
+        let JobAnswer { request, answer } = self;
+        if request.is_same(asked) {
+            Some(answer)
+        } else {
+            None
+        }
     }
 }

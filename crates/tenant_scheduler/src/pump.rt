@@ -4,7 +4,9 @@ use crate::clients::{Clients, OpenWatch};
 use crate::serving::ServingThread;
 use crate::tenants::ServedTenant;
 use etcd_types::Step;
-use fair_turns::{Budget, NoRoom, Scheduler, Stopwatch, TenantCounts, TenantTurns, Work};
+use fair_turns::{
+    Budget, NoRoom, Scheduler, Stopwatch, TakenText, TenantCounts, TenantTurns, Work,
+};
 use std::rt::Clock;
 use std::sync::Wait;
 use tenant_calls::{TakeHint, TenantCalls};
@@ -217,6 +219,7 @@ enum TakeOutcome {
 }
 
 /// Takes once, if there is room for a text.
+#[tactic(auto, using(crate::proofs::RequestLemmas::taken))]
 fn take<R: Wait + Clock + Drop, C: TenantCalls>(
     caller: &mut Caller<R, C>,
     key: &Option<C::Key>,
@@ -229,7 +232,8 @@ fn take<R: Wait + Clock + Drop, C: TenantCalls>(
         Err(NoRoom::Unread) => return TakeOutcome::Open,
         Err(NoRoom::Memory) => return TakeOutcome::NoMemory,
     };
-    let Ok(receipt) = caller.call(key, Step::Take(watch.slot)) else {
+    let (tenant, slot) = (watch.tenant, watch.slot);
+    let Ok(receipt) = caller.serve(key, tenant, Step::Take(slot)) else {
         return TakeOutcome::NoMemory;
     };
     if receipt.body.is_empty() {
@@ -240,9 +244,9 @@ fn take<R: Wait + Clock + Drop, C: TenantCalls>(
     } else {
         TakeOutcome::Open
     };
-    let text = receipt.into_body();
+    let text = budget.charge(None, receipt.into_body());
     counts.add_out(text.len());
-    permit.send(budget.charge(None, text));
+    permit.send(TakenText { tenant, slot, text });
     taken
 }
 

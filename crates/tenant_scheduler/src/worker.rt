@@ -1,14 +1,20 @@
 //! The workers: the calls of clients.
+ghost use Rattle.std.specs.Prelude.{IfErr, IfOk};
+ghost use Rattle.etcd_types.specs.declared.step.Step.{Step};
+ghost use Rattle.fair_turns.specs.Answers.{IsAnswer};
+ghost use Rattle.tenant_calls.specs.Answers.{IsTold};
+ghost use Rattle.tenant_scheduler.specs.Requests.{IsAnswerOf, IsReadAs, IsStepOf, IsUnread};
+
 use crate::caller::Caller;
-use crate::clients::{Ask, Clients, Job, OpenWatch};
+use crate::clients::{Clients, Job, JobAnswer, OpenWatch};
 use crate::pump::{serve_takes, take_all};
+use crate::request::Request;
 use crate::serving::ServingThread;
 use crate::tenants::ServedTenant;
 use etcd_types::{Call, Refusal, Step};
 use fair_turns::{
     Answer, MadeText, SMALL_TREE, Scheduler, Stopwatch, TextSender, WatchTexts, Work, tree_weight,
 };
-use gateway_json::read_step;
 use std::alloc::Global;
 use std::rt::Clock;
 use std::sync::{Arc, Wait};
@@ -113,67 +119,111 @@ impl<R: Wait + Clock + Copy + Drop, C: TenantCalls> WorkerTurn<'_, '_, R, C> {
             let Ok(job) = clients.jobs.try_recv() else {
                 return;
             };
-            let Job {
-                call,
-                ask,
-                length,
-                waiting,
-                reply,
-            } = job;
-            clients.counts.waits().add(waiting.passed(&self.rt));
-            bytes = bytes.saturating_add(ask.len());
-            let answer = self.answer(caller, clients, call, ask);
-            clients.counts.add(call, length, &answer);
-            bytes = bytes.saturating_add(answer.len());
-            // Where the client has gone, the call stays made.
-            drop(reply.send(answer));
-            if may_give(call) {
-                clients.schedule_takes(&self.rt, self.scheduler, self.tenant.turns());
-            }
+            bytes = bytes.saturating_add(self.serve_job(caller, clients, job));
         }
         self.scheduler
             .schedule(&self.rt, self.tenant.turns(), Work::Jobs);
     }
 
+    /// Serves a job. How many bytes were read and written is told.
+    fn serve_job(
+        &self,
+        caller: &mut Caller<R, C>,
+        clients: &mut Clients<R, C::Key>,
+        job: Job<R>,
+    ) -> usize {
+        let Job {
+            request,
+            step,
+            waiting,
+            reply,
+        } = job;
+        clients.counts.waits().add(waiting.passed(&self.rt));
+        let call = request.route.call;
+        let read = if step.is_some() { 0 } else { request.len() };
+        let answer = self.answer(caller, clients, &*request, step);
+        clients.counts.add(call, request.len(), &answer);
+        let bytes = read.saturating_add(answer.len());
+        // Where the client has gone, the call stays made.
+        drop(reply.send(JobAnswer { request, answer }));
+        if may_give(call) {
+            clients.schedule_takes(&self.rt, self.scheduler, self.tenant.turns());
+        }
+        bytes
+    }
+
+    /// What a request is answered, whose step may have been read already.
     fn answer(
         &self,
         caller: &mut Caller<R, C>,
         clients: &mut Clients<R, C::Key>,
-        call: Call,
-        ask: Ask,
-    ) -> Answer<R> {
-        let step = match ask {
-            Ask::Step(step) => step,
-            Ask::Body(body) => match self.read(clients, call, body.bytes.as_slice()) {
-                Ok(step) => step,
-                Err(refusal) => return Answer::refused(self.alloc, refusal),
-            },
-        };
+        request: &Request,
+        step: Option<Step>,
+    ) -> Answer<R>
+        requires { IsReadAs request.now step }
+        ensures { IsAnswerOf request.now result }
+    {
+        match self.step_of(clients, request, step) {
+            Ok(step) => self.serve(caller, clients, request.route.tenant, step),
+            Err(refusal) => Answer::refused(self.alloc, refusal),
+        }
+    }
+
+    /// The step of a request, or why there is none.
+    fn step_of(
+        &self,
+        clients: &Clients<R, C::Key>,
+        request: &Request,
+        step: Option<Step>,
+    ) -> Result<Step, Refusal>
+        requires { IsReadAs request.now step }
+        ensures step { IfOk result (λ step. IsStepOf request.now step) }
+        ensures refused { IfErr result (λ r. IsUnread request.now r) }
+    {
         match step {
-            Step::Watch(_) => self.open(caller, clients, step),
+            Some(step) => Ok(step),
+            None => self.read(clients, request),
+        }
+    }
+
+    /// What a step of the tenant of that number is answered.
+    fn serve(
+        &self,
+        caller: &mut Caller<R, C>,
+        clients: &mut Clients<R, C::Key>,
+        number: u64,
+        step: Step,
+    ) -> Answer<R>
+        ensures { IsAnswer number step result }
+    {
+        match step {
+            Step::Watch(_) => self.open(caller, clients, number, step),
             Step::Compact(_) => {
                 // A watch with nothing to tell moves on by being taken; else it would be cancelled for what it
                 // has only not been asked about.
                 if !take_all(caller, clients) {
                     return Answer::no_memory();
                 }
-                caller.answer(self.alloc, clients, step)
+                caller.answer(self.alloc, clients, number, step)
             }
-            _ => caller.answer(self.alloc, clients, step),
+            _ => caller.answer(self.alloc, clients, number, step),
         }
     }
 
     /// The step of a long body. It is refused where the tree that is made of it is large, and the tenant's budget has no
     /// room for it.
-    fn read(&self, clients: &Clients<R, C::Key>, call: Call, body: &[u8]) -> Result<Step, Refusal> {
-        let weight = tree_weight(body);
+    fn read(&self, clients: &Clients<R, C::Key>, request: &Request) -> Result<Step, Refusal>
+        ensures step { IfOk result (λ step. IsStepOf request.now step) }
+        ensures refused { IfErr result (λ r. IsUnread request.now r) }
+    {
+        let weight = tree_weight(request.bytes());
         if weight <= SMALL_TREE {
-            return read_step(self.alloc, call, body);
+            return request.read(self.alloc);
         }
         let Some(tree) = clients.budget.reserve(weight) else {
             return Err(Refusal::Memory);
         };
-        let step = read_step(self.alloc, call, body);
+        let step = request.read(self.alloc);
         drop(tree);
         step
     }
@@ -183,16 +233,19 @@ impl<R: Wait + Clock + Copy + Drop, C: TenantCalls> WorkerTurn<'_, '_, R, C> {
         &self,
         caller: &mut Caller<R, C>,
         clients: &mut Clients<R, C::Key>,
+        number: u64,
         step: Step,
-    ) -> Answer<R> {
+    ) -> Answer<R>
+        ensures { IsAnswer number step result }
+    {
         if clients.watches.reserve(1).is_err() {
             return Answer::no_memory();
         }
         let Ok((sender, texts)) = TextSender::new(self.rt, self.alloc, self.tenant.turns()) else {
             return Answer::no_memory();
         };
-        match caller.call(&clients.key, step) {
-            Ok(receipt) => opened(caller, clients, receipt, sender, texts),
+        match caller.serve(&clients.key, number, step) {
+            Ok(receipt) => opened(caller, clients, number, receipt, sender, texts),
             Err(refusal) => Answer::refused(self.alloc, refusal),
         }
     }
@@ -202,15 +255,19 @@ impl<R: Wait + Clock + Copy + Drop, C: TenantCalls> WorkerTurn<'_, '_, R, C> {
 fn opened<R: Wait + Clock + Copy + Drop, C: TenantCalls>(
     caller: &mut Caller<R, C>,
     clients: &mut Clients<R, C::Key>,
+    number: u64,
     receipt: CallReceipt,
     sender: TextSender,
     texts: WatchTexts<R>,
-) -> Answer<R> {
+) -> Answer<R>
+    ensures { (step : Step) → IsTold number step receipt → IsAnswer number step result }
+{
     let (status, refusal) = (receipt.status, receipt.refusal);
     let Some(slot) = receipt.slot else {
         return Answer::text(status, refusal, MadeText::short(receipt.into_body()));
     };
     let watch = OpenWatch {
+        tenant: number,
         slot,
         texts: sender,
     };
@@ -218,6 +275,8 @@ fn opened<R: Wait + Clock + Copy + Drop, C: TenantCalls>(
         let _ = caller.call(&clients.key, Step::DropWatch(slot));
         return Answer::no_memory();
     }
+    let mut texts = texts;
+    texts.belong_to(number, slot);
     let created = MadeText::short(receipt.into_body());
     Answer::watch(status, refusal, created, texts)
 }

@@ -1,0 +1,2 @@
+-- Proofs of this crate, and lemmas for who answers.
+pub mod AnswerLemmas

@@ -1,5 +1,0 @@
-use Rattle.futures.specs.Task.{Keeps}
-use Rattle.gateway_http.proofs.exchange.Reading.poll_whole.Given as goal
-
-abbrev pub invariant-loop : goal.invariant-loop
-invariant-loop g l = Keeps l.initial.cx l.cx

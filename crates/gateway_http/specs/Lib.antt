@@ -1,0 +1,4 @@
+pub mod Bodies
+pub mod Exchanges
+pub mod Requests
+pub mod Responses

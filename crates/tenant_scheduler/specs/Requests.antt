@@ -1,0 +1,37 @@
+-- What a request asks, and what it may be answered.
+use Rattle.std.specs.Prelude.{◌≡◌, ◌≢◌, Ok, Err, Option, Some}
+use Rattle.etcd_types.specs.declared.step.Step.{Step}
+use Rattle.etcd_types.specs.declared.refusal.Refusal.{Refusal}
+use Rattle.etcd_types.specs.declared.refusal.Refusal.TheVariants.{Memory}
+use Rattle.etcd_model.specs.Calls.{read_step}
+use Rattle.fair_turns.specs.declared.answer.Answer.{Answer}
+use Rattle.fair_turns.specs.Answers.{Answers, Refuses}
+use Rattle.tenant_calls.specs.Answers.{IsUncalled}
+use Rattle.tenant_scheduler.specs.declared.request.Request.{Request}
+
+-- both are of one call on one tenant, and have the same body
+pub record AsksTheSame (one other : Request) : Type 0 where
+  pub route : one.route ≡ other.route
+  pub body : one.body.bytes.items ≡ other.body.bytes.items
+
+-- its body is read as the step
+abbrev pub IsStepOf : Request → Step → Type 0
+IsStepOf request step = read_step request.route.call request.body.bytes.items ≡ Ok step
+
+-- so it was, where it was read already
+abbrev pub IsReadAs : Request → Option Step → Type 0
+IsReadAs request read = (step : Step) → read ≡ Some step → IsStepOf request step
+
+-- reading its body is refused so; for want of memory any may be
+abbrev pub IsUnread : Request → Refusal → Type 0
+IsUnread request r = r ≢ Memory → read_step request.route.call request.body.bytes.items ≡ Err r
+
+-- it may be answered so
+abbrev pub IsAnswerOf : {R : Type 0} → Request → Answer R → Type 0
+IsAnswerOf request answer = Answers request.route.tenant request.route.call request.body.bytes.items answer
+
+-- the answer of a call that was not made: its tenant was removed, or there is no memory
+pub record IsUnmade {R : Type 0} (answer : Answer R) : Type 0 where
+  pub refusal : Refusal
+  pub why : IsUncalled refusal
+  pub told : Refuses refusal answer
