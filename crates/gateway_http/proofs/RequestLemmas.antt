@@ -13,50 +13,76 @@ use Rattle.tenant_scheduler.specs.declared.request.Route.{Route}
 use Rattle.tenant_scheduler.specs.declared.pending.Begun.{Begun}
 use Rattle.tenant_scheduler.specs.declared.pending.Begun.TheVariants.{Pending, Answered}
 use Rattle.tenant_scheduler.specs.declared.pending.PendingCall.{PendingCall}
-use Rattle.tenant_scheduler.specs.Begins.{WaitsFor, IsBegun}
+use Rattle.tenant_scheduler.specs.Begins.{IsBegun}
 use Rattle.tenant_scheduler.specs.Requests.{IsAnswerOf}
 use Rattle.gateway_http.specs.declared.exchange.Stage.{Stage}
+use Rattle.gateway_http.specs.declared.exchange.Stage.TheVariants as stage
 use Rattle.gateway_http.specs.declared.response.ResponseBody.{ResponseBody}
-use Rattle.gateway_http.specs.Exchanges.{GoesOn, IsStageAnswer, IsResponseOf}
-use Rattle.gateway_http.specs.Requests.{IsLoss, IsTakenUp, IsHeadAnswer, Lost, Whole}
+use Rattle.gateway_http.specs.Exchanges.{GoesOn, IsStageAnswer, TakesUp, IsResponseOf}
+use Rattle.gateway_http.specs.declared.reading.Loss.{Loss}
+use Rattle.gateway_http.specs.declared.reading.Reading.{Reading}
+use Rattle.gateway_http.specs.Readings.{IsBodyOf, IsRouted, IsReadOn, IsWhole, IsAnswerTo, IsReadingAnswer, Lost, Whole}
+use Rattle.gateway_http.specs.Requests.{IsTakenUp, loss_told}
 use Rattle.gateway_http.specs.Responses.{Sends}
 
 -- ---- beginning
 
 -- its head is refused
-pub refused_head : {R : Type 0} (given : Result Route Refusal) (lost : Option Refusal) (body : List ℕ) (r : Refusal) (a : Answer R) → given ≡ Err r → Refuses r a → IsTakenUp given lost body (Answered a)
+pub refused_head : {R : Type 0} (given : Result Route Refusal) (lost : Option Loss) (body : List ℕ) (r : Refusal) (a : Answer R) → given ≡ Err r → Refuses r a → IsTakenUp given lost body (Answered a)
 refused_head given lost body r a head told = subst (λ h. IsTakenUp h lost body (Answered a)) (sym head) told
 
 -- its body was thrown away
-pub refused_body : {R : Type 0} (given : Result Route Refusal) (lost : Option Refusal) (body : List ℕ) (route : Route) (r : Refusal) (a : Answer R) → given ≡ Ok route → lost ≡ Some r → Refuses r a → IsTakenUp given lost body (Answered a)
-refused_body given lost body route r a head gone told = subst (λ h. IsTakenUp h lost body (Answered a)) (sym head) (subst (λ o. IsTakenUp (Ok route) o body (Answered a)) (sym gone) told)
+pub refused_body : {R : Type 0} (given : Result Route Refusal) (lost : Option Loss) (body : List ℕ) (route : Route) (loss : Loss) (a : Answer R) → given ≡ Ok route → lost ≡ Some loss → Refuses (loss_told loss) a → IsTakenUp given lost body (Answered a)
+refused_body given lost body route loss a head gone told = subst (λ h. IsTakenUp h lost body (Answered a)) (sym head) (subst (λ o. IsTakenUp (Ok route) o body (Answered a)) (sym gone) told)
 
-pub begun : {R : Type 0} (given : Result Route Refusal) (lost : Option Refusal) (body : List ℕ) (route : Route) (b : Begun R) → given ≡ Ok route → lost ≡ None → IsBegun b route body → IsTakenUp given lost body b
+pub begun : {R : Type 0} (given : Result Route Refusal) (lost : Option Loss) (body : List ℕ) (route : Route) (b : Begun R) → given ≡ Ok route → lost ≡ None → IsBegun b route body → IsTakenUp given lost body b
 begun given lost body route b head whole is = subst (λ h. IsTakenUp h lost body b) (sym head) (subst (λ o. IsTakenUp (Ok route) o body b) (sym whole) is)
 
 -- there was no memory to share where calls go in
-pub without_jobs : {R : Type 0} (given : Result Route Refusal) (lost : Option Refusal) (body : List ℕ) (route : Route) (a : Answer R) → given ≡ Ok route → lost ≡ None → Refuses Memory a → IsTakenUp given lost body (Answered a)
+pub without_jobs : {R : Type 0} (given : Result Route Refusal) (lost : Option Loss) (body : List ℕ) (route : Route) (a : Answer R) → given ≡ Ok route → lost ≡ None → Refuses Memory a → IsTakenUp given lost body (Answered a)
 without_jobs given lost body route a head whole told = begun given lost body route (Answered a) head whole (unasked route.tenant route.call body Memory a (false, refl) told)
 
 -- ---- answers
 
--- what was taken up with an answer has it from its head on
-at_once : {R : Type 0} (given : Result Route Refusal) (lost : Option Refusal) (body : List ℕ) (a : Answer R) → IfSome lost IsLoss → IsTakenUp given lost body (Answered a) → IsHeadAnswer given a
-at_once (Err r) lost body a loss is = is
-at_once (Ok route) (Some r) body a loss is = Lost r loss is
-at_once (Ok route) None body a loss is = Whole body is
+-- what is taken up with an answer, once it was read, is answered so from before on
+at_once : {I R : Type 0} (old : Reading I R) (given : Result Route Refusal) (lost : Option Loss) (body : List ℕ) (a : Answer R) → given ≡ old.route → (lost ≡ None → IsRouted given → (old.lost ≡ None) × IsBodyOf old.body old.read.items body) → IsTakenUp given lost body (Answered a) → IsReadingAnswer old a
+at_once old (Err r) lost body a same kept is = subst (λ h. IsAnswerTo old h a) same is
+at_once old (Ok route) (Some loss) body a same kept is = subst (λ h. IsAnswerTo old h a) same (Lost loss is)
+at_once old (Ok route) None body a same kept is = let k = kept refl tt in subst (λ h. IsAnswerTo old h a) same (Whole body k.0 k.1 is)
 
-pub answered_at_once : {R : Type 0} (given : Result Route Refusal) (lost : Option Refusal) (body : List ℕ) (a : Answer R) → ∥ IfSome lost IsLoss ∥₁ → IsTakenUp given lost body (Answered a) → ∥ IsHeadAnswer given a ∥₁
-answered_at_once given lost body a loss is = ∥∥₁_map loss (λ l. at_once given lost body a l is)
+-- and so is what waits, later
+later : {I R : Type 0} (old : Reading I R) (given : Result Route Refusal) (lost : Option Loss) (body : List ℕ) (call : PendingCall R) (a : Answer R) → given ≡ old.route → (lost ≡ None → IsRouted given → (old.lost ≡ None) × IsBodyOf old.body old.read.items body) → IsTakenUp given lost body (Pending call) → IsAnswerOf call.request.value a → IsReadingAnswer old a
+later old (Err r) lost body call a same kept waits is = elim waits [ ]
+later old (Ok route) (Some loss) body call a same kept waits is = elim waits [ ]
+later old (Ok route) None body call a same kept waits is =
+    let k = kept refl tt in
+    let told = subst (λ r. Answers r.tenant r.call body a) waits.route_is (subst (λ b. Answers call.request.value.route.tenant call.request.value.route.call b a) waits.body_is is)
+    in subst (λ h. IsAnswerTo old h a) same (Whole body k.0 k.1 told)
 
-waited_for : {R : Type 0} (call : PendingCall R) (route : Route) (body : List ℕ) (a : Answer R) → WaitsFor call route body → IsAnswerOf call.request.value a → IsHeadAnswer (Ok route) a
-waited_for call route body a w is = Whole call.request.value.body.bytes.items (subst (λ r. Answers r.tenant r.call call.request.value.body.bytes.items a) w.route_is is)
+pub answered_at_once : {I R : Type 0} (old now : Reading I R) (a : Answer R) → IsWhole old now → IsTakenUp now.route now.lost now.read.items (Answered a) → ∥ IsReadingAnswer old a ∥₁
+answered_at_once old now a whole is = merely (at_once old now.route now.lost now.read.items a whole.0 whole.1 is)
 
--- and so has what waits, later
-pub answered_later : {R : Type 0} (given : Result Route Refusal) (lost : Option Refusal) (body : List ℕ) (call : PendingCall R) → IsTakenUp given lost body (Pending call) → (a : Answer R) → ∥ IsAnswerOf call.request.value a ∥₁ → ∥ IsHeadAnswer given a ∥₁
-answered_later (Err r) lost body call waits a is = elim waits [ ]
-answered_later (Ok route) (Some r) body call waits a is = elim waits [ ]
-answered_later (Ok route) None body call waits a is = ∥∥₁_map is (λ told. waited_for call route body a waits told)
+pub answered_later : {I R : Type 0} (old now : Reading I R) (call : PendingCall R) → IsWhole old now → IsTakenUp now.route now.lost now.read.items (Pending call) → (a : Answer R) → ∥ IsAnswerOf call.request.value a ∥₁ → ∥ IsReadingAnswer old a ∥₁
+answered_later old now call whole waits a is = ∥∥₁_map is (λ told. later old now.route now.lost now.read.items call a whole.0 whole.1 waits told)
+
+pub taken_answered : {I R : Type 0} (old now : Reading I R) (told : Option (Answer R)) (new : Stage I R) → IsWhole old now → TakesUp (stage.Reading now) told new → IfSome told (λ a. ∥ IsReadingAnswer old a ∥₁)
+taken_answered old now (Some a) new whole is = answered_at_once old now a whole is.0
+taken_answered old now None new whole is = tt
+
+pub taken_on : {I R : Type 0} (old now : Reading I R) (told : Option (Answer R)) (new : Stage I R) → IsWhole old now → TakesUp (stage.Reading now) told new → GoesOn (stage.Reading old) new
+taken_on old now (Some a) new whole is = λ answer may. elim (subst (λ s. IsStageAnswer s answer) is.1 may) [ ]
+taken_on old now None (stage.Pending call) whole is = answered_later old now call whole is
+taken_on old now None (stage.Reading reading) whole is = elim is [ ]
+taken_on old now None stage.Over whole is = elim is [ ]
+
+-- what is read on is answered as before
+on : {I R : Type 0} (old now : Reading I R) (given : Result Route Refusal) (a : Answer R) → given ≡ now.route → IsReadOn old now → IsAnswerTo now given a → IsAnswerTo old given a
+on old now (Err r) a same read is = is
+on old now (Ok route) a same read (Lost loss told) = Lost loss told
+on old now (Ok route) a same read (Whole body none b told) = let k = read.1 none (subst (λ h. IsRouted h) same tt) in Whole body k.0 (k.1 body b) told
+
+pub reads_on : {I R : Type 0} (old now : Reading I R) → IsReadOn old now → (a : Answer R) → ∥ IsReadingAnswer now a ∥₁ → ∥ IsReadingAnswer old a ∥₁
+reads_on old now read a is = ∥∥₁_map is (λ told. subst (λ h. IsAnswerTo old h a) read.0 (on old now now.route a refl read told))
 
 pub responds : {I R : Type 0} (stage : Stage I R) (response : Response (ResponseBody R)) (a : Answer R) → IsStageAnswer stage a → Sends response a → ∥ IsResponseOf stage response ∥₁
 responds stage response a may sends = merely (record { answer = a; may = may; sends = sends })

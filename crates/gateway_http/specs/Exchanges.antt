@@ -1,24 +1,44 @@
 -- What an exchange may answer, from where it stands.
+use Rattle.std.specs.Prelude.{◌≡◌, [], Option, Some, None}
+use Rattle.etcd_types.specs.Limits.{max_body}
+use Rattle.hyper.specs.declared.body.incoming.Incoming.{Incoming}
 use Rattle.http.specs.declared.request.Request.{Request}
 use Rattle.http.specs.declared.response.Response.{Response}
-use Rattle.http.specs.Request.{head_of}
+use Rattle.http.specs.Request.{head_of, body_of}
 use Rattle.http_uri.specs.Uri.{uri_path}
 use Rattle.fair_turns.specs.declared.answer.Answer.{Answer}
+use Rattle.tenant_scheduler.specs.declared.pending.Begun.TheVariants.{Pending, Answered}
 use Rattle.tenant_scheduler.specs.Requests.{IsAnswerOf}
 use Rattle.gateway_http.specs.declared.exchange.Stage.{Stage}
+use Rattle.gateway_http.specs.declared.reading.Reading.{Reading}
 use Rattle.gateway_http.specs.declared.exchange.Stage.TheVariants as stage
 use Rattle.gateway_http.specs.declared.response.ResponseBody.{ResponseBody}
-use Rattle.gateway_http.specs.Requests.{IsHeadAnswer, IsRouteOf}
+use Rattle.gateway_http.specs.Readings.{IsReadingAnswer}
+use Rattle.gateway_http.specs.Requests.{IsRouteOf, IsTakenUp}
 use Rattle.gateway_http.specs.Responses.{Sends}
 
--- an exchange that begins has the route of its request
-abbrev pub Exchanges : {B I R : Type 0} → Request B → Stage I R → Type 0
-Exchanges request (stage.Reading reading) = IsRouteOf (head_of request).method (uri_path (head_of request).uri) reading.route
+-- a request that is read, none of which was, has this route and this body
+pub record Begins {I R : Type 0} (request : Request (Incoming I)) (reading : Reading I R) : Type 0 where
+  pub route : IsRouteOf (head_of request).method (uri_path (head_of request).uri) reading.route
+  pub body : reading.body ≡ record { remaining = max_body; inner = body_of request }
+  pub read : reading.read.items ≡ []
+
+-- an exchange begins with a request
+abbrev pub Exchanges : {I R : Type 0} → Request (Incoming I) → Stage I R → Type 0
+Exchanges request (stage.Reading reading) = Begins request reading
 Exchanges request stage = ⊥
+
+-- a request that was read is taken up: it has an answer, or goes on as what waits for one
+abbrev pub TakesUp : {I R : Type 0} → Stage I R → Option (Answer R) → Stage I R → Type 0
+TakesUp (stage.Reading reading) (Some answer) new =
+    IsTakenUp reading.route reading.lost reading.read.items (Answered answer) × (new ≡ stage.Over)
+TakesUp (stage.Reading reading) None (stage.Pending call) = IsTakenUp reading.route reading.lost reading.read.items (Pending call)
+TakesUp (stage.Reading reading) None new = ⊥
+TakesUp old answer new = (answer ≡ None) × (new ≡ stage.Over)
 
 -- what an exchange may answer from here on
 abbrev pub IsStageAnswer : {I R : Type 0} → Stage I R → Answer R → Type 0
-IsStageAnswer (stage.Reading reading) answer = ∥ IsHeadAnswer reading.route answer ∥₁
+IsStageAnswer (stage.Reading reading) answer = ∥ IsReadingAnswer reading answer ∥₁
 IsStageAnswer (stage.Pending call) answer = ∥ IsAnswerOf call.request.value answer ∥₁
 IsStageAnswer stage.Over answer = ⊥
 

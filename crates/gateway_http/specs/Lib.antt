@@ -1,4 +1,5 @@
 pub mod Bodies
 pub mod Exchanges
+pub mod Readings
 pub mod Requests
 pub mod Responses

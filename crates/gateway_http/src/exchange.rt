@@ -4,11 +4,11 @@ ghost use Rattle.futures.specs.Task.{IsArmed, Keeps};
 ghost use Rattle.futures.specs.Poll.{IfReady, OnPending};
 ghost use Rattle.http.specs.Request.{head_of};
 ghost use Rattle.http_uri.specs.Uri.{uri_path};
-ghost use Rattle.gateway_http.specs.Exchanges.{Exchanges, GoesOn, IsResponseOf, IsStageAnswer};
+ghost use Rattle.gateway_http.specs.Exchanges.{Exchanges, GoesOn, IsResponseOf, IsStageAnswer, TakesUp};
 ghost use Rattle.gateway_http.specs.Requests.{IsRouteOf};
 ghost use Rattle.gateway_http.specs.Responses.{Sends};
 
-use crate::reading::{Reading, bound_of, refusal_of};
+use crate::reading::{Reading, bound_of, loss_of};
 use crate::response::{ResponseBody, respond};
 use crate::routing::route;
 use crate::stall::{BodyTimer, Stall};
@@ -115,7 +115,7 @@ impl<I: Drop, R: Wait + Clock + Copy + Drop> Service<Request<Incoming<I>>> for G
         };
         let (route, standing) = self.route(&jobs, &req);
         let bound = bound_of(req.body());
-        let lost = refusal_of(req.headers(), bound);
+        let lost = loss_of(req.headers(), bound);
         let share = match (&jobs, &route, lost) {
             (Some(jobs), Ok(route), None) => { jobs.body_share(&self.rt, route.tenant, bound) }
             _ => BodyShare::None,
@@ -220,7 +220,10 @@ impl<I: Drop, R: Wait + Clock + Copy + Drop> Exchange<I, R> {
         };
         match ready!(reading.poll_whole(cx)) {
             Ok(()) => Poll::Ready(Ok(self.begin())),
-            Err(e) => Poll::Ready(Err(e)),
+            Err(e) => {
+                self.stage = Stage::Over;
+                Poll::Ready(Err(e))
+            }
         }
     }
 
@@ -255,8 +258,7 @@ impl<I: Drop, R: Wait + Clock + Copy + Drop> Exchange<I, R> {
 
     /// Begins the call of a request that was read; its answer, if there is one already.
     fn begin(&mut self) -> Option<Answer<R>>
-        ensures answered { IfSome result (λ answer. IsStageAnswer self.old.stage answer) }
-        ensures goes_on { GoesOn self.old.stage self.new.stage }
+        ensures { TakesUp self.old.stage result self.new.stage }
     {
         let Stage::Reading(reading) = mem::replace(&mut self.stage, Stage::Over) else {
             return None;

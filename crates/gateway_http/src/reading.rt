@@ -1,18 +1,21 @@
 //! A request while its body is read.
-ghost use Rattle.std.specs.Prelude.{◌≡◌, IfSome};
+ghost use Rattle.std.specs.Prelude.{◌≡◌, []};
 ghost use Rattle.futures.specs.Task.{IsArmed, Keeps};
 ghost use Rattle.futures.specs.Poll.{OnPending};
+ghost use Rattle.http_body.specs.Frame.{bytes_in};
 ghost use Rattle.fair_turns.specs.Answers.{Refuses};
-ghost use Rattle.gateway_http.specs.Requests.{IsLoss, IsTakenUp};
+ghost use Rattle.gateway_http.specs.Readings.{IsKept, IsLost, ReadsOn, ReadsWhole};
+ghost use Rattle.gateway_http.specs.Requests.{IsTakenUp, loss_told};
 
 use crate::stall::Stall;
+use bytes::Bytes;
 use etcd_types::Refusal;
 use etcd_types::limits::MAX_BODY;
 use fair_turns::{Answer, BodyShare};
 use futures::ready;
 use futures::task::{Context, Poll};
 use http_body_util::{Limited, LimitedError};
-use hyper::body::{Body, Incoming};
+use hyper::body::{Body, Frame, Incoming};
 use hyper::header::{self, HeaderMap};
 use std::alloc::{AllocError, Global};
 use std::mem;
@@ -44,16 +47,37 @@ pub(crate) struct Reading<I, R: Wait + Drop> {
     /// Much of it was read: the next piece is left for a later turn of its loop.
     pub(crate) rests: bool,
     /// Why the body is read on and thrown away.
-    pub(crate) lost: Option<Refusal>,
+    pub(crate) lost: Option<Loss>,
     pub(crate) passed: u32,
-    ghost losses: { ∥ IfSome lost IsLoss ∥₁ },
+}
+
+/// Why a body is thrown away.
+#[derive(Clone, Copy, Drop)]
+pub(crate) enum Loss {
+    TooLarge,
+    /// It has a transfer coding that is not offered.
+    Coded,
+    NoMemory,
+}
+
+impl Loss {
+    /// What its client is told.
+    fn refusal(self) -> Refusal
+        ensures { result ≡ loss_told self }
+    {
+        match self {
+            Loss::TooLarge => Refusal::TooLarge,
+            Loss::Coded => Refusal::NotOffered,
+            Loss::NoMemory => Refusal::Memory,
+        }
+    }
 }
 
 impl<I: Drop, R: Wait + Clock + Copy + Drop> Reading<I, R> {
     /// Ready once the body is read, or once enough of it was passed over. It fails where the peer breaks off, or takes
     /// too long for the next piece.
     pub(crate) fn poll_whole(&mut self, cx: &mut Context<'_>) -> Poll<Result<(), hyper::Error>>
-        ensures route { self.new.route ≡ self.old.route }
+        ensures read { ReadsWhole self.old result self.new }
         ensures registered { OnPending result (IsArmed cx.new) }
         ensures kept { Keeps cx.old cx.new }
     {
@@ -64,21 +88,10 @@ impl<I: Drop, R: Wait + Clock + Copy + Drop> Reading<I, R> {
         }
         let mut bytes = 0usize;
         for _ in 0..PIECES_A_POLL {
-            let Poll::Ready(frame) = self.body.poll_frame(cx) else {
-                ready!(self.stall.poll_over(cx));
-                return Poll::Ready(Err(hyper::Error::from(AllocError)));
-            };
-            self.stall.relent();
-            match frame {
-                Some(Ok(frame)) => {
-                    if let Ok(data) = frame.into_data() {
-                        bytes = bytes.saturating_add(data.as_slice().len());
-                        self.keep(data.as_slice());
-                    }
-                }
-                Some(Err(LimitedError::LengthLimit)) => self.lost = Some(Refusal::TooLarge),
-                Some(Err(LimitedError::Body(e))) => return Poll::Ready(Err(e)),
-                None => return Poll::Ready(Ok(())),
+            match ready!(self.poll_piece(cx)) {
+                Ok(Some(more)) => bytes = bytes.saturating_add(more),
+                Ok(None) => return Poll::Ready(Ok(())),
+                Err(e) => return Poll::Ready(Err(e)),
             }
             if self.lost.is_some() {
                 self.passed = self.passed.saturating_add(1);
@@ -88,16 +101,53 @@ impl<I: Drop, R: Wait + Clock + Copy + Drop> Reading<I, R> {
             }
             if bytes >= BYTES_A_POLL {
                 self.rests = true;
-                break;
+                return cx.yield_now();
             }
         }
         cx.yield_now()
     }
 
+    /// Reads the next piece of the body: how many bytes it has. None at the body's end.
+    #[tactic(auto, using(crate::proofs::ReadingLemmas::waited, crate::proofs::ReadingLemmas::ended))]
+    fn poll_piece(&mut self, cx: &mut Context<'_>) -> Poll<Result<Option<usize>, hyper::Error>>
+        ensures read { ReadsOn self.old result self.new }
+        ensures registered { OnPending result (IsArmed cx.new) }
+        ensures kept { Keeps cx.old cx.new }
+    {
+        let Poll::Ready(came) = self.body.poll_frame(cx) else {
+            ready!(self.stall.poll_over(cx));
+            return Poll::Ready(Err(hyper::Error::from(AllocError)));
+        };
+        self.stall.relent();
+        match came {
+            Some(Ok(frame)) => Poll::Ready(Ok(Some(self.take_in(frame)))),
+            Some(Err(LimitedError::LengthLimit)) => {
+                self.lost = Some(Loss::TooLarge);
+                Poll::Ready(Ok(Some(0)))
+            }
+            Some(Err(LimitedError::Body(e))) => Poll::Ready(Err(e)),
+            None => Poll::Ready(Ok(None)),
+        }
+    }
+
+    /// Keeps what came with a frame: how many bytes it is.
+    fn take_in(&mut self, frame: Frame<Bytes>) -> usize
+        ensures { IsKept self.old (bytes_in frame.kind) self.new }
+    {
+        match frame.into_data() {
+            Ok(piece) => {
+                self.keep(piece.as_slice());
+                piece.len()
+            }
+            Err(_) => 0,
+        }
+    }
+
     /// Ready once the body has its share of its tenant's budget, or was refused since it waited as long for it as for a
     /// piece. Nothing is read before.
+    #[tactic(auto, using(crate::proofs::ReadingLemmas::lost))]
     fn poll_share(&mut self, cx: &mut Context<'_>) -> Poll<()>
-        ensures route { self.new.route ≡ self.old.route }
+        ensures kept_all { IsKept self.old [] self.new }
         ensures registered { OnPending result (IsArmed cx.new) }
         ensures kept { Keeps cx.old cx.new }
     {
@@ -109,37 +159,37 @@ impl<I: Drop, R: Wait + Clock + Copy + Drop> Reading<I, R> {
         match held {
             Poll::Ready(true) => {
                 if self.read.reserve_exact(self.bound).is_err() {
-                    self.refuse(Refusal::Memory);
+                    self.lose();
                 }
             }
-            Poll::Ready(false) => self.refuse(Refusal::Memory),
+            Poll::Ready(false) => self.lose(),
             Poll::Pending => {
                 ready!(self.stall.poll_over(cx));
-                self.refuse(Refusal::Memory);
+                self.lose();
             }
         }
         self.stall.relent();
         Poll::Ready(())
     }
 
-    /// The body is read on and thrown away.
-    fn refuse(&mut self, refusal: Refusal)
-        requires { IsLoss refusal }
-        ensures { self.new.route ≡ self.old.route }
+    /// There is no memory for the body: it is read on and thrown away.
+    fn lose(&mut self)
+        ensures { IsLost self.old self.new }
     {
-        self.lost = Some(refusal);
+        self.lost = Some(Loss::NoMemory);
         self.share = BodyShare::None;
     }
 
     /// Keeps a piece of the body of a request that is not refused yet.
-    fn keep(&mut self, data: &[u8])
-        ensures { self.new.route ≡ self.old.route }
+    #[tactic(auto, using(crate::proofs::ReadingLemmas::lost))]
+    fn keep(&mut self, piece: &[u8])
+        ensures { IsKept self.old piece.now self.new }
     {
         if self.route.is_err() || self.lost.is_some() {
             return;
         }
-        if self.read.extend_from_slice(data).is_err() {
-            self.refuse(Refusal::Memory);
+        if self.read.extend_from_slice(piece).is_err() {
+            self.lose();
         }
     }
 
@@ -162,8 +212,8 @@ impl<I: Drop, R: Wait + Clock + Copy + Drop> Reading<I, R> {
             Ok(route) => route,
             Err(refusal) => return Begun::Answered(Answer::refused(alloc, refusal)),
         };
-        if let Some(refusal) = lost {
-            return Begun::Answered(refuse(rt, alloc, jobs, route, read.len(), refusal));
+        if let Some(loss) = lost {
+            return Begun::Answered(refuse(rt, alloc, jobs, route, read.len(), loss.refusal()));
         }
         let Some(jobs) = jobs else {
             return Begun::Answered(Answer::no_memory());
@@ -200,13 +250,11 @@ pub(crate) fn bound_of<B: Body>(body: &B) -> usize {
 }
 
 /// Why a body is not kept, by its head.
-pub(crate) fn refusal_of(headers: &HeaderMap, bound: usize) -> Option<Refusal>
-    ensures { ∥ IfSome result IsLoss ∥₁ }
-{
+pub(crate) fn loss_of(headers: &HeaderMap, bound: usize) -> Option<Loss> {
     if is_coded(headers) {
-        Some(Refusal::NotOffered)
+        Some(Loss::Coded)
     } else if bound > MAX_BODY {
-        Some(Refusal::TooLarge)
+        Some(Loss::TooLarge)
     } else {
         None
     }
