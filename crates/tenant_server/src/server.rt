@@ -47,18 +47,13 @@ impl Drop for Terms {
     }
 }
 
-impl Terms {
-    /// How many connections may be open at once.
-    fn most(&self) -> usize {
-        self.open_connections.unwrap_or(most_connections())
-    }
-}
-
 /// A socket that listens, and what its connections may take.
 pub struct Listening {
     runtimes: Vec<LocalRuntime>,
     listener: TcpListener,
     terms: Terms,
+    /// How many connections may be open at once, as the system allowed when the socket began to listen.
+    most: usize,
 }
 
 impl Drop for Listening {
@@ -67,6 +62,7 @@ impl Drop for Listening {
             runtimes: _,
             listener: _,
             terms: _,
+            most: _,
         } = self;
     }
 }
@@ -79,10 +75,12 @@ impl Listening {
     {
         let runtimes = make_runtimes(rt)?;
         let listener = bind(rt, address, terms.patience)?;
+        let most = terms.open_connections.unwrap_or(most_connections());
         Ok(Listening {
             runtimes,
             listener,
             terms,
+            most,
         })
     }
 
@@ -91,13 +89,14 @@ impl Listening {
         self.listener.local_addr()
     }
 
-    fn into_parts(self) -> (Vec<LocalRuntime>, TcpListener, Terms) {
+    fn into_parts(self) -> (Vec<LocalRuntime>, TcpListener, Terms, usize) {
         let Listening {
             runtimes,
             listener,
             terms,
+            most,
         } = self;
-        (runtimes, listener, terms)
+        (runtimes, listener, terms, most)
     }
 }
 
@@ -155,10 +154,9 @@ where
         keys: Vec<K>,
         count: usize,
     ) -> Result<Opened<R, K>, ServeFault> {
-        let (runtimes, listener, terms) = listening.into_parts();
+        let (runtimes, listener, terms, most) = listening.into_parts();
         let alloc = rt.alloc();
         let start = Instant::now(&rt).map_err(|error| ServeFault::of(&error))?;
-        let most = terms.most();
         let allowances = terms.allowances.as_slice();
         let of_tenants = terms_of(alloc, allowances)?;
         let table = connections(rt, alloc, start, most, allowances)?;
@@ -270,11 +268,10 @@ where
         return End::Fault;
     };
     let http = Http::new(alloc, keys, NoTimer, Patience::DEFAULT.for_head());
-    let jobs = jobs.share();
     let gateway = Gateway {
         rt,
         alloc,
-        jobs,
+        jobs: jobs.share(),
         requests: None,
         timers: None,
         body_patience: Patience::DEFAULT.for_body(),
