@@ -2,6 +2,7 @@
 
 Each test is given the host, and raises `Wrong` where something is not as it is wanted.
 """
+import json
 import socket
 import struct
 import time
@@ -161,10 +162,10 @@ def an_idle_watch_stands_compactions_in_one_write(host):
         watch.expect_line(events_line([put_event("YQ==", last + 1, last + 1, "MQ==", 1)], last + 1))
 
 
-def opened(host, tenant, last):
+def opened(host, tenant, last, create=KEY):
     """A watch, tried until a moment where no place is free."""
     while True:
-        watch = host.watch(tenant, KEY)
+        watch = host.watch(tenant, create)
         if not watch.refused:
             return watch
         watch.close()
@@ -232,6 +233,30 @@ def places_are_free_after_cancels(host):
                 watch.expect_line(created_line(3))
                 watch.expect_last(cancel_line(3, 3))
     close_all(open_all(host, tenant))
+
+
+def a_place_taken_over_tells_its_own_watch(host):
+    """Half of the watches go, again and again, and watches of other keys take their places. Each is told of its own key
+    alone, each event once, also when the places have been looked after for a while."""
+    tenant, watches, revision, made = host.tenant(), {}, 1, 0
+    with host.connect() as client:
+        for _ in range(4):
+            for key in list(watches)[::2]:
+                watches.pop(key).close()
+            while len(watches) < WATCHES:
+                key = text(b"key %d" % made)
+                made += 1
+                watches[key] = opened(host, tenant, time.monotonic() + SECONDS, f'{{"key":"{key}"}}')
+                watches[key].expect_line(created_line(revision))
+            time.sleep(1.2)
+            for key, watch in watches.items():
+                revision += 1
+                client.expect(tenant, "kv/put", f'{{"key":"{key}","value":"MQ=="}}', done(revision))
+                events = json.loads(watch.told())["result"]["events"]
+                want([(it["kv"]["key"], it["kv"]["mod_revision"]) for it in events] == [(key, str(revision))], f"told {events}")
+            for watch in watches.values():
+                watch.expect_quiet(0.01)
+    close_all(watches.values())
 
 
 def a_slow_reader_loses_nothing(host):
@@ -331,5 +356,5 @@ def watches_keep_no_worker(host):
 TESTS = [a_watch_is_told_of_puts_and_deletes, a_watch_with_all_members, a_watch_from_the_past_is_told_at_once,
          a_watch_from_far_behind_is_told_all, a_watch_from_the_future_waits, a_compaction_ends_a_watch_from_before_it, an_idle_watch_stands_compactions,
          an_idle_watch_stands_compactions_in_one_write, sixty_four_watches_and_no_more, places_are_free_after_clients_go,
-         places_are_free_after_cancels, a_slow_reader_loses_nothing,
+         places_are_free_after_cancels, a_place_taken_over_tells_its_own_watch, a_slow_reader_loses_nothing,
          many_watches_are_told_alike, a_watch_of_http_1_0, a_watch_asked_for_in_chunks, watches_keep_no_worker]
