@@ -1,2 +1,4 @@
 pub mod Begins
+pub mod Makes
+pub mod Outcomes
 pub mod Requests

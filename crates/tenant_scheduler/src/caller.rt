@@ -2,6 +2,8 @@
 ghost use Rattle.std.specs.Prelude.{IfErr, IfOk};
 ghost use Rattle.fair_turns.specs.Answers.{IsAnswer};
 ghost use Rattle.tenant_calls.specs.Answers.{IsTold, IsUncalled};
+ghost use Rattle.tenant_calls.specs.Counts.{IsNoMore};
+ghost use Rattle.tenant_scheduler.specs.Makes.{IsCounted, IsMade};
 
 use crate::clients::{Clients, key_of};
 use crate::inline_calls::is_brief;
@@ -37,6 +39,7 @@ impl<R: Wait + Clock + Drop, C: TenantCalls> Caller<R, C> {
     }
 
     /// One step of the tenant of that number, if the key is to it.
+    #[tactic(auto, using(crate::proofs::MakeLemmas::counted))]
     pub(crate) fn serve(
         &mut self,
         key: &Option<C::Key>,
@@ -45,6 +48,9 @@ impl<R: Wait + Clock + Drop, C: TenantCalls> Caller<R, C> {
     ) -> Result<CallReceipt, Refusal>
         ensures told { IfOk result (λ receipt. IsTold number step receipt) }
         ensures refused { IfErr result (λ r. IsUncalled r) }
+        ensures made { IfOk result
+            (λ _. IsCounted C.Key.name_of key.now (C.made self.old.calls) (C.made self.new.calls)) }
+        ensures unmade { IfErr result (λ _. IsNoMore (C.made self.old.calls) (C.made self.new.calls)) }
     {
         match key_of(key, number) {
             Some(key) => self.calls.call(&self.rt, key, step),
@@ -61,7 +67,8 @@ impl<R: Wait + Clock + Drop, C: TenantCalls> Caller<R, C> {
         number: u64,
         step: Step,
     ) -> Answer<R>
-        ensures { IsAnswer number step result }
+        ensures answer { IsAnswer number step result }
+        ensures made { IsMade C.Key.name_of clients.now.key number step result (C.made self.old.calls) (C.made self.new.calls) }
     {
         if !may_be_long(&step) || (is_brief(&step) && clients.budget.left() >= LONGEST_ROW) {
             return self.answer_within(alloc, clients, number, step, None);
@@ -81,7 +88,8 @@ impl<R: Wait + Clock + Drop, C: TenantCalls> Caller<R, C> {
         step: Step,
         reserved: Option<Share>,
     ) -> Answer<R>
-        ensures { IsAnswer number step result }
+        ensures answer { IsAnswer number step result }
+        ensures made { IsMade C.Key.name_of clients.now.key number step result (C.made self.old.calls) (C.made self.new.calls) }
     {
         match self.serve(&clients.key, number, step) {
             Ok(receipt) => {
