@@ -1,7 +1,6 @@
 //! What serves a tenant, as the threads of a server see it.
-ghost use Rattle.std.specs.Prelude.{◌≡◌, ℕ, List, IfErr, IfOk};
+ghost use Rattle.std.specs.Prelude.{◌≡◌, ℕ, IfErr, IfOk};
 ghost use Rattle.tenant_calls.specs.Answers.{IsTold, IsUncalled};
-ghost use Rattle.tenant_calls.specs.Counts.{Counts, IsNoMore, IsOneMore};
 
 use crate::receipt::CallReceipt;
 use etcd_types::{Refusal, Step};
@@ -13,11 +12,8 @@ use std::sync::Wait;
 pub trait TenantKey: Drop {
     ghost number_of: { Self → ℕ };
 
-    ghost name_of: { Self → List ℕ };
-
     /// The tenant's name.
-    fn name(&self) -> &[u8]
-        ensures { result.now ≡ name_of self.now };
+    fn name(&self) -> &[u8];
 
     /// The tenant's number, which no other tenant of its server ever has.
     fn number(&self) -> u64
@@ -41,10 +37,8 @@ pub trait TenantCalls: Drop {
     /// What is told of a tenant's watches.
     type Hint: TakeHint;
 
-    ghost made: { Self → Counts };
-
     /// One step of the tenant that has the key: its receipt tells the written machine's reply, in a state of that tenant.
-    /// It is refused if the tenant was removed, and else only for want of memory; then no call was made.
+    /// It is refused if the tenant was removed, and else only for want of memory.
     fn call<R: Wait + Clock>(
         &mut self,
         rt: &R,
@@ -52,9 +46,7 @@ pub trait TenantCalls: Drop {
         step: Step,
     ) -> Result<CallReceipt, Refusal>
         ensures told { IfOk result (λ receipt. IsTold (Self.Key.number_of key.now) step receipt) }
-        ensures refused { IfErr result (λ r. IsUncalled r) }
-        ensures made { IfOk result (λ _. IsOneMore (Self.Key.name_of key.now) (made self.old) (made self.new)) }
-        ensures unmade { IfErr result (λ _. IsNoMore (made self.old) (made self.new)) };
+        ensures refused { IfErr result (λ r. IsUncalled r) };
 
     /// The tenant's current revision. It is refused as `call` is.
     fn revision<R: Wait>(&self, rt: &R, key: &Self::Key) -> Result<i64, Refusal>;

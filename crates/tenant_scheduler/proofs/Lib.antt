@@ -1,3 +1,2 @@
 -- Proofs of this crate.
-pub mod MakeLemmas
 pub mod RequestLemmas

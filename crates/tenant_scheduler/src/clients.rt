@@ -1,6 +1,6 @@
 //! What the clients of a tenant have under way: jobs that wait, and open watches.
-ghost use Rattle.std.specs.Prelude.{◌≡◌, IfSome, Some};
-ghost use Rattle.tenant_scheduler.specs.Requests.{IsAnswerOf, IsReadAs, IsStepOf};
+ghost use Rattle.std.specs.Prelude.{◌≡◌, IfSome};
+ghost use Rattle.tenant_scheduler.specs.Requests.{IsAnswerOf, IsReadAs};
 
 use crate::clock::Running;
 use crate::request::Request;
@@ -25,14 +25,6 @@ pub(crate) struct Job<R: Wait + Drop> {
     pub(crate) waiting: Stopwatch,
     pub(crate) reply: oneshot::Sender<JobAnswer<R>>,
     pub(crate) ghost asked: { IsReadAs request.value step },
-}
-
-/// A request whose step looks at one key at most.
-#[derive(Drop)]
-pub(crate) struct BriefRequest {
-    pub(crate) request: Arc<Request>,
-    pub(crate) step: Step,
-    pub(crate) ghost asked: { IsStepOf request.value step },
 }
 
 /// The answer of a request.
@@ -100,8 +92,7 @@ impl<R: Wait + Copy + Drop, K: TenantKey> Clients<R, K> {
 
 /// The key, if it is to the tenant of that number.
 pub(crate) fn key_of<K: TenantKey>(key: &Option<K>, number: u64) -> Option<&K>
-    ensures number { IfSome result (λ found. K.number_of found.now ≡ number) }
-    ensures key { IfSome result (λ found. key.now ≡ Some found.now) }
+    ensures { IfSome result (λ found. K.number_of found.now ≡ number) }
 {
     match key {
         Some(key) if key.number() == number => Some(key),

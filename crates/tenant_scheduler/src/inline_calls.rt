@@ -5,10 +5,11 @@
 //! may take long is left to the workers: a loop has many connections, which wait meanwhile.
 ghost use Rattle.futures.specs.Task.{IsArmed, Keeps};
 ghost use Rattle.futures.specs.Poll.{OnPending};
-ghost use Rattle.tenant_scheduler.specs.Outcomes.{IsOutcome};
+ghost use Rattle.tenant_scheduler.specs.Requests.{IsStepOf};
 
 use crate::caller::Caller;
-use crate::clients::{BriefRequest, Clients, JobAnswer};
+use crate::clients::{Clients, JobAnswer};
+use crate::request::Request;
 use crate::serving::ServingThread;
 use crate::tenants::ServedTenant;
 use crate::worker::may_give;
@@ -19,7 +20,7 @@ use futures::ready;
 use futures::task::{Context, Poll};
 use std::alloc::Global;
 use std::rt::Clock;
-use std::sync::Wait;
+use std::sync::{Arc, Wait};
 use tenant_calls::{TenantCalls, TenantKey};
 use tokio::sync::mpsc::UnboundedReceiver;
 
@@ -31,6 +32,14 @@ const SHORT_ANSWER: usize = 16_384;
 
 /// How many brief calls of a tenant are left to the workers after a longer one.
 const CALLS_LEFT: u32 = 256;
+
+/// A request whose step looks at one key at most.
+#[derive(Drop)]
+pub(crate) struct BriefRequest {
+    pub(crate) request: Arc<Request>,
+    pub(crate) step: Step,
+    pub(crate) ghost asked: { IsStepOf request.value step },
+}
 
 /// A brief call, and where its outcome goes.
 pub struct InlineCall<R: Wait + Drop> {
@@ -176,10 +185,7 @@ fn answer<R: Wait + Clock + Drop, C: TenantCalls>(
     caller: &mut Caller<R, C>,
     clients: &mut Clients<R, C::Key>,
     brief: BriefRequest,
-) -> InlineOutcome<R>
-    ensures { IsOutcome C.Key.name_of clients.old.key brief.request.value brief.step result
-        (C.made caller.old.calls) (C.made caller.new.calls) }
-{
+) -> InlineOutcome<R> {
     if clients.left_to_workers > 0 {
         clients.left_to_workers -= 1;
         return InlineOutcome::Busy(brief);

@@ -6,8 +6,8 @@ ghost use Rattle.tenant_calls.specs.Answers.{IsUncalled};
 ghost use Rattle.tenant_scheduler.specs.Begins.{IsBegun};
 ghost use Rattle.tenant_scheduler.specs.Requests.{IsAnswerOf, IsReadAs, IsStepOf, IsUnmade};
 
-use crate::clients::{BriefRequest, Job, JobAnswer};
-use crate::inline_calls::{InlineCall, InlineOutcome, is_brief};
+use crate::clients::{Job, JobAnswer};
+use crate::inline_calls::{BriefRequest, InlineCall, InlineOutcome, is_brief};
 use crate::jobs::{HeldBack, Jobs};
 use crate::request::{Request, RequestBody, Route};
 use etcd_types::{Refusal, Step};

@@ -1,10 +1,8 @@
 //! The workers: the calls of clients.
-ghost use Rattle.std.specs.Prelude.{◌≡◌, ◌<◌, length, vec_capacity, IfErr, IfOk};
+ghost use Rattle.std.specs.Prelude.{IfErr, IfOk};
 ghost use Rattle.etcd_types.specs.declared.step.Step.{Step};
-ghost use Rattle.fair_turns.specs.Answers.{bytes_of, IsAnswer};
+ghost use Rattle.fair_turns.specs.Answers.{IsAnswer};
 ghost use Rattle.tenant_calls.specs.Answers.{IsTold};
-ghost use Rattle.tenant_calls.specs.Counts.{IsNoMore};
-ghost use Rattle.tenant_scheduler.specs.Makes.{IsMade, IsMadeOrCompacts, IsRequestMade};
 ghost use Rattle.tenant_scheduler.specs.Requests.{IsAnswerOf, IsReadAs, IsStepOf, IsUnread};
 
 use crate::caller::Caller;
@@ -163,9 +161,7 @@ impl<R: Wait + Clock + Copy + Drop, C: TenantCalls> WorkerTurn<'_, '_, R, C> {
         step: Option<Step>,
     ) -> Answer<R>
         requires { IsReadAs request.now step }
-        ensures answer { IsAnswerOf request.now result }
-        ensures made { IsRequestMade C.Key.name_of clients.old.key request.now result
-            (C.made caller.old.calls) (C.made caller.new.calls) }
+        ensures { IsAnswerOf request.now result }
     {
         match self.step_of(clients, request, step) {
             Ok(step) => self.serve(caller, clients, request.route.tenant, step),
@@ -198,9 +194,7 @@ impl<R: Wait + Clock + Copy + Drop, C: TenantCalls> WorkerTurn<'_, '_, R, C> {
         number: u64,
         step: Step,
     ) -> Answer<R>
-        ensures answer { IsAnswer number step result }
-        ensures made { IsMadeOrCompacts C.Key.name_of clients.old.key number step result
-            (C.made caller.old.calls) (C.made caller.new.calls) }
+        ensures { IsAnswer number step result }
     {
         match step {
             Step::Watch(_) => self.open(caller, clients, number, step),
@@ -242,9 +236,7 @@ impl<R: Wait + Clock + Copy + Drop, C: TenantCalls> WorkerTurn<'_, '_, R, C> {
         number: u64,
         step: Step,
     ) -> Answer<R>
-        ensures answer { IsAnswer number step result }
-        ensures made { IsMade C.Key.name_of clients.old.key number step result
-            (C.made caller.old.calls) (C.made caller.new.calls) }
+        ensures { IsAnswer number step result }
     {
         if clients.watches.reserve(1).is_err() {
             return Answer::no_memory();
@@ -268,10 +260,7 @@ fn opened<R: Wait + Clock + Copy + Drop, C: TenantCalls>(
     sender: TextSender,
     texts: WatchTexts<R>,
 ) -> Answer<R>
-    requires { length clients.old.watches.items < vec_capacity clients.old.watches }
-    ensures answer { (step : Step) → IsTold number step receipt → IsAnswer number step result }
-    ensures receipt { (result.status ≡ receipt.status) × (bytes_of result.text ≡ receipt.body.items) }
-    ensures unmade { IsNoMore (C.made caller.old.calls) (C.made caller.new.calls) }
+    ensures { (step : Step) → IsTold number step receipt → IsAnswer number step result }
 {
     let (status, refusal) = (receipt.status, receipt.refusal);
     let Some(slot) = receipt.slot else {

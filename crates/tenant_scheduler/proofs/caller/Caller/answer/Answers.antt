@@ -1,16 +1,8 @@
-use Rattle.std.proofs.Common.{refl}
 use Rattle.fair_turns.proofs.AnswerLemmas.{uncalled, out_of_memory}
-use Rattle.tenant_scheduler.proofs.MakeLemmas.{unmade, unmade_for_memory}
 use Rattle.tenant_scheduler.proofs.caller.Caller.answer.Goals as goal
 
-pub returns-in-Ok-None-clause-answer : goal.returns-in-Ok-None-clause-answer
-returns-in-Ok-None-clause-answer g c = out_of_memory c.args.number c.args.step _ c.no_memory.ensures
+pub returns-in-Ok-None : goal.returns-in-Ok-None
+returns-in-Ok-None g c = out_of_memory c.args.number c.args.step _ c.no_memory.ensures
 
-pub returns-in-Ok-None-clause-made : goal.returns-in-Ok-None-clause-made
-returns-in-Ok-None-clause-made g c = unmade_for_memory g.C.Key.TenantKey.name_of c.args.clients.now.key c.args.number c.args.step c.no_memory.result _ _ (λ name. refl) c.no_memory.ensures
-
-pub returns-in-Err-clause-answer : goal.returns-in-Err-clause-answer
-returns-in-Err-clause-answer g c = uncalled c.args.number c.args.step c.in-Err.refusal _ c.in-Err.ensures c.refused.ensures
-
-pub returns-in-Err-clause-made : goal.returns-in-Err-clause-made
-returns-in-Err-clause-made g c = unmade g.C.Key.TenantKey.name_of c.args.clients.now.key c.args.number c.args.step c.in-Err.refusal c.refused.result _ _ (λ name. refl) c.in-Err.ensures c.refused.ensures
+pub returns-in-Err : goal.returns-in-Err
+returns-in-Err g c = uncalled c.args.number c.args.step c.in-Err.refusal _ c.in-Err.ensures c.refused.ensures
