@@ -237,8 +237,11 @@ def places_are_free_after_cancels(host):
 
 def a_place_taken_over_tells_its_own_watch(host):
     """Half of the watches go, again and again, and watches of other keys take their places. Each is told of its own key
-    alone, each event once, also when the places have been looked after for a while."""
-    tenant, watches, revision, made = host.tenant(), {}, 1, 0
+    alone, each event once, also when the places have been looked after for a while. The tenant is the second of three, and
+    the watches of the other two are told nothing."""
+    first, tenant, third = (host.tenant() for _ in range(3))
+    watches, revision, made = {}, 1, 0
+    beside = [host.watch(name, EVERY) for name in (first, third)]
     with host.connect() as client:
         for _ in range(4):
             for key in list(watches)[::2]:
@@ -256,7 +259,10 @@ def a_place_taken_over_tells_its_own_watch(host):
                 want([(it["kv"]["key"], it["kv"]["mod_revision"]) for it in events] == [(key, str(revision))], f"told {events}")
             for watch in watches.values():
                 watch.expect_quiet(0.01)
-    close_all(watches.values())
+    for watch in beside:
+        watch.expect_line(created_line(1))
+        watch.expect_quiet(0)
+    close_all([*watches.values(), *beside])
 
 
 def a_slow_reader_loses_nothing(host):
