@@ -8,7 +8,7 @@ use Rattle.etcd_types.specs.declared.refusal.Refusal.{Refusal}
 use Rattle.etcd_types.specs.declared.refusal.Refusal.TheVariants.{Memory}
 use Rattle.etcd_model.specs.Calls.{read_step}
 use Rattle.etcd_model.specs.ReplyText.{reply_status, reply_body, memory_answer}
-use Rattle.tenant_audit.specs.Receipts.{slot_of}
+use Rattle.tenant_audit.specs.Receipts.{slot_of, refusal_of}
 use Rattle.tenant_calls.specs.Answers.{IsReply, IsUncalled}
 use Rattle.fair_turns.specs.declared.answer.Answer.{Answer}
 use Rattle.fair_turns.specs.declared.answer.Text.{Text}
@@ -20,10 +20,15 @@ abbrev pub bytes_of : Text → List ℕ
 bytes_of (Made text) = text.bytes.items
 bytes_of OutOfMemory = memory_answer.body
 
--- an answer has a reply's status and text
-pub record Spells {R : Type 0} (answer : Answer R) (reply : Reply) : Type 0 where
-  pub status : answer.status ≡ reply_status reply
-  pub text : bytes_of answer.text ≡ reply_body reply
+-- an answer has a status and a text, and why the call was refused, if it was
+pub record Shows {R : Type 0} (answer : Answer R) (code : ℕ) (bytes : List ℕ) (why : Option Refusal) : Type 0 where
+  pub status : answer.status ≡ code
+  pub text : bytes_of answer.text ≡ bytes
+  pub refusal : answer.refusal ≡ why
+
+-- it has those of a reply
+abbrev pub Spells : {R : Type 0} → Answer R → Reply → Type 0
+Spells answer reply = Shows answer (reply_status reply) (reply_body reply) (refusal_of reply)
 
 -- it is a refusal, or "out of memory" where there was none for its text, and nothing follows it
 pub record Refuses {R : Type 0} (r : Refusal) (answer : Answer R) : Type 0 where

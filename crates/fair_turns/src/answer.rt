@@ -1,7 +1,7 @@
 //! What a call is answered.
 ghost use Rattle.std.specs.Prelude.{◌≡◌, Some, None};
 ghost use Rattle.etcd_types.specs.declared.refusal.Refusal.TheVariants as refusal;
-ghost use Rattle.fair_turns.specs.Answers.{bytes_of, Refuses};
+ghost use Rattle.fair_turns.specs.Answers.{Refuses, Shows};
 
 use crate::budget::MadeText;
 use crate::watch_texts::WatchTexts;
@@ -52,8 +52,7 @@ impl Text {
 impl<R: Wait + Drop> Answer<R> {
     /// A status and a text of its own, of a refusal or of what was asked for.
     pub fn text(status: u16, refusal: Option<Refusal>, text: MadeText) -> Answer<R>
-        ensures status { result.status ≡ status }
-        ensures text { bytes_of result.text ≡ text.bytes.items }
+        ensures shows { Shows result status text.bytes.items refusal }
         ensures last { result.following ≡ None }
     {
         Answer {
@@ -71,8 +70,7 @@ impl<R: Wait + Drop> Answer<R> {
         created: MadeText,
         texts: WatchTexts<R>,
     ) -> Answer<R>
-        ensures status { result.status ≡ status }
-        ensures text { bytes_of result.text ≡ created.bytes.items }
+        ensures shows { Shows result status created.bytes.items refusal }
         ensures following { result.following ≡ Some texts }
     {
         Answer {

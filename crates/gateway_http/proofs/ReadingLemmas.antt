@@ -1,20 +1,20 @@
 -- How the body of a request is read, piece by piece.
-use Rattle.std.specs.Prelude.{⊤, Option, Some, None, IfSome, Ok}
+use Rattle.std.specs.Prelude.{⊤, map, Option, Some, None, IfSome, Ok, IsOk}
 use Rattle.std.proofs.Common.{◌≡◌, ◌∙◌, sym, ap, subst, ℕ, List, [], ◌∷◌, ◌++◌, append_assoc, append-nil}
 use Rattle.futures.specs.Runs.{After, Within}
 use Rattle.http_body.specs.declared.frame.Frame.{Frame}
-use Rattle.http_body.specs.Frame.{bytes_in}
+use Rattle.http_body.specs.Frame.{bytes_in, joined_data}
 use Rattle.http_body_util.specs.declared.limited.Limited.{Limited}
 use Rattle.hyper.specs.declared.body.incoming.Incoming.{Incoming}
 use Rattle.gateway_http.specs.declared.reading.Reading.{Reading}
-use Rattle.gateway_http.specs.Readings.{Came, comes_of, bytes_of_all, IsRouted, IsReadOn, IsWhole, IsKept, IsLost}
+use Rattle.gateway_http.specs.Readings.{Came, comes_of, IsReadOn, IsWhole, IsKept, IsLost}
 
 pub read_on : {I R : Type 0} (one two three : Reading I R) → IsReadOn one two → IsReadOn two three → IsReadOn one three
 read_on one two three first then = (
   then.0 ∙ first.0,
   λ lost routed.
       let late = then.1 lost routed in
-      let early = first.1 late.0 (subst (λ r. IsRouted r) then.0 routed)
+      let early = first.1 late.0 (subst (λ r. IsOk r) then.0 routed)
       in (early.0, λ body is. early.1 body (late.1 body is)),
 )
 
@@ -23,7 +23,7 @@ read_whole one two three first then = (
   then.0 ∙ first.0,
   λ lost routed.
       let late = then.1 lost routed in
-      let early = first.1 late.0 (subst (λ r. IsRouted r) then.0 routed)
+      let early = first.1 late.0 (subst (λ r. IsOk r) then.0 routed)
       in (early.0, early.1 three.read.items late.1),
 )
 
@@ -36,9 +36,9 @@ kept_nothing old new k = (
       in (
         is.0,
         λ body b. record {
-          items = b.items;
-          ends = subst (λ it. comes_of it b.items None) k.1 b.ends;
-          is = b.is ∙ ap (λ read. read ++ bytes_of_all b.items) (is.1 ∙ append-nil old.read.items);
+          frames = b.frames;
+          ends = subst (λ it. comes_of it (map (λ f. Ok f) b.frames) None) k.1 b.ends;
+          is = b.is ∙ ap (λ read. read ++ joined_data b.frames) (is.1 ∙ append-nil old.read.items);
         },
       ),
 )
@@ -52,7 +52,7 @@ pub lost : {I R : Type 0} (old new : Reading I R) (piece : List ℕ) → IsLost 
 lost old new piece l = (l.0, l.1, λ none routed. elim (subst is_there (sym l.2 ∙ none) tt) [ ])
 
 -- a frame came, and its data was kept
-pub kept_frame : {I R : Type 0} (old new : Reading I R) (source : Limited (Incoming I)) (given : Option Came) (frame : Frame (List ℕ)) → given ≡ Some (Ok frame) → IfSome given (λ x. After (comes_of old.body) x (comes_of source)) → (new.route ≡ old.route) × (new.body ≡ source) × (new.lost ≡ None → IsRouted new.route → (old.lost ≡ None) × (new.read.items ≡ old.read.items ++ bytes_in frame.kind)) → IsReadOn old new
+pub kept_frame : {I R : Type 0} (old new : Reading I R) (source : Limited (Incoming I)) (given : Option Came) (frame : Frame (List ℕ)) → given ≡ Some (Ok frame) → IfSome given (λ x. After (comes_of old.body) x (comes_of source)) → (new.route ≡ old.route) × (new.body ≡ source) × (new.lost ≡ None → IsOk new.route → (old.lost ≡ None) × (new.read.items ≡ old.read.items ++ bytes_in frame.kind)) → IsReadOn old new
 kept_frame old new source given frame gave afters k =
     let after = subst (λ o. IfSome o (λ x. After (comes_of old.body) x (comes_of source))) gave afters
     in (
@@ -62,9 +62,9 @@ kept_frame old new source given frame gave afters k =
           in (
             is.0,
             λ body b. record {
-              items = Ok frame ∷ b.items;
-              ends = after b.items None (subst (λ it. comes_of it b.items None) k.1 b.ends);
-              is = b.is ∙ ap (λ r. r ++ bytes_of_all b.items) is.1 ∙ append_assoc old.read.items (bytes_in frame.kind) (bytes_of_all b.items);
+              frames = frame ∷ b.frames;
+              ends = after (map (λ f. Ok f) b.frames) None (subst (λ it. comes_of it (map (λ f. Ok f) b.frames) None) k.1 b.ends);
+              is = b.is ∙ ap (λ r. r ++ joined_data b.frames) is.1 ∙ append_assoc old.read.items (bytes_in frame.kind) (joined_data b.frames);
             },
           ),
     )
@@ -76,9 +76,9 @@ waited old new route read lost within = (
   λ none routed. (
     sym lost ∙ none,
     λ body b. record {
-      items = b.items;
-      ends = within b.items None b.ends;
-      is = b.is ∙ ap (λ r. r ++ bytes_of_all b.items) read;
+      frames = b.frames;
+      ends = within (map (λ f. Ok f) b.frames) None b.ends;
+      is = b.is ∙ ap (λ r. r ++ joined_data b.frames) read;
     },
   ),
 )
@@ -90,7 +90,7 @@ ended old new route read lost end = (
   λ none routed. (
     sym lost ∙ none,
     record {
-      items = [];
+      frames = [];
       ends = end;
       is = read ∙ sym (append-nil old.read.items);
     },

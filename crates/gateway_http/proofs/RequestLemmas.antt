@@ -1,5 +1,5 @@
 -- How a request's call begins, and of what its answer is.
-use Rattle.std.specs.Prelude.{Option, Some, None, IfSome, Result, Ok, Err, IfOk}
+use Rattle.std.specs.Prelude.{Option, Some, None, IfSome, Result, Ok, Err, IsOk, IfOk}
 use Rattle.std.proofs.Common.{◌≡◌, sym, subst, refl, ℕ, false, List}
 use Rattle.std.proofs.Math.Logic.{∥∥₁_map}
 use Rattle.std.proofs.lemmas.Grind.{merely}
@@ -7,8 +7,7 @@ use Rattle.etcd_types.specs.declared.refusal.Refusal.{Refusal}
 use Rattle.etcd_types.specs.declared.refusal.Refusal.TheVariants.{Memory}
 use Rattle.http.specs.declared.response.Response.{Response}
 use Rattle.fair_turns.specs.declared.answer.Answer.{Answer}
-use Rattle.fair_turns.specs.Answers.{Answers, Refuses}
-use Rattle.fair_turns.proofs.AnswerLemmas.{unasked}
+use Rattle.fair_turns.specs.Answers.{Answers, Unasked, Refuses}
 use Rattle.tenant_scheduler.specs.declared.request.Route.{Route}
 use Rattle.tenant_scheduler.specs.declared.pending.Begun.{Begun}
 use Rattle.tenant_scheduler.specs.declared.pending.Begun.TheVariants.{Pending, Answered}
@@ -21,7 +20,7 @@ use Rattle.gateway_http.specs.declared.response.ResponseBody.{ResponseBody}
 use Rattle.gateway_http.specs.Exchanges.{GoesOn, IsStageAnswer, TakesUp, IsResponseOf}
 use Rattle.gateway_http.specs.declared.reading.Loss.{Loss}
 use Rattle.gateway_http.specs.declared.reading.Reading.{Reading}
-use Rattle.gateway_http.specs.Readings.{IsBodyOf, IsRouted, IsReadOn, IsWhole, IsAnswerTo, IsReadingAnswer, Lost, Whole}
+use Rattle.gateway_http.specs.Readings.{IsBodyOf, IsReadOn, IsWhole, IsAnswerTo, IsReadingAnswer, Lost, Whole}
 use Rattle.gateway_http.specs.Requests.{IsTakenUp, loss_told}
 use Rattle.gateway_http.specs.Responses.{Sends}
 
@@ -40,22 +39,22 @@ begun given lost body route b head whole is = subst (λ h. IsTakenUp h lost body
 
 -- there was no memory to share where calls go in
 pub without_jobs : {R : Type 0} (given : Result Route Refusal) (lost : Option Loss) (body : List ℕ) (route : Route) (a : Answer R) → given ≡ Ok route → lost ≡ None → Refuses Memory a → IsTakenUp given lost body (Answered a)
-without_jobs given lost body route a head whole told = begun given lost body route (Answered a) head whole (unasked route.tenant route.call body Memory a (false, refl) told)
+without_jobs given lost body route a head whole told = begun given lost body route (Answered a) head whole (Unasked Memory (false, refl) told)
 
 -- ---- answers
 
 -- what is taken up with an answer, once it was read, is answered so from before on
-at_once : {I R : Type 0} (old : Reading I R) (given : Result Route Refusal) (lost : Option Loss) (body : List ℕ) (a : Answer R) → given ≡ old.route → (lost ≡ None → IsRouted given → (old.lost ≡ None) × IsBodyOf old.body old.read.items body) → IsTakenUp given lost body (Answered a) → IsReadingAnswer old a
+at_once : {I R : Type 0} (old : Reading I R) (given : Result Route Refusal) (lost : Option Loss) (body : List ℕ) (a : Answer R) → given ≡ old.route → (lost ≡ None → IsOk given → (old.lost ≡ None) × IsBodyOf old.body old.read.items body) → IsTakenUp given lost body (Answered a) → IsReadingAnswer old a
 at_once old (Err r) lost body a same kept is = subst (λ h. IsAnswerTo old h a) same is
 at_once old (Ok route) (Some loss) body a same kept is = subst (λ h. IsAnswerTo old h a) same (Lost loss is)
-at_once old (Ok route) None body a same kept is = let k = kept refl tt in subst (λ h. IsAnswerTo old h a) same (Whole body k.0 k.1 is)
+at_once old (Ok route) None body a same kept is = let k = kept refl refl in subst (λ h. IsAnswerTo old h a) same (Whole body k.0 k.1 is)
 
 -- and so is what waits, later
-later : {I R : Type 0} (old : Reading I R) (given : Result Route Refusal) (lost : Option Loss) (body : List ℕ) (call : PendingCall R) (a : Answer R) → given ≡ old.route → (lost ≡ None → IsRouted given → (old.lost ≡ None) × IsBodyOf old.body old.read.items body) → IsTakenUp given lost body (Pending call) → IsAnswerOf call.request.value a → IsReadingAnswer old a
+later : {I R : Type 0} (old : Reading I R) (given : Result Route Refusal) (lost : Option Loss) (body : List ℕ) (call : PendingCall R) (a : Answer R) → given ≡ old.route → (lost ≡ None → IsOk given → (old.lost ≡ None) × IsBodyOf old.body old.read.items body) → IsTakenUp given lost body (Pending call) → IsAnswerOf call.request.value a → IsReadingAnswer old a
 later old (Err r) lost body call a same kept waits is = elim waits [ ]
 later old (Ok route) (Some loss) body call a same kept waits is = elim waits [ ]
 later old (Ok route) None body call a same kept waits is =
-    let k = kept refl tt in
+    let k = kept refl refl in
     let told = subst (λ r. Answers r.tenant r.call body a) waits.route_is (subst (λ b. Answers call.request.value.route.tenant call.request.value.route.call b a) waits.body_is is)
     in subst (λ h. IsAnswerTo old h a) same (Whole body k.0 k.1 told)
 
@@ -79,7 +78,7 @@ taken_on old now None stage.Over whole is = elim is [ ]
 on : {I R : Type 0} (old now : Reading I R) (given : Result Route Refusal) (a : Answer R) → given ≡ now.route → IsReadOn old now → IsAnswerTo now given a → IsAnswerTo old given a
 on old now (Err r) a same read is = is
 on old now (Ok route) a same read (Lost loss told) = Lost loss told
-on old now (Ok route) a same read (Whole body none b told) = let k = read.1 none (subst (λ h. IsRouted h) same tt) in Whole body k.0 (k.1 body b) told
+on old now (Ok route) a same read (Whole body none b told) = let k = read.1 none (subst (λ h. IsOk h) same refl) in Whole body k.0 (k.1 body b) told
 
 pub reads_on : {I R : Type 0} (old now : Reading I R) → IsReadOn old now → (a : Answer R) → ∥ IsReadingAnswer now a ∥₁ → ∥ IsReadingAnswer old a ∥₁
 reads_on old now read a is = ∥∥₁_map is (λ told. subst (λ h. IsAnswerTo old h a) read.0 (on old now now.route a refl read told))

@@ -1,10 +1,10 @@
 -- What a request's body is, of which some may have come and been kept.
-use Rattle.std.specs.Prelude.{◌≡◌, ⊤, ℕ, List, [], ◌∷◌, ◌++◌, Option, Some, None, Result, Ok, Err}
+use Rattle.std.specs.Prelude.{◌≡◌, ⊤, ℕ, List, map, ◌++◌, Option, Some, None, Result, Ok, Err, IsOk}
 use Rattle.futures.specs.declared.task.Poll.{Poll}
 use Rattle.futures.specs.declared.task.Poll.TheVariants.{Ready, Pending}
 use Rattle.futures.specs.Runs.{Runs}
 use Rattle.http_body.specs.declared.frame.Frame.{Frame}
-use Rattle.http_body.specs.Frame.{bytes_in}
+use Rattle.http_body.specs.Frame.{joined_data}
 use Rattle.http_body_util.specs.declared.limited.Limited.{Limited}
 use Rattle.http_body_util.specs.declared.limited.LimitedError.{LimitedError}
 use Rattle.http_body_util.specs.Limited.{Limits}
@@ -27,34 +27,24 @@ Came = Result (Frame (List ℕ)) (LimitedError Error)
 abbrev pub comes_of : {I : Type 0} → Limited (Incoming I) → Runs Came
 comes_of body = Limits (λ piece. piece) (IncomingYields body.inner) body.remaining
 
--- the data of what came
-abbrev pub bytes_of_all : List Came → List ℕ
-bytes_of_all [] = []
-bytes_of_all (Ok frame ∷ items) = bytes_in frame.kind ++ bytes_of_all items
-bytes_of_all (Err e ∷ items) = bytes_of_all items
-
--- a body is what was kept of it, and behind that all that comes until its end
+-- a body is what was kept of it, and behind that the data of all that comes until its end, with no error
 pub record IsBodyOf {I : Type 0} (source : Limited (Incoming I)) (kept : List ℕ) (body : List ℕ) : Type 0 where
-  pub items : List Came
-  pub ends : comes_of source items None
-  pub is : body ≡ kept ++ bytes_of_all items
-
-abbrev pub IsRouted : Result Route Refusal → Type 0
-IsRouted (Ok route) = ⊤
-IsRouted (Err r) = ⊥
+  pub frames : List (Frame (List ℕ))
+  pub ends : comes_of source (map (λ frame. Ok frame) frames) None
+  pub is : body ≡ kept ++ joined_data frames
 
 -- it was read on: if the body is kept, it is the same as before
 abbrev pub IsReadOn : {I R : Type 0} → Reading I R → Reading I R → Type 0
 IsReadOn old new =
     (new.route ≡ old.route)
-    × (new.lost ≡ None → IsRouted new.route → (old.lost ≡ None)
+    × (new.lost ≡ None → IsOk new.route → (old.lost ≡ None)
     × ((body : List ℕ) → IsBodyOf new.body new.read.items body → IsBodyOf old.body old.read.items body))
 
 -- it was read to its end: if the body is kept, what was kept is all of it
 abbrev pub IsWhole : {I R : Type 0} → Reading I R → Reading I R → Type 0
 IsWhole old new =
     (new.route ≡ old.route)
-    × (new.lost ≡ None → IsRouted new.route → (old.lost ≡ None) × IsBodyOf old.body old.read.items new.read.items)
+    × (new.lost ≡ None → IsOk new.route → (old.lost ≡ None) × IsBodyOf old.body old.read.items new.read.items)
 
 -- what one more piece of a body comes to, or its end
 abbrev pub ReadsOn : {I R A E : Type 0} → Reading I R → Poll (Result (Option A) E) → Reading I R → Type 0
@@ -74,7 +64,7 @@ abbrev pub IsKept : {I R : Type 0} → Reading I R → List ℕ → Reading I R 
 IsKept old piece new =
     (new.route ≡ old.route)
     × (new.body ≡ old.body)
-    × (new.lost ≡ None → IsRouted new.route → (old.lost ≡ None) × (new.read.items ≡ old.read.items ++ piece))
+    × (new.lost ≡ None → IsOk new.route → (old.lost ≡ None) × (new.read.items ≡ old.read.items ++ piece))
 
 -- the body is kept no more
 abbrev pub IsLost : {I R : Type 0} → Reading I R → Reading I R → Type 0

@@ -12,7 +12,8 @@ use Rattle.tenant_audit.specs.Audits.{LeadsTo, Log}
 use Rattle.tenant_audit.specs.Receipts.{slot_of, is_cancel, refusal_of}
 use Rattle.tenant_calls.specs.declared.receipt.CallReceipt.{CallReceipt}
 
--- the written machine's reply to a step, in a state to which the acts of the tenant of that number have led
+-- the written machine's reply to a step, in a state to which some acts have led from an opening of that number; which acts
+-- these were is known of audits, and whose tenant was called, of counts
 pub record IsReply (number : ℕ) (step : Step) (reply : Reply) : Type 0 where
   pub log : Log
   pub state : State History

@@ -1,6 +1,9 @@
 //! What serves a tenant, as the threads of a server see it.
-ghost use Rattle.std.specs.Prelude.{◌≡◌, ℕ, IfErr, IfOk};
+ghost use Rattle.std.specs.Prelude.{◌≡◌, ℕ, List, IfErr, IfOk};
+ghost use Rattle.etcd_types.specs.declared.step.Step.{Step};
+ghost use Rattle.tenant_calls.specs.declared.receipt.CallReceipt.{CallReceipt};
 ghost use Rattle.tenant_calls.specs.Answers.{IsTold, IsUncalled};
+ghost use Rattle.tenant_calls.specs.Counts.{Counts, IsNoMore, IsOneMore};
 
 use crate::receipt::CallReceipt;
 use etcd_types::{Refusal, Step};
@@ -12,8 +15,11 @@ use std::sync::Wait;
 pub trait TenantKey: Drop {
     ghost number_of: { Self → ℕ };
 
+    ghost name_of: { Self → List ℕ };
+
     /// The tenant's name.
-    fn name(&self) -> &[u8];
+    fn name(&self) -> &[u8]
+        ensures { result.now ≡ name_of self.now };
 
     /// The tenant's number, which no other tenant of its server ever has.
     fn number(&self) -> u64
@@ -37,16 +43,24 @@ pub trait TenantCalls: Drop {
     /// What is told of a tenant's watches.
     type Hint: TakeHint;
 
-    /// One step of the tenant that has the key: its receipt tells the written machine's reply, in a state of that tenant.
-    /// It is refused if the tenant was removed, and else only for want of memory.
+    ghost made: { Self → Counts };
+
+    // The tenant of a number has given this receipt for a step. What serves clients knows no more of it, so it can have it of no
+    // receipt but that of the call.
+    ghost gives: { ℕ → Step → CallReceipt → Type 0 };
+
+    /// One step of the tenant that has the key: one call is made on it, and its receipt tells the written machine's reply.
+    /// It is refused if the tenant was removed, and else only for want of memory; then no call was made.
     fn call<R: Wait + Clock>(
         &mut self,
         rt: &R,
         key: &Self::Key,
         step: Step,
     ) -> Result<CallReceipt, Refusal>
-        ensures told { IfOk result (λ receipt. IsTold (Self.Key.number_of key.now) step receipt) }
-        ensures refused { IfErr result (λ r. IsUncalled r) };
+        ensures given { IfOk result (λ receipt. gives (Self.Key.number_of key.now) step receipt) }
+        ensures refused { IfErr result (λ r. IsUncalled r) }
+        ensures made { IfOk result (λ _. IsOneMore (Self.Key.name_of key.now) (made self.old) (made self.new)) }
+        ensures unmade { IfErr result (λ _. IsNoMore (made self.old) (made self.new)) };
 
     /// The tenant's current revision. It is refused as `call` is.
     fn revision<R: Wait>(&self, rt: &R, key: &Self::Key) -> Result<i64, Refusal>;
@@ -64,4 +78,8 @@ pub trait TenantCalls: Drop {
         enough: u64,
     ) -> Result<u64, Refusal>
         ensures { IfErr result (λ r. IsUncalled r) };
+
+    // A receipt that a tenant has given tells the written machine's reply.
+    ghost tells: { (number : ℕ) → (step : Step) → (receipt : CallReceipt)
+        → gives number step receipt → IsTold number step receipt };
 }

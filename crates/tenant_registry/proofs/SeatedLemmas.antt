@@ -1,10 +1,17 @@
 -- What a server's thread is told is what the registry's receipt has.
-use Rattle.std.proofs.Common.{◌≡◌, ◌∙◌, ap, refl, ℕ}
+use Rattle.std.specs.Prelude.{Option, Some, None}
+use Rattle.std.proofs.Common.{◌≡◌, ◌∙◌, ◌+◌, ◌-◌, ◌^◌, ◌<◌, ◌≤◌, ◌⊎◌, inl, inr, ap, refl, min, ℕ, List, [], ◌∷◌, ◌++◌, length, length-append, arith}
+use Rattle.std.proofs.Math.Nat.{min-eq_left}
+use Rattle.std.proofs.lemmas.Bool.{cases_lt}
 use Rattle.etcd_types.specs.declared.step.Step.{Step}
 use Rattle.etcd_model.specs.Machine.{machine}
+use Rattle.tenant_audit.specs.declared.tally.MadeCall.{MadeCall}
 use Rattle.tenant_audit.specs.Receipts.{Slip}
+use Rattle.tenant_audit.specs.Seats.{SeatState, Keeps, KeepsLists, calls_on, missed_on}
 use Rattle.tenant_calls.specs.declared.receipt.CallReceipt.{CallReceipt}
 use Rattle.tenant_calls.specs.Answers.{IsTold}
+use Rattle.tenant_calls.specs.Counts.{IsNoMore, IsOneMore}
+use Rattle.tenant_registry.specs.Counting.{calls_counted}
 use Rattle.tenant_registry.specs.Serving.{IsReceipt}
 
 pub told_of : (number seat : ℕ) (step : Step) (slip : Slip) (receipt : CallReceipt) → IsReceipt seat step slip → slip.number ≡ number → receipt.status ≡ slip.status → receipt.body.items ≡ slip.body → receipt.slot ≡ slip.slot → receipt.canceled ≡ slip.canceled → receipt.refusal ≡ slip.refusal → IsTold number step receipt
@@ -19,3 +26,32 @@ told_of number seat step slip receipt i same status body slot canceled refusal =
     refusal = refusal ∙ ap (λ s. s.refusal) i.text;
   };
 }
+
+-- ---- counts
+
+count_of_one : (n m : ℕ) (xs ys : List MadeCall) (c : MadeCall) → ys ≡ xs ++ c ∷ [] → m ≡ n → length ys + m ≡ length xs + n + 1
+count_of_one n m xs ys c grew same =
+    let grown : length ys ≡ length xs + 1 = ap (λ l. length l) grew ∙ length-append xs (c ∷ [])
+    in omega (arith, grown, same)
+
+counted_or_full : (n m k l : ℕ) → l ≡ k → m ≡ min (n + 1) (2 ^ 32 - 1) → (2 ^ 32 - 1 < n + 1) ⊎ (n + 1 ≤ 2 ^ 32 - 1) → (l + m ≡ k + n + 1) ⊎ (2 ^ 32 ≤ k + n + 1)
+counted_or_full n m k l same grew (inl over) = inr (omega (arith, over))
+counted_or_full n m k l same grew (inr fits) =
+    let one : m ≡ n + 1 = grew ∙ min-eq_left fits
+    in inl (omega (arith, same, one))
+
+missed_or_full : (n m k l : ℕ) → l ≡ k → m ≡ min (n + 1) (2 ^ 32 - 1) → (l + m ≡ k + n + 1) ⊎ (2 ^ 32 ≤ k + n + 1)
+missed_or_full n m k l same grew = counted_or_full n m k l same grew (cases_lt (2 ^ 32 - 1) (n + 1))
+
+pub one_more : (turn : Option ℕ) (name : List ℕ) (step : Step) (slip : Slip) (old new : SeatState) → Keeps turn name step slip old new → IsOneMore name (calls_counted old) (calls_counted new)
+one_more (Some turn) name step slip old new (reply, text, adds) = record {
+  counted = inl (count_of_one (missed_on name old) (missed_on name new) (calls_on name old) (calls_on name new) _ adds.calls adds.missed);
+  others = λ t other. ap (λ l. length l + missed_on t new) (adds.others.calls t other) ∙ ap (λ k. length (calls_on t old) + k) (adds.others.missed t other);
+}
+one_more None name step slip old new adds = record {
+  counted = missed_or_full (missed_on name old) (missed_on name new) (length (calls_on name old)) (length (calls_on name new)) (ap (λ l. length l) adds.calls) adds.missed;
+  others = λ t other. ap (λ l. length l + missed_on t new) (adds.others.calls t other) ∙ ap (λ k. length (calls_on t old) + k) (adds.others.missed t other);
+}
+
+pub no_more : (old new : SeatState) → KeepsLists old new → IsNoMore (calls_counted old) (calls_counted new)
+no_more old new keeps = λ t. ap (λ l. length l + missed_on t new) (keeps.calls t) ∙ ap (λ k. length (calls_on t old) + k) (keeps.missed t)

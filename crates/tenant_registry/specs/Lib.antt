@@ -4,6 +4,7 @@ pub mod KeptInside
 pub mod Registries
 pub mod Adding
 pub mod Calling
+pub mod Counting
 pub mod Resizing
 pub mod Removing
 pub mod RegistryInside

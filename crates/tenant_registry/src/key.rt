@@ -130,6 +130,8 @@ impl Key {
 impl TenantKey for Key {
     ghost number_of = { λ key. key.number };
 
+    ghost name_of = { λ key. key.name };
+
     fn name(&self) -> &[u8] {
         self.name.as_slice()
     }

@@ -1,6 +1,8 @@
 //! How the threads of a server call tenants: by keys, each with a seat of its own.
 ghost use Rattle.std.specs.Prelude.{◌≡◌, IfErr, IfOk};
 ghost use Rattle.tenant_calls.specs.Answers.{IsTold, IsUncalled};
+ghost use Rattle.tenant_calls.specs.Counts.{IsNoMore, IsOneMore};
+ghost use Rattle.tenant_registry.specs.Counting.{calls_counted};
 
 use crate::gate::Gate;
 use crate::kept::Receipt;
@@ -77,15 +79,22 @@ impl<G: Gate> TenantCalls for SeatedCalls<'_, G> {
 
     type Hint = WatchHint;
 
-    #[tactic(auto, using(crate::proofs::SeatedLemmas::told_of))]
+    ghost made = { λ it. calls_counted it.seat };
+
+    ghost gives = { λ number step receipt. IsTold number step receipt };
+
+    #[tactic(auto, using(crate::proofs::SeatedLemmas::told_of, crate::proofs::SeatedLemmas::one_more, crate::proofs::SeatedLemmas::no_more))]
     fn call<R: Wait + Clock>(
         &mut self,
         rt: &R,
         key: &Key,
         step: Step,
     ) -> Result<CallReceipt, Refusal>
-        ensures told { IfOk result (λ receipt. IsTold key.now.number step receipt) }
+        ensures given { IfOk result (λ receipt. IsTold key.now.number step receipt) }
         ensures refused { IfErr result (λ r. IsUncalled r) }
+        ensures made { IfOk result
+            (λ _. IsOneMore key.now.name (calls_counted self.old.seat) (calls_counted self.new.seat)) }
+        ensures unmade { IfErr result (λ _. IsNoMore (calls_counted self.old.seat) (calls_counted self.new.seat)) }
     {
         match key.call(rt, &mut self.seat, self.gate, step) {
             Ok(receipt) => Ok(told(receipt)),
@@ -112,6 +121,8 @@ impl<G: Gate> TenantCalls for SeatedCalls<'_, G> {
     {
         key.weight(rt, step, enough)
     }
+
+    ghost tells = { λ number step receipt given. given };
 }
 
 impl Registry {

@@ -1,2 +1,3 @@
 -- Proofs of this crate.
+pub mod MakeLemmas
 pub mod RequestLemmas

@@ -1,16 +1,47 @@
 //! A thread's way to the tenants.
-ghost use Rattle.std.specs.Prelude.{IfErr, IfOk};
-ghost use Rattle.fair_turns.specs.Answers.{IsAnswer};
+ghost use Rattle.std.specs.Prelude.{◌≡◌, ◌<◌, length, vec_capacity, IfErr, IfOk};
+ghost use Rattle.etcd_types.specs.declared.step.Step.{Step};
+ghost use Rattle.etcd_types.specs.declared.step.Step.TheVariants.{Take};
+ghost use Rattle.fair_turns.specs.Answers.{IsAnswer, Shows};
 ghost use Rattle.tenant_calls.specs.Answers.{IsTold, IsUncalled};
+ghost use Rattle.tenant_calls.specs.Counts.{IsNoMore};
+ghost use Rattle.tenant_scheduler.specs.Makes.{IsCounted, IsMade};
+ghost use Rattle.tenant_scheduler.specs.Requests.{IsStepOf};
+ghost use Rattle.tenant_scheduler.specs.Watches.{IsListed};
 
-use crate::clients::{Clients, key_of};
+use crate::clients::{Clients, OpenWatch, key_of};
 use crate::inline_calls::is_brief;
+use crate::unserved::{JobAnswer, Unserved};
 use etcd_types::{Refusal, Step};
-use fair_turns::{Answer, LONGEST_ROW, Share, may_be_long};
+use fair_turns::{Answer, LONGEST_ROW, MadeText, Share, TextSender, WatchTexts, may_be_long};
 use std::alloc::Global;
 use std::rt::Clock;
 use std::sync::Wait;
-use tenant_calls::{CallReceipt, TenantCalls};
+use tenant_calls::{CallReceipt, TenantCalls, TenantKey};
+
+/// A step that a thread makes by itself, and not for a client.
+#[derive(Clone, Copy, Drop)]
+pub(crate) enum OwnStep {
+    /// The tenant's clock comes to this second.
+    Tick(u64),
+    /// Watches that are behind catch up over so many changes.
+    CatchUp(u32),
+    /// A standing order drops the history before this revision.
+    Compact(i64),
+    /// The client of the watch in this slot has gone.
+    DropWatch(u8),
+}
+
+impl OwnStep {
+    fn step(self) -> Step {
+        match self {
+            OwnStep::Tick(moment) => Step::Tick(moment),
+            OwnStep::CatchUp(budget) => Step::CatchUp(budget),
+            OwnStep::Compact(revision) => Step::Compact(revision),
+            OwnStep::DropWatch(slot) => Step::DropWatch(slot),
+        }
+    }
+}
 
 /// What a thread calls tenants by.
 #[derive(Drop)]
@@ -24,27 +55,80 @@ impl<R: Wait + Clock + Drop, C: TenantCalls> Caller<R, C> {
         Caller { rt, calls }
     }
 
-    /// One step of the tenant that has the key. Without a key there is no such tenant.
-    pub(crate) fn call(
-        &mut self,
-        key: &Option<C::Key>,
-        step: Step,
-    ) -> Result<CallReceipt, Refusal> {
+    /// One step of this thread's own, of the tenant that has the key. Without a key there is no such tenant.
+    pub(crate) fn call(&mut self, key: &Option<C::Key>, step: OwnStep) -> Result<(), Refusal> {
         match key {
-            Some(key) => self.calls.call(&self.rt, key, step),
+            Some(key) => {
+                self.calls.call(&self.rt, key, step.step())?;
+                Ok(())
+            }
             None => Err(Refusal::NoTenant),
         }
     }
 
-    /// One step of the tenant of that number, if the key is to it.
-    pub(crate) fn serve(
+    /// What the watch in a slot tells next, on the tenant of that number, if the key is to it.
+    pub(crate) fn take(
+        &mut self,
+        key: &Option<C::Key>,
+        number: u64,
+        slot: u8,
+    ) -> Result<CallReceipt, Refusal>
+        ensures { IfOk result (λ receipt. C.gives number (Take slot) receipt) }
+    {
+        self.serve(key, number, Step::Take(slot))
+    }
+
+    /// Answers a request by its step, which opens nothing. It is refused before it is planned where its answer may be long and
+    /// the tenant's budget has no room for that.
+    pub(crate) fn answer(
+        &mut self,
+        alloc: Global,
+        clients: &Clients<R, C::Key>,
+        unserved: Unserved,
+        step: Step,
+    ) -> JobAnswer<R>
+        requires { IsStepOf unserved.request.value step }
+        ensures request { result.request ≡ unserved.request }
+        ensures made { IsMade C.Key.number_of C.Key.name_of C.gives unserved.request.value.route.tenant step
+            result.answer (C.made self.old.calls) (C.made self.new.calls) }
+    {
+        let number = unserved.request().route.tenant;
+        let answer = self.told(alloc, clients, number, step);
+        unserved.answered(answer)
+    }
+
+    /// Answers a request that creates a watch, which is kept with its tenant's clients: there is room for it.
+    pub(crate) fn open(
+        &mut self,
+        alloc: Global,
+        clients: &mut Clients<R, C::Key>,
+        unserved: Unserved,
+        step: Step,
+        ends: (TextSender, WatchTexts<R>),
+    ) -> JobAnswer<R>
+        requires step { IsStepOf unserved.request.value step }
+        requires room { length clients.old.watches.items < vec_capacity clients.old.watches }
+        ensures request { result.request ≡ unserved.request }
+        ensures made { IsMade C.Key.number_of C.Key.name_of C.gives unserved.request.value.route.tenant step
+            result.answer (C.made self.old.calls) (C.made self.new.calls) }
+    {
+        let number = unserved.request().route.tenant;
+        let answer = self.created(alloc, clients, number, step, ends);
+        unserved.answered(answer)
+    }
+
+    /// One step of a client, of the tenant of that number, if the key is to it.
+    fn serve(
         &mut self,
         key: &Option<C::Key>,
         number: u64,
         step: Step,
     ) -> Result<CallReceipt, Refusal>
-        ensures told { IfOk result (λ receipt. IsTold number step receipt) }
+        ensures given { IfOk result (λ receipt. C.gives number step receipt) }
         ensures refused { IfErr result (λ r. IsUncalled r) }
+        ensures made { IfOk result (λ _. IsCounted C.Key.number_of C.Key.name_of number
+            (C.made self.old.calls) (C.made self.new.calls)) }
+        ensures unmade { IfErr result (λ _. IsNoMore (C.made self.old.calls) (C.made self.new.calls)) }
     {
         match key_of(key, number) {
             Some(key) => self.calls.call(&self.rt, key, step),
@@ -52,28 +136,29 @@ impl<R: Wait + Clock + Drop, C: TenantCalls> Caller<R, C> {
         }
     }
 
-    /// What a step of the tenant of that number is answered, if it opens nothing. It is refused before it is planned where
-    /// its answer may be long and the tenant's budget has no room for that.
-    pub(crate) fn answer(
+    /// What a step is answered that opens nothing.
+    fn told(
         &mut self,
         alloc: Global,
         clients: &Clients<R, C::Key>,
         number: u64,
         step: Step,
     ) -> Answer<R>
-        ensures { IsAnswer number step result }
+        ensures answer { IsAnswer number step result }
+        ensures made { IsMade C.Key.number_of C.Key.name_of C.gives number step result
+            (C.made self.old.calls) (C.made self.new.calls) }
     {
         if !may_be_long(&step) || (is_brief(&step) && clients.budget.left() >= LONGEST_ROW) {
-            return self.answer_within(alloc, clients, number, step, None);
+            return self.told_within(alloc, clients, number, step, None);
         }
         match self.reserve(clients, &step) {
-            Ok(Some(share)) => self.answer_within(alloc, clients, number, step, Some(share)),
+            Ok(Some(share)) => self.told_within(alloc, clients, number, step, Some(share)),
             Ok(None) => Answer::no_memory(),
             Err(refusal) => Answer::refused(alloc, refusal),
         }
     }
 
-    fn answer_within(
+    fn told_within(
         &mut self,
         alloc: Global,
         clients: &Clients<R, C::Key>,
@@ -81,7 +166,9 @@ impl<R: Wait + Clock + Drop, C: TenantCalls> Caller<R, C> {
         step: Step,
         reserved: Option<Share>,
     ) -> Answer<R>
-        ensures { IsAnswer number step result }
+        ensures answer { IsAnswer number step result }
+        ensures made { IsMade C.Key.number_of C.Key.name_of C.gives number step result
+            (C.made self.old.calls) (C.made self.new.calls) }
     {
         match self.serve(&clients.key, number, step) {
             Ok(receipt) => {
@@ -89,6 +176,27 @@ impl<R: Wait + Clock + Drop, C: TenantCalls> Caller<R, C> {
                 let text = clients.budget.charge(reserved, receipt.into_body());
                 Answer::text(status, refusal, text)
             }
+            Err(refusal) => Answer::refused(alloc, refusal),
+        }
+    }
+
+    /// What the create of a watch is answered.
+    fn created(
+        &mut self,
+        alloc: Global,
+        clients: &mut Clients<R, C::Key>,
+        number: u64,
+        step: Step,
+        ends: (TextSender, WatchTexts<R>),
+    ) -> Answer<R>
+        requires { length clients.old.watches.items < vec_capacity clients.old.watches }
+        ensures answer { IsAnswer number step result }
+        ensures made { IsMade C.Key.number_of C.Key.name_of C.gives number step result
+            (C.made self.old.calls) (C.made self.new.calls) }
+    {
+        let (sender, texts) = ends;
+        match self.serve(&clients.key, number, step) {
+            Ok(receipt) => opened(clients, number, receipt, sender, texts),
             Err(refusal) => Answer::refused(alloc, refusal),
         }
     }
@@ -124,4 +232,34 @@ impl<R: Wait + Clock + Drop, C: TenantCalls> Caller<R, C> {
     pub(crate) fn into_calls(self) -> C {
         self.calls
     }
+}
+
+/// The answer of a watch that was created, which is kept with its tenant's clients, or of what was told instead.
+fn opened<R: Wait + Drop, K: TenantKey>(
+    clients: &mut Clients<R, K>,
+    number: u64,
+    receipt: CallReceipt,
+    sender: TextSender,
+    texts: WatchTexts<R>,
+) -> Answer<R>
+    requires { length clients.old.watches.items < vec_capacity clients.old.watches }
+    ensures answer { (step : Step) → IsTold number step receipt → IsAnswer number step result }
+    ensures shows { Shows result receipt.status receipt.body.items receipt.refusal }
+    ensures listed { IsListed number receipt.slot sender clients.old.watches.items clients.new.watches.items }
+{
+    let (status, refusal) = (receipt.status, receipt.refusal);
+    let Some(slot) = receipt.slot else {
+        return Answer::text(status, refusal, MadeText::short(receipt.into_body()));
+    };
+    let watch = OpenWatch {
+        tenant: number,
+        slot,
+        texts: sender,
+    };
+    // There is room.
+    let _ = clients.watches.push(watch);
+    let mut texts = texts;
+    texts.belong_to(number, slot);
+    let created = MadeText::short(receipt.into_body());
+    Answer::watch(status, refusal, created, texts)
 }

@@ -1,10 +1,9 @@
 //! The catch-up worker: moves watches on that are behind, and compacts by standing orders.
-use crate::caller::Caller;
+use crate::caller::{Caller, OwnStep};
 use crate::clients::Clients;
 use crate::pump::take_all;
 use crate::serving::ServingThread;
 use crate::tenants::ServedTenant;
-use etcd_types::Step;
 use fair_turns::{Scheduler, Stopwatch, Work};
 use std::rt::Clock;
 use std::sync::Wait;
@@ -57,7 +56,7 @@ fn keep_order<R: Wait + Clock + Drop, C: TenantCalls>(
     let Some(at) = clients.standing.look(moment, revision) else {
         return;
     };
-    if take_all(caller, &mut *clients) && caller.call(&clients.key, Step::Compact(at)).is_ok() {
+    if take_all(caller, &mut *clients) && caller.call(&clients.key, OwnStep::Compact(at)).is_ok() {
         clients.schedule_takes(rt, scheduler, tenant.turns());
     } else {
         clients.standing.put_off();
@@ -74,7 +73,7 @@ fn move_on<R: Wait + Clock + Drop, C: TenantCalls>(
     let stopwatch = Stopwatch::start(rt);
     for _ in 0..STEPS_A_TURN {
         // What is behind stays right without it.
-        if caller.call(&clients.key, Step::CatchUp(BUDGET)).is_err() {
+        if caller.call(&clients.key, OwnStep::CatchUp(BUDGET)).is_err() {
             return;
         }
         if !is_far_behind(caller, &*clients) || stopwatch.is_past(rt, MILLIS_A_TURN) {

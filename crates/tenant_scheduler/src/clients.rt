@@ -1,9 +1,9 @@
 //! What the clients of a tenant have under way: jobs that wait, and open watches.
-ghost use Rattle.std.specs.Prelude.{◌≡◌, IfSome};
-ghost use Rattle.tenant_scheduler.specs.Requests.{IsAnswerOf, IsReadAs};
+ghost use Rattle.std.specs.Prelude.{◌≡◌, IfSome, Some};
+ghost use Rattle.tenant_scheduler.specs.Requests.{IsReadAs, IsStepOf};
 
 use crate::clock::Running;
-use crate::request::Request;
+use crate::unserved::{JobAnswer, Unserved};
 use auto_compaction::StandingOrder;
 use etcd_types::{Refusal, Step};
 use fair_turns::{
@@ -18,21 +18,21 @@ use tokio::sync::mpsc;
 /// A request that waits for a worker, and where its answer goes.
 #[derive(Drop)]
 pub(crate) struct Job<R: Wait + Drop> {
-    pub(crate) request: Arc<Request>,
+    pub(crate) unserved: Unserved,
     /// The step that its body is read as; none where a worker has to read it.
     pub(crate) step: Option<Step>,
     /// Since it was left in the queue.
     pub(crate) waiting: Stopwatch,
     pub(crate) reply: oneshot::Sender<JobAnswer<R>>,
-    pub(crate) ghost asked: { IsReadAs request.value step },
+    pub(crate) ghost asked: { IsReadAs unserved.request.value step },
 }
 
-/// The answer of a request.
+/// A request whose step looks at one key at most.
 #[derive(Drop)]
-pub(crate) struct JobAnswer<R: Wait + Drop> {
-    pub(crate) request: Arc<Request>,
-    pub(crate) answer: Answer<R>,
-    pub(crate) ghost is: { ∥ IsAnswerOf request.value answer ∥₁ },
+pub(crate) struct BriefRequest {
+    pub(crate) unserved: Unserved,
+    pub(crate) step: Step,
+    pub(crate) ghost asked: { IsStepOf unserved.request.value step },
 }
 
 /// A watch whose client is there, and where its texts go.
@@ -92,7 +92,8 @@ impl<R: Wait + Copy + Drop, K: TenantKey> Clients<R, K> {
 
 /// The key, if it is to the tenant of that number.
 pub(crate) fn key_of<K: TenantKey>(key: &Option<K>, number: u64) -> Option<&K>
-    ensures { IfSome result (λ found. K.number_of found.now ≡ number) }
+    ensures number { IfSome result (λ found. K.number_of found.now ≡ number) }
+    ensures key { IfSome result (λ found. key.now ≡ Some found.now) }
 {
     match key {
         Some(key) if key.number() == number => Some(key),
@@ -104,7 +105,6 @@ pub(crate) fn key_of<K: TenantKey>(key: &Option<K>, number: u64) -> Option<&K>
 #[tactic(auto, using(crate::proofs::RequestLemmas::gone))]
 fn end<R: Wait + Drop>(alloc: Global, job: Job<R>) {
     let answer = Answer::refused(alloc, Refusal::NoTenant);
-    let request = job.request;
     // Whether its client is still there is all one.
-    drop(job.reply.send(JobAnswer { request, answer }));
+    drop(job.reply.send(job.unserved.answered(answer)));
 }

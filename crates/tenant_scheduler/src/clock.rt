@@ -1,9 +1,8 @@
 //! The clock: a tick a second to each tenant.
-use crate::caller::Caller;
+use crate::caller::{Caller, OwnStep};
 use crate::serving::ServingThread;
 use crate::tenants::ServedTenant;
 use crossbeam_channel::RecvTimeoutError;
-use etcd_types::Step;
 use fair_turns::{Scheduler, Turn, Work};
 use std::rt::Clock;
 use std::sync::Wait;
@@ -110,7 +109,7 @@ fn tick<R: Wait + Clock + Drop, C: TenantCalls>(
 ) {
     let mut clients = tenant.clients.lock(rt);
     let moment = clients.running.tick(now);
-    let _ = caller.call(&clients.key, Step::Tick(moment));
+    let _ = caller.call(&clients.key, OwnStep::Tick(moment));
     clients.schedule_takes(rt, scheduler, tenant.turns());
     if clients.standing.is_due(moment) {
         scheduler.schedule(rt, tenant.turns(), Work::CatchUp);

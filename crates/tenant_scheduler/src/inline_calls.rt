@@ -5,13 +5,13 @@
 //! may take long is left to the workers: a loop has many connections, which wait meanwhile.
 ghost use Rattle.futures.specs.Task.{IsArmed, Keeps};
 ghost use Rattle.futures.specs.Poll.{OnPending};
-ghost use Rattle.tenant_scheduler.specs.Requests.{IsStepOf};
+ghost use Rattle.tenant_scheduler.specs.Outcomes.{IsOutcome};
 
 use crate::caller::Caller;
-use crate::clients::{Clients, JobAnswer};
-use crate::request::Request;
+use crate::clients::{BriefRequest, Clients};
 use crate::serving::ServingThread;
 use crate::tenants::ServedTenant;
+use crate::unserved::JobAnswer;
 use crate::worker::may_give;
 use etcd_types::Step;
 use fair_turns::{Scheduler, Stopwatch, Work};
@@ -20,7 +20,7 @@ use futures::ready;
 use futures::task::{Context, Poll};
 use std::alloc::Global;
 use std::rt::Clock;
-use std::sync::{Arc, Wait};
+use std::sync::Wait;
 use tenant_calls::{TenantCalls, TenantKey};
 use tokio::sync::mpsc::UnboundedReceiver;
 
@@ -32,14 +32,6 @@ const SHORT_ANSWER: usize = 16_384;
 
 /// How many brief calls of a tenant are left to the workers after a longer one.
 const CALLS_LEFT: u32 = 256;
-
-/// A request whose step looks at one key at most.
-#[derive(Drop)]
-pub(crate) struct BriefRequest {
-    pub(crate) request: Arc<Request>,
-    pub(crate) step: Step,
-    pub(crate) ghost asked: { IsStepOf request.value step },
-}
 
 /// A brief call, and where its outcome goes.
 pub struct InlineCall<R: Wait + Drop> {
@@ -77,8 +69,8 @@ impl<R: Wait + Drop> InlineOutcome<R> {
     /// Counts the call, if it was answered.
     fn count<K: TenantKey>(self, tenant: &ServedTenant<R, K>) -> InlineOutcome<R> {
         if let InlineOutcome::Answered(told) = &self {
-            let (call, length) = (told.request.route.call, told.request.len());
-            tenant.counts().add(call, length, &told.answer);
+            let (call, length) = (told.request().route.call, told.request().len());
+            tenant.counts().add(call, length, told.answer());
         }
         self
     }
@@ -143,7 +135,7 @@ impl<R: Wait + Clock + Copy + Drop, C: TenantCalls> InlineCalls<R, C> {
             caller,
             shared,
         } = &mut self.thread;
-        let route = brief.request.route;
+        let route = brief.unserved.request().route;
         let outcome = match shared.tenants().numbered(rt, self.shard, route.tenant) {
             Some(tenant) if Scheduler::try_begin(tenant.turns()) => {
                 let stopwatch = Stopwatch::start(rt);
@@ -185,17 +177,20 @@ fn answer<R: Wait + Clock + Drop, C: TenantCalls>(
     caller: &mut Caller<R, C>,
     clients: &mut Clients<R, C::Key>,
     brief: BriefRequest,
-) -> InlineOutcome<R> {
+) -> InlineOutcome<R>
+    ensures { IsOutcome C.Key.number_of C.Key.name_of C.gives brief.unserved.request.value brief.step result
+        (C.made caller.old.calls) (C.made caller.new.calls) }
+{
     if clients.left_to_workers > 0 {
         clients.left_to_workers -= 1;
         return InlineOutcome::Busy(brief);
     }
-    let BriefRequest { request, step } = brief;
-    let answer = caller.answer(alloc, clients, request.route.tenant, step);
-    if answer.len() > SHORT_ANSWER {
+    let BriefRequest { unserved, step } = brief;
+    let told = caller.answer(alloc, clients, unserved, step);
+    if told.answer().len() > SHORT_ANSWER {
         clients.left_to_workers = CALLS_LEFT;
     }
-    InlineOutcome::Answered(JobAnswer { request, answer })
+    InlineOutcome::Answered(told)
 }
 
 /// A step that looks at one key at most, and at its present row.

@@ -105,7 +105,7 @@ impl<R: Wait + Drop> Jobs<R> {
     pub(crate) fn offer(&self, rt: &R, job: Job<R>) -> Result<Option<HeldBack<R>>, Refusal>
         ensures { IfErr result (λ r. IsUncalled r) }
     {
-        let Some(entrance) = self.entrance(rt, job.request.route.tenant) else {
+        let Some(entrance) = self.entrance(rt, job.unserved.request().route.tenant) else {
             return Err(Refusal::NoTenant);
         };
         match entrance.queue.try_send(job) {

@@ -1,15 +1,16 @@
 //! A call from where its body was read to its answer.
-ghost use Rattle.std.specs.Prelude.{◌≡◌, IfErr, IfOk, IfSome};
+ghost use Rattle.std.specs.Prelude.{◌≡◌, IfErr, IfSome};
 ghost use Rattle.futures.specs.Task.{IsArmed, Keeps};
 ghost use Rattle.futures.specs.Poll.{IfReady, OnPending};
 ghost use Rattle.tenant_calls.specs.Answers.{IsUncalled};
 ghost use Rattle.tenant_scheduler.specs.Begins.{IsBegun};
-ghost use Rattle.tenant_scheduler.specs.Requests.{IsAnswerOf, IsReadAs, IsStepOf, IsUnmade};
+ghost use Rattle.tenant_scheduler.specs.Requests.{IsAnswerOf, IsReadAs, IsUnmade};
 
-use crate::clients::{Job, JobAnswer};
-use crate::inline_calls::{BriefRequest, InlineCall, InlineOutcome, is_brief};
+use crate::clients::{BriefRequest, Job};
+use crate::inline_calls::{InlineCall, InlineOutcome, is_brief};
 use crate::jobs::{HeldBack, Jobs};
 use crate::request::{Request, RequestBody, Route};
+use crate::unserved::{JobAnswer, Unserved};
 use etcd_types::{Refusal, Step};
 use fair_turns::{Answer, SHORT, Stopwatch};
 use futures::channel::oneshot;
@@ -97,7 +98,7 @@ impl<R: Wait + Clock + Copy + Drop> PendingCall<R> {
     pub fn begin(rt: R, alloc: Global, jobs: &Jobs<R>, route: Route, body: RequestBody) -> Begun<R>
         ensures { IsBegun result route body.bytes.items }
     {
-        let Ok(request) = Arc::new(alloc, Request { route, body }) else {
+        let Ok((request, unserved)) = Unserved::new(alloc, route, body) else {
             return Begun::Answered(Answer::no_memory());
         };
         let mut pending = PendingCall {
@@ -106,24 +107,24 @@ impl<R: Wait + Clock + Copy + Drop> PendingCall<R> {
             request,
             stage: Stage::Over,
         };
-        match pending.ask(jobs) {
+        match pending.ask(jobs, unserved) {
             Some(answer) => Begun::Answered(answer),
             None => Begun::Pending(pending),
         }
     }
 
     /// Reads the step of a short body, and hands the call on; its answer, if there is one already.
-    fn ask(&mut self, jobs: &Jobs<R>) -> Option<Answer<R>>
-        ensures answered { IfSome result (λ answer.
-            IsAnswerOf self.old.request.value answer) }
+    fn ask(&mut self, jobs: &Jobs<R>, unserved: Unserved) -> Option<Answer<R>>
+        requires { unserved.request.value ≡ self.old.request.value }
+        ensures answered { IfSome result (λ answer. IsAnswerOf self.old.request.value answer) }
         ensures request { self.new.request ≡ self.old.request }
     {
         if self.request.len() > SHORT {
-            return self.queue(jobs, None);
+            return self.queue(jobs, unserved, None);
         }
         match self.request.read(self.alloc) {
-            Ok(step) if is_brief(&step) => self.hand(jobs, step),
-            Ok(step) => self.queue(jobs, Some(step)),
+            Ok(step) if is_brief(&step) => self.hand(jobs, BriefRequest { unserved, step }),
+            Ok(step) => self.queue(jobs, unserved, Some(step)),
             Err(refusal) => {
                 let (route, length) = (self.request.route, self.request.len());
                 Some(jobs.refused(&self.rt, self.alloc, route, length, refusal))
@@ -131,62 +132,40 @@ impl<R: Wait + Clock + Copy + Drop> PendingCall<R> {
         }
     }
 
-    /// Hands a brief step to the event loop, or leaves it in its tenant's queue where there is no loop; the answer where
+    /// Hands a brief request to the event loop, or leaves it in its tenant's queue where there is no loop; the answer where
     /// neither can be.
-    fn hand(&mut self, jobs: &Jobs<R>, step: Step) -> Option<Answer<R>>
-        requires { IsStepOf self.old.request.value step }
+    fn hand(&mut self, jobs: &Jobs<R>, brief: BriefRequest) -> Option<Answer<R>>
         ensures answered { IfSome result (λ answer. IsUnmade answer) }
         ensures request { self.new.request ≡ self.old.request }
     {
-        match self.handed(step) {
-            Ok((call, outcome)) => match jobs.hand(call) {
-                Ok(()) => {
-                    self.stage = Stage::Inline(outcome);
-                    None
-                }
-                Err(call) => self.leave(jobs, call.into_brief()),
-            },
-            Err(refusal) => self.refused(refusal),
+        let Ok((reply, outcome)) = oneshot::channel(self.alloc) else {
+            return self.refused(Refusal::Memory);
+        };
+        match jobs.hand(InlineCall { brief, reply }) {
+            Ok(()) => {
+                self.stage = Stage::Inline(outcome);
+                None
+            }
+            Err(call) => self.leave(jobs, call.into_brief()),
         }
     }
 
-    /// A brief call for the event loop, and what waits for its outcome.
-    fn handed(
-        &self,
-        step: Step,
-    ) -> Result<(InlineCall<R>, oneshot::Receiver<InlineOutcome<R>>), Refusal>
-        requires { IsStepOf self.now.request.value step }
-        ensures { IfErr result (λ r. IsUncalled r) }
-    {
-        let request = self.shared()?;
-        let Ok((reply, outcome)) = oneshot::channel(self.alloc) else {
-            return Err(Refusal::Memory);
-        };
-        let brief = BriefRequest { request, step };
-        Ok((InlineCall { brief, reply }, outcome))
-    }
-
-    /// Leaves a brief request that came back in its tenant's queue, if it is this one; the answer where that can't be.
-    #[tactic(auto, using(crate::proofs::RequestLemmas::same_step))]
+    /// Leaves a brief request in its tenant's queue; the answer where that can't be.
     fn leave(&mut self, jobs: &Jobs<R>, brief: BriefRequest) -> Option<Answer<R>>
         ensures answered { IfSome result (λ answer. IsUnmade answer) }
         ensures request { self.new.request ≡ self.old.request }
     {
-        let BriefRequest { request, step } = brief;
-        if request.is_same(&*self.request) {
-            return self.queue(jobs, Some(step));
-        }
-        self.stage = Stage::Over;
-        None
+        let BriefRequest { unserved, step } = brief;
+        self.queue(jobs, unserved, Some(step))
     }
 
-    /// Leaves the request in its tenant's queue, or waits for room there; the answer where neither can be.
-    fn queue(&mut self, jobs: &Jobs<R>, step: Option<Step>) -> Option<Answer<R>>
-        requires { IsReadAs self.old.request.value step }
+    /// Leaves a request in its tenant's queue, or waits for room there; the answer where neither can be.
+    fn queue(&mut self, jobs: &Jobs<R>, unserved: Unserved, step: Option<Step>) -> Option<Answer<R>>
+        requires { IsReadAs unserved.request.value step }
         ensures answered { IfSome result (λ answer. IsUnmade answer) }
         ensures request { self.new.request ≡ self.old.request }
     {
-        match self.queued(jobs, step) {
+        match self.queued(jobs, unserved, step) {
             Ok(stage) => {
                 self.stage = stage;
                 None
@@ -196,16 +175,20 @@ impl<R: Wait + Clock + Copy + Drop> PendingCall<R> {
     }
 
     /// The stage of a request that was left in its tenant's queue, or waits for room there.
-    fn queued(&self, jobs: &Jobs<R>, step: Option<Step>) -> Result<Stage<R>, Refusal>
-        requires { IsReadAs self.now.request.value step }
+    fn queued(
+        &self,
+        jobs: &Jobs<R>,
+        unserved: Unserved,
+        step: Option<Step>,
+    ) -> Result<Stage<R>, Refusal>
+        requires { IsReadAs unserved.request.value step }
         ensures { IfErr result (λ r. IsUncalled r) }
     {
-        let request = self.shared()?;
         let Ok((reply, answer)) = oneshot::channel(self.alloc) else {
             return Err(Refusal::Memory);
         };
         let job = Job {
-            request,
+            unserved,
             step,
             waiting: Stopwatch::start(&self.rt),
             reply,
@@ -213,17 +196,6 @@ impl<R: Wait + Clock + Copy + Drop> PendingCall<R> {
         match jobs.offer(&self.rt, job)? {
             None => Ok(Stage::Waiting(answer)),
             Some(held) => Ok(Stage::Queueing(Queueing { held, answer })),
-        }
-    }
-
-    /// The request, for who serves it.
-    fn shared(&self) -> Result<Arc<Request>, Refusal>
-        ensures shared { IfOk result (λ request. request.value ≡ self.now.request.value) }
-        ensures memory { IfErr result (λ r. IsUncalled r) }
-    {
-        match Arc::try_clone(&self.request) {
-            Ok(request) => Ok(request),
-            Err(_) => Err(Refusal::Memory),
         }
     }
 
@@ -301,20 +273,5 @@ impl<R: Wait + Clock + Copy + Drop> PendingCall<R> {
             }
             Err(refusal) => self.refused(refusal),
         })
-    }
-}
-
-impl<R: Wait + Drop> JobAnswer<R> {
-    /// The answer, if it is that of this request.
-    #[tactic(auto, using(crate::proofs::RequestLemmas::of_the_same))]
-    fn of(self, asked: &Request) -> Option<Answer<R>>
-        ensures { IfSome result (λ answer. ∥ IsAnswerOf asked.now answer ∥₁) }
-    {
-        let JobAnswer { request, answer } = self;
-        if request.is_same(asked) {
-            Some(answer)
-        } else {
-            None
-        }
     }
 }

@@ -1,9 +1,8 @@
 //! The pump: from a tenant's watches to their clients.
-use crate::caller::Caller;
+use crate::caller::{Caller, OwnStep};
 use crate::clients::{Clients, OpenWatch};
 use crate::serving::ServingThread;
 use crate::tenants::ServedTenant;
-use etcd_types::Step;
 use fair_turns::{
     Budget, NoRoom, Scheduler, Stopwatch, TakenText, TenantCounts, TenantTurns, Work,
 };
@@ -233,7 +232,7 @@ fn take<R: Wait + Clock + Drop, C: TenantCalls>(
         Err(NoRoom::Memory) => return TakeOutcome::NoMemory,
     };
     let (tenant, slot) = (watch.tenant, watch.slot);
-    let Ok(receipt) = caller.serve(key, tenant, Step::Take(slot)) else {
+    let Ok(receipt) = caller.take(key, tenant, slot) else {
         return TakeOutcome::NoMemory;
     };
     if receipt.body.is_empty() {
@@ -264,7 +263,7 @@ pub(crate) fn drop_closed<R: Wait + Clock + Drop, C: TenantCalls>(
             break;
         }
         let watch = &watches[at];
-        if watch.texts.is_closed() && caller.call(key, Step::DropWatch(watch.slot)).is_ok() {
+        if watch.texts.is_closed() && caller.call(key, OwnStep::DropWatch(watch.slot)).is_ok() {
             let _ = watches.swap_remove(at);
         } else {
             at += 1;

@@ -1,24 +1,21 @@
 //! The workers: the calls of clients.
-ghost use Rattle.std.specs.Prelude.{IfErr, IfOk};
-ghost use Rattle.etcd_types.specs.declared.step.Step.{Step};
-ghost use Rattle.fair_turns.specs.Answers.{IsAnswer};
-ghost use Rattle.tenant_calls.specs.Answers.{IsTold};
-ghost use Rattle.tenant_scheduler.specs.Requests.{IsAnswerOf, IsReadAs, IsStepOf, IsUnread};
+ghost use Rattle.std.specs.Prelude.{◌≡◌, IfErr, IfOk};
+ghost use Rattle.tenant_scheduler.specs.Makes.{IsMade, IsMadeAfterTakes, IsRequestMade};
+ghost use Rattle.tenant_scheduler.specs.Requests.{IsReadAs, IsStepOf, IsUnread};
 
 use crate::caller::Caller;
-use crate::clients::{Clients, Job, JobAnswer, OpenWatch};
+use crate::clients::{Clients, Job};
 use crate::pump::{serve_takes, take_all};
 use crate::request::Request;
 use crate::serving::ServingThread;
 use crate::tenants::ServedTenant;
+use crate::unserved::{JobAnswer, Unserved};
 use etcd_types::{Call, Refusal, Step};
-use fair_turns::{
-    Answer, MadeText, SMALL_TREE, Scheduler, Stopwatch, TextSender, WatchTexts, Work, tree_weight,
-};
+use fair_turns::{Answer, SMALL_TREE, Scheduler, Stopwatch, TextSender, Work, tree_weight};
 use std::alloc::Global;
 use std::rt::Clock;
 use std::sync::{Arc, Wait};
-use tenant_calls::{CallReceipt, TenantCalls};
+use tenant_calls::TenantCalls;
 
 /// How many jobs of a tenant are served in one turn.
 const JOBS_A_TURN: usize = 8;
@@ -133,39 +130,41 @@ impl<R: Wait + Clock + Copy + Drop, C: TenantCalls> WorkerTurn<'_, '_, R, C> {
         job: Job<R>,
     ) -> usize {
         let Job {
-            request,
+            unserved,
             step,
             waiting,
             reply,
         } = job;
         clients.counts.waits().add(waiting.passed(&self.rt));
-        let call = request.route.call;
-        let read = if step.is_some() { 0 } else { request.len() };
-        let answer = self.answer(caller, clients, &*request, step);
-        clients.counts.add(call, request.len(), &answer);
-        let bytes = read.saturating_add(answer.len());
+        let (call, length) = (unserved.request().route.call, unserved.request().len());
+        let read = if step.is_some() { 0 } else { length };
+        let told = self.answer(caller, clients, unserved, step);
+        clients.counts.add(call, length, told.answer());
+        let bytes = read.saturating_add(told.answer().len());
         // Where the client has gone, the call stays made.
-        drop(reply.send(JobAnswer { request, answer }));
+        drop(reply.send(told));
         if may_give(call) {
             clients.schedule_takes(&self.rt, self.scheduler, self.tenant.turns());
         }
         bytes
     }
 
-    /// What a request is answered, whose step may have been read already.
+    /// Answers a request, whose step may have been read already.
     fn answer(
         &self,
         caller: &mut Caller<R, C>,
         clients: &mut Clients<R, C::Key>,
-        request: &Request,
+        unserved: Unserved,
         step: Option<Step>,
-    ) -> Answer<R>
-        requires { IsReadAs request.now step }
-        ensures { IsAnswerOf request.now result }
+    ) -> JobAnswer<R>
+        requires { IsReadAs unserved.request.value step }
+        ensures request { result.request ≡ unserved.request }
+        ensures made { IsRequestMade C.Key.number_of C.Key.name_of C.gives unserved.request.value result.answer
+            (C.made caller.old.calls) (C.made caller.new.calls) }
     {
-        match self.step_of(clients, request, step) {
-            Ok(step) => self.serve(caller, clients, request.route.tenant, step),
-            Err(refusal) => Answer::refused(self.alloc, refusal),
+        match self.step_of(clients, unserved.request(), step) {
+            Ok(step) => self.serve(caller, clients, unserved, step),
+            Err(refusal) => unserved.answered(Answer::refused(self.alloc, refusal)),
         }
     }
 
@@ -186,27 +185,31 @@ impl<R: Wait + Clock + Copy + Drop, C: TenantCalls> WorkerTurn<'_, '_, R, C> {
         }
     }
 
-    /// What a step of the tenant of that number is answered.
+    /// Answers a request by its step.
+    #[tactic(auto, using(crate::proofs::RequestLemmas::not_for_memory))]
     fn serve(
         &self,
         caller: &mut Caller<R, C>,
         clients: &mut Clients<R, C::Key>,
-        number: u64,
+        unserved: Unserved,
         step: Step,
-    ) -> Answer<R>
-        ensures { IsAnswer number step result }
+    ) -> JobAnswer<R>
+        requires { IsStepOf unserved.request.value step }
+        ensures request { result.request ≡ unserved.request }
+        ensures made { IsMadeAfterTakes C.Key.number_of C.Key.name_of C.gives unserved.request.value.route.tenant
+            step result.answer (C.made caller.old.calls) (C.made caller.new.calls) }
     {
         match step {
-            Step::Watch(_) => self.open(caller, clients, number, step),
+            Step::Watch(_) => self.open(caller, clients, unserved, step),
             Step::Compact(_) => {
                 // A watch with nothing to tell moves on by being taken; else it would be cancelled for what it
                 // has only not been asked about.
                 if !take_all(caller, clients) {
-                    return Answer::no_memory();
+                    return unserved.answered(Answer::no_memory());
                 }
-                caller.answer(self.alloc, clients, number, step)
+                caller.answer(self.alloc, clients, unserved, step)
             }
-            _ => caller.answer(self.alloc, clients, number, step),
+            _ => caller.answer(self.alloc, clients, unserved, step),
         }
     }
 
@@ -229,56 +232,27 @@ impl<R: Wait + Clock + Copy + Drop, C: TenantCalls> WorkerTurn<'_, '_, R, C> {
     }
 
     /// Creates a watch that stays open. Its memory is taken before.
+    #[tactic(auto, using(crate::proofs::RequestLemmas::not_for_memory))]
     fn open(
         &self,
         caller: &mut Caller<R, C>,
         clients: &mut Clients<R, C::Key>,
-        number: u64,
+        unserved: Unserved,
         step: Step,
-    ) -> Answer<R>
-        ensures { IsAnswer number step result }
+    ) -> JobAnswer<R>
+        requires { IsStepOf unserved.request.value step }
+        ensures request { result.request ≡ unserved.request }
+        ensures made { IsMade C.Key.number_of C.Key.name_of C.gives unserved.request.value.route.tenant step
+            result.answer (C.made caller.old.calls) (C.made caller.new.calls) }
     {
         if clients.watches.reserve(1).is_err() {
-            return Answer::no_memory();
+            return unserved.answered(Answer::no_memory());
         }
-        let Ok((sender, texts)) = TextSender::new(self.rt, self.alloc, self.tenant.turns()) else {
-            return Answer::no_memory();
+        let Ok(ends) = TextSender::new(self.rt, self.alloc, self.tenant.turns()) else {
+            return unserved.answered(Answer::no_memory());
         };
-        match caller.serve(&clients.key, number, step) {
-            Ok(receipt) => opened(caller, clients, number, receipt, sender, texts),
-            Err(refusal) => Answer::refused(self.alloc, refusal),
-        }
+        caller.open(self.alloc, clients, unserved, step, ends)
     }
-}
-
-/// The answer of a watch that was created, which is kept with its tenant's clients, or of what was told instead.
-fn opened<R: Wait + Clock + Copy + Drop, C: TenantCalls>(
-    caller: &mut Caller<R, C>,
-    clients: &mut Clients<R, C::Key>,
-    number: u64,
-    receipt: CallReceipt,
-    sender: TextSender,
-    texts: WatchTexts<R>,
-) -> Answer<R>
-    ensures { (step : Step) → IsTold number step receipt → IsAnswer number step result }
-{
-    let (status, refusal) = (receipt.status, receipt.refusal);
-    let Some(slot) = receipt.slot else {
-        return Answer::text(status, refusal, MadeText::short(receipt.into_body()));
-    };
-    let watch = OpenWatch {
-        tenant: number,
-        slot,
-        texts: sender,
-    };
-    if clients.watches.push(watch).is_err() {
-        let _ = caller.call(&clients.key, Step::DropWatch(slot));
-        return Answer::no_memory();
-    }
-    let mut texts = texts;
-    texts.belong_to(number, slot);
-    let created = MadeText::short(receipt.into_body());
-    Answer::watch(status, refusal, created, texts)
 }
 
 /// A call after which a watch may have something to give.

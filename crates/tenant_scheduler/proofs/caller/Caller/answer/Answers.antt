@@ -1,8 +1,11 @@
-use Rattle.fair_turns.proofs.AnswerLemmas.{uncalled, out_of_memory}
+use Rattle.std.proofs.Common.{subst}
+use Rattle.fair_turns.specs.Answers.{IsAnswer}
+use Rattle.tenant_scheduler.proofs.MakeLemmas.{made_of}
+use Rattle.tenant_scheduler.proofs.RequestLemmas.{step_told}
 use Rattle.tenant_scheduler.proofs.caller.Caller.answer.Goals as goal
 
-pub returns-in-Ok-None : goal.returns-in-Ok-None
-returns-in-Ok-None g c = out_of_memory c.args.number c.args.step _ c.no_memory.ensures
+pub answered-requires : goal.answered-requires
+answered-requires g c = step_told c.args.unserved.request.value c.args.step c.told-answer.result c.requires (subst (λ r. IsAnswer r.route.tenant c.args.step c.told-answer.result) c.request.ensures c.told-answer.ensures.answer)
 
-pub returns-in-Err : goal.returns-in-Err
-returns-in-Err g c = uncalled c.args.number c.args.step c.in-Err.refusal _ c.in-Err.ensures c.refused.ensures
+pub returns-clause-made : goal.returns-clause-made
+returns-clause-made g c = made_of g.C.Key.TenantKey.number_of g.C.Key.TenantKey.name_of g.C.TenantCalls.gives c.request.result.now c.args.unserved.request.value c.args.step c.told-answer.result c.answered.result.answer _ _ c.request.ensures c.answered.ensures.answer c.told-answer.ensures.made

@@ -7,4 +7,4 @@ pub returns-in_default : goal.returns-in_default
 returns-in_default g c = begun_without_memory c.args.route c.args.body.bytes.items _ c.no_memory.ensures
 
 pub returns-in-Some : goal.returns-in-Some
-returns-in-Some g c = subst (λ request. IsAnswerOf request c.in-Some.answer) c.in-Ok.ensures.ok c.in-Some.ensures.answered
+returns-in-Some g c = subst (λ request. IsAnswerOf request c.in-Some.answer) c.in-Ok.ensures.asked c.in-Some.ensures.answered
