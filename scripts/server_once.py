@@ -113,7 +113,7 @@ def calls_beyond_the_queue_are_each_made(program):
             puts = [{"request_put": {"key": text(b"%05d" % number), "value": "dg=="}} for number in range(front, front + 100)]
             told(client, "kv/txn", {"success": puts})
         look = json.loads("{" + ALL + ',"sort_target":"VALUE","sort_order":"DESCEND","limit":"1"}')
-        slow = request(path(TENANT, "kv/txn"), txn([{"request_range": look}] * 20))
+        slow = request(path(TENANT, "kv/txn"), txn([{"request_range": look}] * 30))
         same = request(path(TENANT, "kv/txn"), txn([{"request_put": {"key": text(b"k"), "value": "dg=="}}]))
         clients = [server.connect() for _ in range(BUSY + BEYOND)]
         try:
