@@ -1,6 +1,6 @@
 //! A request from when it is handed in to its answer.
 //!
-//! Each request is handed in once: what is handed in is made with the request and can't be copied, and its answer uses it up.
+//! What is handed in is made with the request and can't be copied, and its answer uses it up: so it is answered once.
 ghost use Rattle.std.specs.Prelude.{◌≡◌, IfOk, IfSome};
 ghost use Rattle.tenant_scheduler.specs.Requests.{IsAnswerOf};
 
