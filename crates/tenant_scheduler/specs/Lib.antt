@@ -1,5 +1,6 @@
 pub mod Begins
 pub mod Makes
 pub mod Outcomes
+pub mod OwnSteps
 pub mod Requests
 pub mod Watches

@@ -5,13 +5,13 @@ use Rattle.etcd_types.specs.declared.refusal.Refusal.{Refusal}
 use Rattle.etcd_types.specs.declared.refusal.Refusal.TheVariants.{Memory}
 use Rattle.etcd_model.specs.Calls.{read_step}
 use Rattle.fair_turns.specs.declared.answer.Answer.{Answer}
-use Rattle.fair_turns.specs.Answers.{Answers, Refuses}
-use Rattle.tenant_calls.specs.Answers.{IsUncalled}
+use Rattle.fair_turns.specs.Answers.{Answers}
 use Rattle.tenant_scheduler.specs.declared.request.Request.{Request}
 
 -- both are of one call on one tenant, and have the same body
 pub record AsksTheSame (one other : Request) : Type 0 where
-  pub route : one.route ≡ other.route
+  pub tenant : one.route.tenant.value.number ≡ other.route.tenant.value.number
+  pub call : one.route.call ≡ other.route.call
   pub body : one.body.bytes.items ≡ other.body.bytes.items
 
 -- its body is read as the step
@@ -28,10 +28,4 @@ IsUnread request r = r ≢ Memory → read_step request.route.call request.body.
 
 -- it may be answered so
 abbrev pub IsAnswerOf : {R : Type 0} → Request → Answer R → Type 0
-IsAnswerOf request answer = Answers request.route.tenant request.route.call request.body.bytes.items answer
-
--- the answer of a call that was not made: its tenant was removed, or there is no memory
-pub record IsUnmade {R : Type 0} (answer : Answer R) : Type 0 where
-  pub refusal : Refusal
-  pub why : IsUncalled refusal
-  pub told : Refuses refusal answer
+IsAnswerOf request answer = Answers request.route.tenant.value.number request.route.call request.body.bytes.items answer

@@ -5,19 +5,24 @@ ghost use Rattle.etcd_types.specs.declared.step.Step.TheVariants.{Take};
 ghost use Rattle.fair_turns.specs.Answers.{IsAnswer, Shows};
 ghost use Rattle.tenant_calls.specs.Answers.{IsTold, IsUncalled};
 ghost use Rattle.tenant_calls.specs.Counts.{IsNoMore};
-ghost use Rattle.tenant_scheduler.specs.Makes.{IsCounted, IsMade};
+ghost use Rattle.tenant_scheduler.specs.Makes.{IsCounted, IsMade, IsOnlyOn};
+ghost use Rattle.tenant_scheduler.specs.OwnSteps.{IsOwnMade, step_of};
 ghost use Rattle.tenant_scheduler.specs.Requests.{IsStepOf};
 ghost use Rattle.tenant_scheduler.specs.Watches.{IsListed};
 
+mod unserved;
+
 use crate::clients::{Clients, OpenWatch, key_of};
 use crate::inline_calls::is_brief;
-use crate::unserved::{JobAnswer, Unserved};
+use crate::request::NamedTenant;
 use etcd_types::{Refusal, Step};
 use fair_turns::{Answer, LONGEST_ROW, MadeText, Share, TextSender, WatchTexts, may_be_long};
 use std::alloc::Global;
 use std::rt::Clock;
 use std::sync::Wait;
 use tenant_calls::{CallReceipt, TenantCalls, TenantKey};
+pub use unserved::{Told, Unanswered};
+pub(crate) use unserved::{JobAnswer, Unserved};
 
 /// A step that a thread makes by itself, and not for a client.
 #[derive(Clone, Copy, Drop)]
@@ -33,7 +38,9 @@ pub(crate) enum OwnStep {
 }
 
 impl OwnStep {
-    fn step(self) -> Step {
+    fn step(self) -> Step
+        ensures { result ≡ step_of self }
+    {
         match self {
             OwnStep::Tick(moment) => Step::Tick(moment),
             OwnStep::CatchUp(budget) => Step::CatchUp(budget),
@@ -56,7 +63,12 @@ impl<R: Wait + Clock + Drop, C: TenantCalls> Caller<R, C> {
     }
 
     /// One step of this thread's own, of the tenant that has the key. Without a key there is no such tenant.
-    pub(crate) fn call(&mut self, key: &Option<C::Key>, step: OwnStep) -> Result<(), Refusal> {
+    pub(crate) fn call(&mut self, key: &Option<C::Key>, step: OwnStep) -> Result<(), Refusal>
+        ensures refused { IfErr result (λ r. IsUncalled r) }
+        ensures made { IfOk result (λ _. IsOwnMade C.Key.number_of C.Key.name_of C.gives key.now (step_of step)
+            (C.made self.old.calls) (C.made self.new.calls)) }
+        ensures unmade { IfErr result (λ _. IsNoMore (C.made self.old.calls) (C.made self.new.calls)) }
+    {
         match key {
             Some(key) => {
                 self.calls.call(&self.rt, key, step.step())?;
@@ -73,9 +85,13 @@ impl<R: Wait + Clock + Drop, C: TenantCalls> Caller<R, C> {
         number: u64,
         slot: u8,
     ) -> Result<CallReceipt, Refusal>
-        ensures { IfOk result (λ receipt. C.gives number (Take slot) receipt) }
+        ensures given { IfOk result (λ receipt. C.gives number (Take slot) receipt) }
+        ensures others { IsOnlyOn C.Key.name_of key.now (C.made self.old.calls) (C.made self.new.calls) }
     {
-        self.serve(key, number, Step::Take(slot))
+        match key_of(key, number) {
+            Some(key) => self.calls.call(&self.rt, key, Step::Take(slot)),
+            None => Err(Refusal::NoTenant),
+        }
     }
 
     /// Answers a request by its step, which opens nothing. It is refused before it is planned where its answer may be long and
@@ -89,11 +105,10 @@ impl<R: Wait + Clock + Drop, C: TenantCalls> Caller<R, C> {
     ) -> JobAnswer<R>
         requires { IsStepOf unserved.request.value step }
         ensures request { result.request ≡ unserved.request }
-        ensures made { IsMade C.Key.number_of C.Key.name_of C.gives unserved.request.value.route.tenant step
+        ensures made { IsMade C.Key.number_of C.Key.name_of C.gives unserved.request.value.route.tenant.value step
             result.answer (C.made self.old.calls) (C.made self.new.calls) }
     {
-        let number = unserved.request().route.tenant;
-        let answer = self.told(alloc, clients, number, step);
+        let answer = self.told(alloc, clients, unserved.request().tenant(), step);
         unserved.answered(answer)
     }
 
@@ -109,30 +124,31 @@ impl<R: Wait + Clock + Drop, C: TenantCalls> Caller<R, C> {
         requires step { IsStepOf unserved.request.value step }
         requires room { length clients.old.watches.items < vec_capacity clients.old.watches }
         ensures request { result.request ≡ unserved.request }
-        ensures made { IsMade C.Key.number_of C.Key.name_of C.gives unserved.request.value.route.tenant step
+        ensures made { IsMade C.Key.number_of C.Key.name_of C.gives unserved.request.value.route.tenant.value step
             result.answer (C.made self.old.calls) (C.made self.new.calls) }
     {
-        let number = unserved.request().route.tenant;
-        let answer = self.created(alloc, clients, number, step, ends);
+        let answer = self.created(alloc, clients, unserved.request().tenant(), step, ends);
         unserved.answered(answer)
     }
 
-    /// One step of a client, of the tenant of that number, if the key is to it.
+    /// One step of a client, of the tenant that it names, if the key is to it.
     fn serve(
         &mut self,
         key: &Option<C::Key>,
-        number: u64,
+        tenant: &NamedTenant,
         step: Step,
     ) -> Result<CallReceipt, Refusal>
-        ensures given { IfOk result (λ receipt. C.gives number step receipt) }
+        ensures given { IfOk result (λ receipt. C.gives tenant.now.number step receipt) }
         ensures refused { IfErr result (λ r. IsUncalled r) }
-        ensures made { IfOk result (λ _. IsCounted C.Key.number_of C.Key.name_of number
+        ensures made { IfOk result (λ _. IsCounted C.Key.number_of C.Key.name_of tenant.now
             (C.made self.old.calls) (C.made self.new.calls)) }
         ensures unmade { IfErr result (λ _. IsNoMore (C.made self.old.calls) (C.made self.new.calls)) }
     {
-        match key_of(key, number) {
-            Some(key) => self.calls.call(&self.rt, key, step),
-            None => Err(Refusal::NoTenant),
+        match key_of(key, tenant.number) {
+            Some(key) if key.name() == tenant.name.as_slice() => {
+                self.calls.call(&self.rt, key, step)
+            }
+            _ => Err(Refusal::NoTenant),
         }
     }
 
@@ -141,18 +157,18 @@ impl<R: Wait + Clock + Drop, C: TenantCalls> Caller<R, C> {
         &mut self,
         alloc: Global,
         clients: &Clients<R, C::Key>,
-        number: u64,
+        tenant: &NamedTenant,
         step: Step,
     ) -> Answer<R>
-        ensures answer { IsAnswer number step result }
-        ensures made { IsMade C.Key.number_of C.Key.name_of C.gives number step result
+        ensures answer { IsAnswer tenant.now.number step result }
+        ensures made { IsMade C.Key.number_of C.Key.name_of C.gives tenant.now step result
             (C.made self.old.calls) (C.made self.new.calls) }
     {
         if !may_be_long(&step) || (is_brief(&step) && clients.budget.left() >= LONGEST_ROW) {
-            return self.told_within(alloc, clients, number, step, None);
+            return self.told_within(alloc, clients, tenant, step, None);
         }
         match self.reserve(clients, &step) {
-            Ok(Some(share)) => self.told_within(alloc, clients, number, step, Some(share)),
+            Ok(Some(share)) => self.told_within(alloc, clients, tenant, step, Some(share)),
             Ok(None) => Answer::no_memory(),
             Err(refusal) => Answer::refused(alloc, refusal),
         }
@@ -162,15 +178,15 @@ impl<R: Wait + Clock + Drop, C: TenantCalls> Caller<R, C> {
         &mut self,
         alloc: Global,
         clients: &Clients<R, C::Key>,
-        number: u64,
+        tenant: &NamedTenant,
         step: Step,
         reserved: Option<Share>,
     ) -> Answer<R>
-        ensures answer { IsAnswer number step result }
-        ensures made { IsMade C.Key.number_of C.Key.name_of C.gives number step result
+        ensures answer { IsAnswer tenant.now.number step result }
+        ensures made { IsMade C.Key.number_of C.Key.name_of C.gives tenant.now step result
             (C.made self.old.calls) (C.made self.new.calls) }
     {
-        match self.serve(&clients.key, number, step) {
+        match self.serve(&clients.key, tenant, step) {
             Ok(receipt) => {
                 let (status, refusal) = (receipt.status, receipt.refusal);
                 let text = clients.budget.charge(reserved, receipt.into_body());
@@ -185,18 +201,18 @@ impl<R: Wait + Clock + Drop, C: TenantCalls> Caller<R, C> {
         &mut self,
         alloc: Global,
         clients: &mut Clients<R, C::Key>,
-        number: u64,
+        tenant: &NamedTenant,
         step: Step,
         ends: (TextSender, WatchTexts<R>),
     ) -> Answer<R>
         requires { length clients.old.watches.items < vec_capacity clients.old.watches }
-        ensures answer { IsAnswer number step result }
-        ensures made { IsMade C.Key.number_of C.Key.name_of C.gives number step result
+        ensures answer { IsAnswer tenant.now.number step result }
+        ensures made { IsMade C.Key.number_of C.Key.name_of C.gives tenant.now step result
             (C.made self.old.calls) (C.made self.new.calls) }
     {
         let (sender, texts) = ends;
-        match self.serve(&clients.key, number, step) {
-            Ok(receipt) => opened(clients, number, receipt, sender, texts),
+        match self.serve(&clients.key, tenant, step) {
+            Ok(receipt) => opened(clients, tenant.number, receipt, sender, texts),
             Err(refusal) => Answer::refused(alloc, refusal),
         }
     }

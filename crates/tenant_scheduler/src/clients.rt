@@ -1,14 +1,13 @@
 //! What the clients of a tenant have under way: jobs that wait, and open watches.
 ghost use Rattle.std.specs.Prelude.{◌≡◌, IfSome, Some};
+ghost use Rattle.tenant_calls.specs.Answers.{IsUncalled};
 ghost use Rattle.tenant_scheduler.specs.Requests.{IsReadAs, IsStepOf};
 
+use crate::caller::{JobAnswer, Unserved};
 use crate::clock::Running;
-use crate::unserved::{JobAnswer, Unserved};
 use auto_compaction::StandingOrder;
 use etcd_types::{Refusal, Step};
-use fair_turns::{
-    Answer, Budget, Scheduler, Stopwatch, TenantCounts, TenantTurns, TextSender, Work,
-};
+use fair_turns::{Budget, Scheduler, Stopwatch, TenantCounts, TenantTurns, TextSender, Work};
 use futures::channel::oneshot;
 use std::alloc::Global;
 use std::sync::{Arc, Wait};
@@ -25,6 +24,21 @@ pub(crate) struct Job<R: Wait + Drop> {
     pub(crate) waiting: Stopwatch,
     pub(crate) reply: oneshot::Sender<JobAnswer<R>>,
     pub(crate) ghost asked: { IsReadAs unserved.request.value step },
+}
+
+impl<R: Wait + Drop> Job<R> {
+    /// It is not served, since its tenant was removed or there is no memory.
+    pub(crate) fn refused(self, alloc: Global, refusal: Refusal) -> JobAnswer<R>
+        requires { IsUncalled refusal }
+    {
+        let Job {
+            unserved,
+            step: _,
+            waiting: _,
+            reply: _,
+        } = self;
+        unserved.refused(alloc, refusal)
+    }
 }
 
 /// A request whose step looks at one key at most.
@@ -102,9 +116,13 @@ pub(crate) fn key_of<K: TenantKey>(key: &Option<K>, number: u64) -> Option<&K>
 }
 
 /// Answers a job that is not served, since its tenant was removed.
-#[tactic(auto, using(crate::proofs::RequestLemmas::gone))]
 fn end<R: Wait + Drop>(alloc: Global, job: Job<R>) {
-    let answer = Answer::refused(alloc, Refusal::NoTenant);
+    let Job {
+        unserved,
+        step: _,
+        waiting: _,
+        reply,
+    } = job;
     // Whether its client is still there is all one.
-    drop(job.reply.send(job.unserved.answered(answer)));
+    drop(reply.send(unserved.refused(alloc, Refusal::NoTenant)));
 }

@@ -7,11 +7,10 @@ ghost use Rattle.futures.specs.Task.{IsArmed, Keeps};
 ghost use Rattle.futures.specs.Poll.{OnPending};
 ghost use Rattle.tenant_scheduler.specs.Outcomes.{IsOutcome};
 
-use crate::caller::Caller;
+use crate::caller::{Caller, JobAnswer};
 use crate::clients::{BriefRequest, Clients};
 use crate::serving::ServingThread;
 use crate::tenants::ServedTenant;
-use crate::unserved::JobAnswer;
 use crate::worker::may_give;
 use etcd_types::Step;
 use fair_turns::{Scheduler, Stopwatch, Work};
@@ -135,13 +134,14 @@ impl<R: Wait + Clock + Copy + Drop, C: TenantCalls> InlineCalls<R, C> {
             caller,
             shared,
         } = &mut self.thread;
-        let route = brief.unserved.request().route;
-        let outcome = match shared.tenants().numbered(rt, self.shard, route.tenant) {
+        let request = brief.unserved.request();
+        let (number, call) = (request.tenant().number, request.route.call);
+        let outcome = match shared.tenants().numbered(rt, self.shard, number) {
             Some(tenant) if Scheduler::try_begin(tenant.turns()) => {
                 let stopwatch = Stopwatch::start(rt);
                 let mut clients = tenant.clients.lock(rt);
                 let outcome = answer(self.alloc, caller, &mut *clients, brief);
-                if may_give(route.call) {
+                if may_give(call) {
                     clients.schedule_takes(rt, &shared.scheduler, tenant.turns());
                 }
                 drop(clients);

@@ -1,13 +1,13 @@
 //! Where calls go in: to the event loop that has read them, or into their tenant's queue.
-ghost use Rattle.std.specs.Prelude.{IfErr};
+ghost use Rattle.std.specs.Prelude.{◌≡◌, IfSome};
 ghost use Rattle.fair_turns.specs.Answers.{Refuses};
-ghost use Rattle.tenant_calls.specs.Answers.{IsUncalled};
 ghost use Rattle.tokio.specs.Channels.{CanReserve};
 
+use crate::caller::{JobAnswer, Told, Unanswered};
 use crate::clients::Job;
 use crate::entrances::{Entrance, Entrances};
 use crate::inline_calls::InlineCall;
-use crate::request::Route;
+use crate::request::{NamedTenant, Route};
 use etcd_types::{Mem, Refusal};
 use fair_turns::{Answer, BodyShare, SHORT, Work};
 use std::alloc::Global;
@@ -26,13 +26,15 @@ pub(crate) struct HeldBack<R: Wait + Drop> {
 }
 
 impl<R: Wait + Drop> HeldBack<R> {
-    /// A job whose queue is full. None where there is no memory.
-    fn of(queue: &mpsc::Sender<Job<R>>, job: Job<R>) -> Option<HeldBack<R>> {
-        let queue = queue.clone().ok()?;
-        Some(HeldBack {
-            room: queue.reserve_owned(),
-            job,
-        })
+    /// A job whose queue is full; the job without memory.
+    fn of(queue: &mpsc::Sender<Job<R>>, job: Job<R>) -> Result<HeldBack<R>, Job<R>> {
+        match queue.clone() {
+            Ok(queue) => Ok(HeldBack {
+                room: queue.reserve_owned(),
+                job,
+            }),
+            Err(_) => Err(job),
+        }
     }
 }
 
@@ -76,18 +78,20 @@ impl<R: Wait + Drop> Jobs<R> {
         }
     }
 
-    /// The number of the tenant of that name.
-    pub fn tenant(&self, rt: &R, name: &[u8]) -> Option<u64> {
-        self.entrances.number_of(rt, self.shard(), name)
+    /// The tenant of that name.
+    pub fn tenant(&self, rt: &R, name: &[u8]) -> Option<Arc<NamedTenant>>
+        ensures { IfSome result (λ tenant. tenant.value.name.items ≡ name.now) }
+    {
+        self.entrances.named(rt, self.shard(), name)
     }
 
-    /// The entrance of the tenant of that number, unless it was removed.
-    fn entrance(&self, rt: &R, tenant: u64) -> Option<Arc<Entrance<R>>> {
-        self.entrances.numbered(rt, self.shard(), tenant)
+    /// The entrance of a tenant, unless it was removed.
+    fn entrance(&self, rt: &R, tenant: &NamedTenant) -> Option<Arc<Entrance<R>>> {
+        self.entrances.numbered(rt, self.shard(), tenant.number)
     }
 
     /// The share of a tenant's budget for a body of so many bytes at the most.
-    pub fn body_share(&self, rt: &R, tenant: u64, bytes: usize) -> BodyShare {
+    pub fn body_share(&self, rt: &R, tenant: &NamedTenant, bytes: usize) -> BodyShare {
         if bytes <= SHORT {
             return BodyShare::None;
         }
@@ -102,11 +106,14 @@ impl<R: Wait + Drop> Jobs<R> {
 
     /// Leaves a job in its tenant's queue, and has a worker serve it; where the queue is full, the job that waits for room.
     /// It is refused if the tenant was removed, and else only for want of memory.
-    pub(crate) fn offer(&self, rt: &R, job: Job<R>) -> Result<Option<HeldBack<R>>, Refusal>
-        ensures { IfErr result (λ r. IsUncalled r) }
-    {
-        let Some(entrance) = self.entrance(rt, job.unserved.request().route.tenant) else {
-            return Err(Refusal::NoTenant);
+    pub(crate) fn offer(
+        &self,
+        rt: &R,
+        alloc: Global,
+        job: Job<R>,
+    ) -> Result<Option<HeldBack<R>>, JobAnswer<R>> {
+        let Some(entrance) = self.entrance(rt, job.unserved.request().tenant()) else {
+            return Err(job.refused(alloc, Refusal::NoTenant));
         };
         match entrance.queue.try_send(job) {
             Ok(()) => {
@@ -114,37 +121,43 @@ impl<R: Wait + Drop> Jobs<R> {
                 Ok(None)
             }
             Err(TrySendError::Full(job)) => match HeldBack::of(&entrance.queue, job) {
-                Some(held) => Ok(Some(held)),
-                None => Err(Refusal::Memory),
+                Ok(held) => Ok(Some(held)),
+                Err(job) => Err(job.refused(alloc, Refusal::Memory)),
             },
-            Err(TrySendError::Closed(_)) => Err(Refusal::NoTenant),
-            Err(TrySendError::OutOfMemory(_)) => Err(Refusal::Memory),
+            Err(TrySendError::Closed(job)) => Err(job.refused(alloc, Refusal::NoTenant)),
+            Err(TrySendError::OutOfMemory(job)) => Err(job.refused(alloc, Refusal::Memory)),
         }
     }
 
     /// Has a worker serve a tenant that has jobs.
-    pub(crate) fn schedule(&self, rt: &R, tenant: u64) {
+    pub(crate) fn schedule(&self, rt: &R, tenant: &NamedTenant) {
         if let Some(entrance) = self.entrance(rt, tenant) {
             self.entrances.schedule(rt, &entrance, Work::Jobs);
         }
     }
 
-    /// The answer of a call that is refused before it goes in, by a body of so many bytes; the call is counted.
+    /// What a call is told that is refused before it goes in, by a body of so many bytes; the call is counted.
     pub fn refused(
         &self,
         rt: &R,
         alloc: Global,
-        route: Route,
+        unanswered: Unanswered,
+        route: &Route,
         length: usize,
         refusal: Refusal,
-    ) -> Answer<R>
-        ensures { Refuses refusal result }
+    ) -> Told<R>
+        ensures { Refuses refusal result.answer }
     {
-        let answer = Answer::refused(alloc, refusal);
-        if let Some(entrance) = self.entrance(rt, route.tenant) {
-            entrance.counts.add(route.call, length, &answer);
+        let told = unanswered.refused(alloc, refusal);
+        self.count(rt, route, length, told.answer());
+        told
+    }
+
+    /// Counts a call by a body of so many bytes.
+    pub(crate) fn count(&self, rt: &R, route: &Route, length: usize, answer: &Answer<R>) {
+        if let Some(entrance) = self.entrance(rt, &*route.tenant) {
+            entrance.counts.add(route.call, length, answer);
         }
-        answer
     }
 
     /// Hands a brief call to the event loop of its connection, or gives it back where there is none.

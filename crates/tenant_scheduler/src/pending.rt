@@ -1,18 +1,17 @@
 //! A call from where its body was read to its answer.
-ghost use Rattle.std.specs.Prelude.{◌≡◌, IfErr, IfSome};
+ghost use Rattle.std.specs.Prelude.{◌≡◌, IfSome};
 ghost use Rattle.futures.specs.Task.{IsArmed, Keeps};
 ghost use Rattle.futures.specs.Poll.{IfReady, OnPending};
-ghost use Rattle.tenant_calls.specs.Answers.{IsUncalled};
 ghost use Rattle.tenant_scheduler.specs.Begins.{IsBegun};
-ghost use Rattle.tenant_scheduler.specs.Requests.{IsAnswerOf, IsReadAs, IsUnmade};
+ghost use Rattle.tenant_scheduler.specs.Requests.{IsAnswerOf, IsReadAs};
 
+use crate::caller::{JobAnswer, Told, Unanswered, Unserved};
 use crate::clients::{BriefRequest, Job};
 use crate::inline_calls::{InlineCall, InlineOutcome, is_brief};
 use crate::jobs::{HeldBack, Jobs};
 use crate::request::{Request, RequestBody, Route};
-use crate::unserved::{JobAnswer, Unserved};
 use etcd_types::{Refusal, Step};
-use fair_turns::{Answer, SHORT, Stopwatch};
+use fair_turns::{SHORT, Stopwatch};
 use futures::channel::oneshot;
 use futures::task::{Context, Poll};
 use futures::{Future, ready};
@@ -22,11 +21,11 @@ use std::rt::Clock;
 use std::sync::{Arc, Wait};
 use tokio::sync::mpsc::error::SendError;
 
-/// A call that was begun, or its answer where nothing is left to wait for.
+/// A call that was begun, or what it is told where nothing is left to wait for.
 #[derive(Drop)]
 pub enum Begun<R: Wait + Drop> {
     Pending(PendingCall<R>),
-    Answered(Answer<R>),
+    Answered(Told<R>),
 }
 
 /// A call that waits for its answer.
@@ -65,10 +64,13 @@ struct Queueing<R: Wait + Drop> {
 }
 
 impl<R: Wait + Drop> Queueing<R> {
-    /// Leaves the job in the queue once there is room: the stage that follows; or why there is none, since the tenant was
-    /// removed, or for want of memory.
-    fn poll_left(self, cx: &mut Context<'_>) -> (Stage<R>, Poll<Result<(), Refusal>>)
-        ensures refused { IfReady result.1 (λ left. IfErr left (λ r. IsUncalled r)) }
+    /// Leaves the job in the queue once there is room: the stage that follows; with the answer where there is none, since
+    /// the tenant was removed, or for want of memory.
+    fn poll_left(
+        self,
+        alloc: Global,
+        cx: &mut Context<'_>,
+    ) -> (Stage<R>, Poll<Option<JobAnswer<R>>>)
         ensures registered { OnPending result.1 (IsArmed cx.new) }
         ensures kept { Keeps cx.old cx.new }
     {
@@ -81,13 +83,15 @@ impl<R: Wait + Drop> Queueing<R> {
             }
             Poll::Ready(Ok(permit)) => {
                 drop(permit.send(job));
-                (Stage::Waiting(answer), Poll::Ready(Ok(())))
+                (Stage::Waiting(answer), Poll::Ready(None))
             }
             Poll::Ready(Err(SendError::Closed(()))) => {
-                (Stage::Over, Poll::Ready(Err(Refusal::NoTenant)))
+                let told = job.refused(alloc, Refusal::NoTenant);
+                (Stage::Over, Poll::Ready(Some(told)))
             }
             Poll::Ready(Err(SendError::OutOfMemory(()))) => {
-                (Stage::Over, Poll::Ready(Err(Refusal::Memory)))
+                let told = job.refused(alloc, Refusal::Memory);
+                (Stage::Over, Poll::Ready(Some(told)))
             }
         }
     }
@@ -95,11 +99,21 @@ impl<R: Wait + Drop> Queueing<R> {
 
 impl<R: Wait + Clock + Copy + Drop> PendingCall<R> {
     /// Begins a call by the body that was read: hands it to the event loop, leaves it in its tenant's queue, or refuses it.
-    pub fn begin(rt: R, alloc: Global, jobs: &Jobs<R>, route: Route, body: RequestBody) -> Begun<R>
+    pub fn begin(
+        rt: R,
+        alloc: Global,
+        jobs: &Jobs<R>,
+        unanswered: Unanswered,
+        route: Route,
+        body: RequestBody,
+    ) -> Begun<R>
         ensures { IsBegun result route body.bytes.items }
     {
-        let Ok((request, unserved)) = Unserved::new(alloc, route, body) else {
-            return Begun::Answered(Answer::no_memory());
+        let (request, unserved) = match Unserved::new(alloc, unanswered, route, body) {
+            Ok(shared) => shared,
+            Err(unanswered) => {
+                return Begun::Answered(unanswered.refused(alloc, Refusal::Memory));
+            }
         };
         let mut pending = PendingCall {
             rt,
@@ -107,17 +121,19 @@ impl<R: Wait + Clock + Copy + Drop> PendingCall<R> {
             request,
             stage: Stage::Over,
         };
-        match pending.ask(jobs, unserved) {
-            Some(answer) => Begun::Answered(answer),
+        let Some(answer) = pending.ask(jobs, unserved) else {
+            return Begun::Pending(pending);
+        };
+        match answer.of(&*pending.request) {
+            Some(told) => Begun::Answered(told),
             None => Begun::Pending(pending),
         }
     }
 
     /// Reads the step of a short body, and hands the call on; its answer, if there is one already.
-    fn ask(&mut self, jobs: &Jobs<R>, unserved: Unserved) -> Option<Answer<R>>
+    fn ask(&mut self, jobs: &Jobs<R>, unserved: Unserved) -> Option<JobAnswer<R>>
         requires { unserved.request.value ≡ self.old.request.value }
-        ensures answered { IfSome result (λ answer. IsAnswerOf self.old.request.value answer) }
-        ensures request { self.new.request ≡ self.old.request }
+        ensures { self.new.request ≡ self.old.request }
     {
         if self.request.len() > SHORT {
             return self.queue(jobs, unserved, None);
@@ -126,20 +142,22 @@ impl<R: Wait + Clock + Copy + Drop> PendingCall<R> {
             Ok(step) if is_brief(&step) => self.hand(jobs, BriefRequest { unserved, step }),
             Ok(step) => self.queue(jobs, unserved, Some(step)),
             Err(refusal) => {
-                let (route, length) = (self.request.route, self.request.len());
-                Some(jobs.refused(&self.rt, self.alloc, route, length, refusal))
+                let answer = unserved.unread(self.alloc, refusal);
+                let length = self.request.len();
+                jobs.count(&self.rt, &self.request.route, length, answer.answer());
+                Some(answer)
             }
         }
     }
 
     /// Hands a brief request to the event loop, or leaves it in its tenant's queue where there is no loop; the answer where
     /// neither can be.
-    fn hand(&mut self, jobs: &Jobs<R>, brief: BriefRequest) -> Option<Answer<R>>
-        ensures answered { IfSome result (λ answer. IsUnmade answer) }
-        ensures request { self.new.request ≡ self.old.request }
+    fn hand(&mut self, jobs: &Jobs<R>, brief: BriefRequest) -> Option<JobAnswer<R>>
+        ensures { self.new.request ≡ self.old.request }
     {
         let Ok((reply, outcome)) = oneshot::channel(self.alloc) else {
-            return self.refused(Refusal::Memory);
+            let BriefRequest { unserved, step: _ } = brief;
+            return Some(unserved.refused(self.alloc, Refusal::Memory));
         };
         match jobs.hand(InlineCall { brief, reply }) {
             Ok(()) => {
@@ -151,41 +169,25 @@ impl<R: Wait + Clock + Copy + Drop> PendingCall<R> {
     }
 
     /// Leaves a brief request in its tenant's queue; the answer where that can't be.
-    fn leave(&mut self, jobs: &Jobs<R>, brief: BriefRequest) -> Option<Answer<R>>
-        ensures answered { IfSome result (λ answer. IsUnmade answer) }
-        ensures request { self.new.request ≡ self.old.request }
+    fn leave(&mut self, jobs: &Jobs<R>, brief: BriefRequest) -> Option<JobAnswer<R>>
+        ensures { self.new.request ≡ self.old.request }
     {
         let BriefRequest { unserved, step } = brief;
         self.queue(jobs, unserved, Some(step))
     }
 
     /// Leaves a request in its tenant's queue, or waits for room there; the answer where neither can be.
-    fn queue(&mut self, jobs: &Jobs<R>, unserved: Unserved, step: Option<Step>) -> Option<Answer<R>>
-        requires { IsReadAs unserved.request.value step }
-        ensures answered { IfSome result (λ answer. IsUnmade answer) }
-        ensures request { self.new.request ≡ self.old.request }
-    {
-        match self.queued(jobs, unserved, step) {
-            Ok(stage) => {
-                self.stage = stage;
-                None
-            }
-            Err(refusal) => self.refused(refusal),
-        }
-    }
-
-    /// The stage of a request that was left in its tenant's queue, or waits for room there.
-    fn queued(
-        &self,
+    fn queue(
+        &mut self,
         jobs: &Jobs<R>,
         unserved: Unserved,
         step: Option<Step>,
-    ) -> Result<Stage<R>, Refusal>
+    ) -> Option<JobAnswer<R>>
         requires { IsReadAs unserved.request.value step }
-        ensures { IfErr result (λ r. IsUncalled r) }
+        ensures { self.new.request ≡ self.old.request }
     {
         let Ok((reply, answer)) = oneshot::channel(self.alloc) else {
-            return Err(Refusal::Memory);
+            return Some(unserved.refused(self.alloc, Refusal::Memory));
         };
         let job = Job {
             unserved,
@@ -193,26 +195,30 @@ impl<R: Wait + Clock + Copy + Drop> PendingCall<R> {
             waiting: Stopwatch::start(&self.rt),
             reply,
         };
-        match jobs.offer(&self.rt, job)? {
-            None => Ok(Stage::Waiting(answer)),
-            Some(held) => Ok(Stage::Queueing(Queueing { held, answer })),
+        match jobs.offer(&self.rt, self.alloc, job) {
+            Ok(None) => self.stage = Stage::Waiting(answer),
+            Ok(Some(held)) => self.stage = Stage::Queueing(Queueing { held, answer }),
+            Err(refused) => return Some(refused),
+        }
+        None
+    }
+
+    /// What this very request is told; none where the server ended before the call was served.
+    pub fn poll_answer(&mut self, jobs: &Jobs<R>, cx: &mut Context<'_>) -> Poll<Option<Told<R>>>
+        ensures answered { IfReady result (λ told. IfSome told (λ told.
+            ∥ IsAnswerOf self.old.request.value told.answer ∥₁)) }
+        ensures request { self.new.request ≡ self.old.request }
+        ensures registered { OnPending result (IsArmed cx.new) }
+        ensures kept { Keeps cx.old cx.new }
+    {
+        match ready!(self.poll_served(jobs, cx)) {
+            Some(answer) => Poll::Ready(answer.of(&*self.request)),
+            None => Poll::Ready(None),
         }
     }
 
-    /// The answer of a call that is not made.
-    #[tactic(auto, using(crate::proofs::RequestLemmas::is_unmade))]
-    fn refused(&self, refusal: Refusal) -> Option<Answer<R>>
-        requires { IsUncalled refusal }
-        ensures { IfSome result (λ answer. IsUnmade answer) }
-    {
-        Some(Answer::refused(self.alloc, refusal))
-    }
-
-    /// The answer, which is that of this very request; none where the server ended before the call was served.
-    #[tactic(auto, using(crate::proofs::RequestLemmas::unmade_told))]
-    pub fn poll_answer(&mut self, jobs: &Jobs<R>, cx: &mut Context<'_>) -> Poll<Option<Answer<R>>>
-        ensures answered { IfReady result (λ told. IfSome told (λ answer.
-            ∥ IsAnswerOf self.old.request.value answer ∥₁)) }
+    /// The answer of the request that was handed in.
+    fn poll_served(&mut self, jobs: &Jobs<R>, cx: &mut Context<'_>) -> Poll<Option<JobAnswer<R>>>
         ensures request { self.new.request ≡ self.old.request }
         ensures registered { OnPending result (IsArmed cx.new) }
         ensures kept { Keeps cx.old cx.new }
@@ -229,15 +235,13 @@ impl<R: Wait + Clock + Copy + Drop> PendingCall<R> {
             return Poll::Ready(None);
         };
         match ready!(answer.poll(cx)) {
-            Ok(told) => Poll::Ready(told.of(&*self.request)),
+            Ok(answer) => Poll::Ready(Some(answer)),
             Err(_) => Poll::Ready(None),
         }
     }
 
     /// The answer of a call that the event loop has served, if it did. One whose tenant is busy is left in its tenant's queue.
-    fn poll_inline(&mut self, jobs: &Jobs<R>, cx: &mut Context<'_>) -> Poll<Option<Answer<R>>>
-        ensures answered { IfReady result (λ told. IfSome told (λ answer.
-            ∥ IsAnswerOf self.old.request.value answer ∥₁)) }
+    fn poll_inline(&mut self, jobs: &Jobs<R>, cx: &mut Context<'_>) -> Poll<Option<JobAnswer<R>>>
         ensures request { self.new.request ≡ self.old.request }
         ensures registered { OnPending result (IsArmed cx.new) }
         ensures kept { Keeps cx.old cx.new }
@@ -246,7 +250,7 @@ impl<R: Wait + Clock + Copy + Drop> PendingCall<R> {
             return Poll::Ready(None);
         };
         match ready!(outcome.poll(cx)) {
-            Ok(InlineOutcome::Answered(told)) => Poll::Ready(told.of(&*self.request)),
+            Ok(InlineOutcome::Answered(answer)) => Poll::Ready(Some(answer)),
             Ok(InlineOutcome::Busy(brief)) => Poll::Ready(self.leave(jobs, brief)),
             // The loop ended for want of memory.
             Err(_) => Poll::Ready(None),
@@ -254,9 +258,7 @@ impl<R: Wait + Clock + Copy + Drop> PendingCall<R> {
     }
 
     /// Leaves the request in the queue once there is room; the answer where it can't be.
-    fn poll_room(&mut self, jobs: &Jobs<R>, cx: &mut Context<'_>) -> Poll<Option<Answer<R>>>
-        ensures answered { IfReady result (λ told. IfSome told (λ answer.
-            IsUnmade answer)) }
+    fn poll_room(&mut self, jobs: &Jobs<R>, cx: &mut Context<'_>) -> Poll<Option<JobAnswer<R>>>
         ensures request { self.new.request ≡ self.old.request }
         ensures registered { OnPending result (IsArmed cx.new) }
         ensures kept { Keeps cx.old cx.new }
@@ -264,14 +266,12 @@ impl<R: Wait + Clock + Copy + Drop> PendingCall<R> {
         let Stage::Queueing(queueing) = mem::replace(&mut self.stage, Stage::Over) else {
             return Poll::Ready(None);
         };
-        let (stage, left) = queueing.poll_left(cx);
+        let (stage, left) = queueing.poll_left(self.alloc, cx);
         self.stage = stage;
-        Poll::Ready(match ready!(left) {
-            Ok(()) => {
-                jobs.schedule(&self.rt, self.request.route.tenant);
-                None
-            }
-            Err(refusal) => self.refused(refusal),
-        })
+        let refused = ready!(left);
+        if refused.is_none() {
+            jobs.schedule(&self.rt, self.request.tenant());
+        }
+        Poll::Ready(refused)
     }
 }

@@ -1,4 +1,7 @@
 //! The pump: from a tenant's watches to their clients.
+ghost use Rattle.std.specs.Prelude.{◌≡◌};
+ghost use Rattle.tenant_scheduler.specs.Makes.{IsOnlyOn};
+
 use crate::caller::{Caller, OwnStep};
 use crate::clients::{Clients, OpenWatch};
 use crate::serving::ServingThread;
@@ -138,7 +141,9 @@ fn take_hinted<R: Wait + Clock + Drop, C: TenantCalls>(
 pub(crate) fn take_all<R: Wait + Clock + Drop, C: TenantCalls>(
     caller: &mut Caller<R, C>,
     clients: &mut Clients<R, C::Key>,
-) -> bool {
+) -> bool
+    ensures { IsOnlyOn C.Key.name_of clients.old.key (C.made caller.old.calls) (C.made caller.new.calls) }
+{
     if clients.watches.is_empty() {
         return true;
     }
@@ -161,7 +166,10 @@ fn take_at<R: Wait + Clock + Drop, C: TenantCalls>(
     at: &mut usize,
     hint: &C::Hint,
     meant: Meant,
-) -> bool {
+) -> bool
+    ensures key { clients.new.key ≡ clients.old.key }
+    ensures others { IsOnlyOn C.Key.name_of clients.old.key (C.made caller.old.calls) (C.made caller.new.calls) }
+{
     let Some(watch) = clients.watches.get(*at) else {
         return true;
     };
@@ -225,7 +233,9 @@ fn take<R: Wait + Clock + Drop, C: TenantCalls>(
     budget: &Budget,
     counts: &TenantCounts,
     watch: &OpenWatch,
-) -> TakeOutcome {
+) -> TakeOutcome
+    ensures { IsOnlyOn C.Key.name_of key.now (C.made caller.old.calls) (C.made caller.new.calls) }
+{
     let permit = match watch.texts.permit() {
         Ok(permit) => permit,
         Err(NoRoom::Unread) => return TakeOutcome::Open,

@@ -3,15 +3,14 @@ ghost use Rattle.std.specs.Prelude.{◌≡◌, IfErr, IfOk};
 ghost use Rattle.tenant_scheduler.specs.Makes.{IsMade, IsMadeAfterTakes, IsRequestMade};
 ghost use Rattle.tenant_scheduler.specs.Requests.{IsReadAs, IsStepOf, IsUnread};
 
-use crate::caller::Caller;
+use crate::caller::{Caller, JobAnswer, Unserved};
 use crate::clients::{Clients, Job};
 use crate::pump::{serve_takes, take_all};
 use crate::request::Request;
 use crate::serving::ServingThread;
 use crate::tenants::ServedTenant;
-use crate::unserved::{JobAnswer, Unserved};
 use etcd_types::{Call, Refusal, Step};
-use fair_turns::{Answer, SMALL_TREE, Scheduler, Stopwatch, TextSender, Work, tree_weight};
+use fair_turns::{SMALL_TREE, Scheduler, Stopwatch, TextSender, Work, tree_weight};
 use std::alloc::Global;
 use std::rt::Clock;
 use std::sync::{Arc, Wait};
@@ -159,12 +158,12 @@ impl<R: Wait + Clock + Copy + Drop, C: TenantCalls> WorkerTurn<'_, '_, R, C> {
     ) -> JobAnswer<R>
         requires { IsReadAs unserved.request.value step }
         ensures request { result.request ≡ unserved.request }
-        ensures made { IsRequestMade C.Key.number_of C.Key.name_of C.gives unserved.request.value result.answer
+        ensures made { IsRequestMade C.Key.number_of C.Key.name_of C.gives clients.old.key unserved.request.value result.answer
             (C.made caller.old.calls) (C.made caller.new.calls) }
     {
         match self.step_of(clients, unserved.request(), step) {
             Ok(step) => self.serve(caller, clients, unserved, step),
-            Err(refusal) => unserved.answered(Answer::refused(self.alloc, refusal)),
+            Err(refusal) => unserved.unread(self.alloc, refusal),
         }
     }
 
@@ -186,7 +185,6 @@ impl<R: Wait + Clock + Copy + Drop, C: TenantCalls> WorkerTurn<'_, '_, R, C> {
     }
 
     /// Answers a request by its step.
-    #[tactic(auto, using(crate::proofs::RequestLemmas::not_for_memory))]
     fn serve(
         &self,
         caller: &mut Caller<R, C>,
@@ -196,8 +194,8 @@ impl<R: Wait + Clock + Copy + Drop, C: TenantCalls> WorkerTurn<'_, '_, R, C> {
     ) -> JobAnswer<R>
         requires { IsStepOf unserved.request.value step }
         ensures request { result.request ≡ unserved.request }
-        ensures made { IsMadeAfterTakes C.Key.number_of C.Key.name_of C.gives unserved.request.value.route.tenant
-            step result.answer (C.made caller.old.calls) (C.made caller.new.calls) }
+        ensures made { IsMadeAfterTakes C.Key.number_of C.Key.name_of C.gives clients.old.key
+            unserved.request.value.route.tenant.value step result.answer (C.made caller.old.calls) (C.made caller.new.calls) }
     {
         match step {
             Step::Watch(_) => self.open(caller, clients, unserved, step),
@@ -205,7 +203,7 @@ impl<R: Wait + Clock + Copy + Drop, C: TenantCalls> WorkerTurn<'_, '_, R, C> {
                 // A watch with nothing to tell moves on by being taken; else it would be cancelled for what it
                 // has only not been asked about.
                 if !take_all(caller, clients) {
-                    return unserved.answered(Answer::no_memory());
+                    return unserved.refused(self.alloc, Refusal::Memory);
                 }
                 caller.answer(self.alloc, clients, unserved, step)
             }
@@ -232,7 +230,6 @@ impl<R: Wait + Clock + Copy + Drop, C: TenantCalls> WorkerTurn<'_, '_, R, C> {
     }
 
     /// Creates a watch that stays open. Its memory is taken before.
-    #[tactic(auto, using(crate::proofs::RequestLemmas::not_for_memory))]
     fn open(
         &self,
         caller: &mut Caller<R, C>,
@@ -242,14 +239,14 @@ impl<R: Wait + Clock + Copy + Drop, C: TenantCalls> WorkerTurn<'_, '_, R, C> {
     ) -> JobAnswer<R>
         requires { IsStepOf unserved.request.value step }
         ensures request { result.request ≡ unserved.request }
-        ensures made { IsMade C.Key.number_of C.Key.name_of C.gives unserved.request.value.route.tenant step
+        ensures made { IsMade C.Key.number_of C.Key.name_of C.gives unserved.request.value.route.tenant.value step
             result.answer (C.made caller.old.calls) (C.made caller.new.calls) }
     {
         if clients.watches.reserve(1).is_err() {
-            return unserved.answered(Answer::no_memory());
+            return unserved.refused(self.alloc, Refusal::Memory);
         }
         let Ok(ends) = TextSender::new(self.rt, self.alloc, self.tenant.turns()) else {
-            return unserved.answered(Answer::no_memory());
+            return unserved.refused(self.alloc, Refusal::Memory);
         };
         caller.open(self.alloc, clients, unserved, step, ends)
     }

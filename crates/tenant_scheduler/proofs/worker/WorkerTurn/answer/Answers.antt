@@ -1,8 +1,6 @@
-use Rattle.std.proofs.Common.{refl, sym, subst}
-use Rattle.fair_turns.specs.Answers.{Refuses}
+use Rattle.std.proofs.Common.{refl, subst}
 use Rattle.tenant_scheduler.specs.Makes.{Read, Unread}
 use Rattle.tenant_scheduler.specs.Requests.{IsStepOf, IsUnread}
-use Rattle.tenant_scheduler.proofs.RequestLemmas.{unread_told}
 use Rattle.tenant_scheduler.proofs.worker.WorkerTurn.answer.Goals as goal
 
 pub serve-requires : goal.serve-requires
@@ -11,8 +9,8 @@ serve-requires g c = subst (λ r. IsStepOf r c.in-Ok.step) c.request.ensures c.i
 pub returns-in-Ok-clause-made : goal.returns-in-Ok-clause-made
 returns-in-Ok-clause-made g c = Read c.in-Ok.step (subst (λ r. IsStepOf r c.in-Ok.step) c.request.ensures c.in-Ok.ensures.step) c.serve.ensures.made
 
-pub answered-requires : goal.answered-requires
-answered-requires g c = unread_told c.args.unserved.request.value c.in-Err.refusal _ (subst (λ r. IsUnread r c.in-Err.refusal) c.request.ensures c.in-Err.ensures.refused) c.refused.ensures
+pub unread-requires : goal.unread-requires
+unread-requires g c = subst (λ r. IsUnread r c.in-Err.refusal) c.request.ensures c.in-Err.ensures.refused
 
 pub returns-in-Err-clause-made : goal.returns-in-Err-clause-made
-returns-in-Err-clause-made g c = Unread c.in-Err.refusal (λ name. refl) (subst (λ r. IsUnread r c.in-Err.refusal) c.request.ensures c.in-Err.ensures.refused) (subst (λ a. Refuses c.in-Err.refusal a) (sym c.answered.ensures.answer) c.refused.ensures)
+returns-in-Err-clause-made g c = Unread c.in-Err.refusal (λ name. refl) (subst (λ r. IsUnread r c.in-Err.refusal) c.request.ensures c.in-Err.ensures.refused) c.unread.ensures.answer
