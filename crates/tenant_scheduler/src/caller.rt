@@ -1,7 +1,7 @@
 //! A thread's way to the tenants.
 ghost use Rattle.std.specs.Prelude.{◌≡◌, ◌<◌, length, vec_capacity, IfErr, IfOk};
 ghost use Rattle.etcd_types.specs.declared.step.Step.{Step};
-ghost use Rattle.etcd_types.specs.declared.step.Step.TheVariants.{Take};
+ghost use Rattle.etcd_types.specs.declared.step.Step.TheVariants.{DropWatch, Take};
 ghost use Rattle.fair_turns.specs.Answers.{IsAnswer, Shows};
 ghost use Rattle.tenant_calls.specs.Answers.{IsTold, IsUncalled};
 ghost use Rattle.tenant_calls.specs.Counts.{IsNoMore};
@@ -13,6 +13,7 @@ ghost use Rattle.tenant_scheduler.specs.Watches.{IsListed};
 mod unserved;
 
 use crate::clients::{Clients, OpenWatch, key_of};
+use crate::clock::Moment;
 use crate::inline_calls::is_brief;
 use crate::request::NamedTenant;
 use etcd_types::{Refusal, Step};
@@ -28,13 +29,11 @@ pub(crate) use unserved::{JobAnswer, Unserved};
 #[derive(Clone, Copy, Drop)]
 pub(crate) enum OwnStep {
     /// The tenant's clock comes to this second.
-    Tick(u64),
+    Tick(Moment),
     /// Watches that are behind catch up over so many changes.
     CatchUp(u32),
     /// A standing order drops the history before this revision.
     Compact(i64),
-    /// The client of the watch in this slot has gone.
-    DropWatch(u8),
 }
 
 impl OwnStep {
@@ -42,10 +41,9 @@ impl OwnStep {
         ensures { result ≡ step_of self }
     {
         match self {
-            OwnStep::Tick(moment) => Step::Tick(moment),
+            OwnStep::Tick(moment) => Step::Tick(moment.seconds()),
             OwnStep::CatchUp(budget) => Step::CatchUp(budget),
             OwnStep::Compact(revision) => Step::Compact(revision),
-            OwnStep::DropWatch(slot) => Step::DropWatch(slot),
         }
     }
 }
@@ -75,6 +73,26 @@ impl<R: Wait + Clock + Drop, C: TenantCalls> Caller<R, C> {
                 Ok(())
             }
             None => Err(Refusal::NoTenant),
+        }
+    }
+
+    /// The client of a watch has gone: its slot is freed, if the key is to its tenant. Where that is refused, it stays.
+    pub(crate) fn end_watch(
+        &mut self,
+        key: &Option<C::Key>,
+        watch: OpenWatch,
+    ) -> Result<(), OpenWatch>
+        ensures made { IfOk result (λ _. IsOwnMade C.Key.number_of C.Key.name_of C.gives key.now
+            (DropWatch watch.slot) (C.made self.old.calls) (C.made self.new.calls)) }
+        ensures stays { IfErr result (λ left. left ≡ watch) }
+        ensures unmade { IfErr result (λ _. IsNoMore (C.made self.old.calls) (C.made self.new.calls)) }
+    {
+        let Some(key) = key_of(key, watch.tenant) else {
+            return Err(watch);
+        };
+        match self.calls.call(&self.rt, key, Step::DropWatch(watch.slot)) {
+            Ok(_) => Ok(()),
+            Err(_) => Err(watch),
         }
     }
 

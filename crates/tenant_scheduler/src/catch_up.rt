@@ -45,7 +45,7 @@ fn keep_order<R: Wait + Clock + Drop, C: TenantCalls>(
     tenant: &ServedTenant<R, C::Key>,
 ) {
     let mut clients = tenant.clients.lock(rt);
-    let moment = clients.running.moment();
+    let moment = clients.running.seconds();
     if !clients.standing.is_due(moment) {
         return;
     }

@@ -1,4 +1,6 @@
 //! The clock: a tick a second to each tenant.
+ghost use Rattle.std.specs.Prelude.{◌≡◌};
+
 use crate::caller::{Caller, OwnStep};
 use crate::serving::ServingThread;
 use crate::tenants::ServedTenant;
@@ -14,6 +16,20 @@ const SECONDS_A_TICK: u64 = 1;
 
 /// How many seconds one tick moves a tenant's moment by, at the most.
 const MAX_SECONDS_A_TICK: u64 = 2;
+
+/// A second of a tenant's time. Its clock alone tells one, and there is no other tick.
+#[derive(Clone, Copy, Drop)]
+pub(crate) struct Moment {
+    seconds: u64,
+}
+
+impl Moment {
+    pub(crate) fn seconds(self) -> u64
+        ensures { result ≡ self.seconds }
+    {
+        self.seconds
+    }
+}
 
 /// How long a tenant's time has run, as its ticks count it.
 ///
@@ -36,7 +52,7 @@ impl Running {
     }
 
     /// The moment of a tick that comes now, in whole seconds.
-    fn tick(&mut self, now: Duration) -> u64 {
+    fn tick(&mut self, now: Duration) -> Moment {
         let passed = match self.ticked {
             Some(ticked) => now.saturating_sub(ticked),
             None => Duration::from_secs(SECONDS_A_TICK),
@@ -44,11 +60,13 @@ impl Running {
         let counted = passed.min(Duration::from_secs(MAX_SECONDS_A_TICK));
         self.ticked = Some(now);
         self.ran = self.ran.saturating_add(counted);
-        self.moment()
+        Moment {
+            seconds: self.seconds(),
+        }
     }
 
-    /// The moment of the last tick.
-    pub(crate) fn moment(&self) -> u64 {
+    /// The second of the last tick.
+    pub(crate) fn seconds(&self) -> u64 {
         self.ran.as_secs()
     }
 }
@@ -111,7 +129,7 @@ fn tick<R: Wait + Clock + Drop, C: TenantCalls>(
     let moment = clients.running.tick(now);
     let _ = caller.call(&clients.key, OwnStep::Tick(moment));
     clients.schedule_takes(rt, scheduler, tenant.turns());
-    if clients.standing.is_due(moment) {
+    if clients.standing.is_due(moment.seconds()) {
         scheduler.schedule(rt, tenant.turns(), Work::CatchUp);
     }
 }

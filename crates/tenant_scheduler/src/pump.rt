@@ -2,7 +2,7 @@
 ghost use Rattle.std.specs.Prelude.{◌≡◌};
 ghost use Rattle.tenant_scheduler.specs.Makes.{IsOnlyOn};
 
-use crate::caller::{Caller, OwnStep};
+use crate::caller::Caller;
 use crate::clients::{Clients, OpenWatch};
 use crate::serving::ServingThread;
 use crate::tenants::ServedTenant;
@@ -272,11 +272,11 @@ pub(crate) fn drop_closed<R: Wait + Clock + Drop, C: TenantCalls>(
         if at >= watches.len() {
             break;
         }
-        let watch = &watches[at];
-        if watch.texts.is_closed() && caller.call(key, OwnStep::DropWatch(watch.slot)).is_ok() {
-            let _ = watches.swap_remove(at);
-        } else {
+        if !watches[at].texts.is_closed() {
             at += 1;
+        } else if let Err(watch) = caller.end_watch(key, watches.swap_remove(at)) {
+            // There is room: it stood here.
+            let _ = watches.push(watch);
         }
     }
 }
