@@ -150,7 +150,8 @@ impl TakenText {
     /// The text, if it is of this slot of that tenant.
     #[tactic(auto, using(crate::proofs::AnswerLemmas::of_the_same_watch))]
     fn of(self, tenant: u64, slot: u8) -> Option<MadeText>
-        ensures { IfSome result (λ text. ∥ IsTaken tenant slot text.bytes.items ∥₁) }
+        ensures taken { IfSome result (λ text. ∥ IsTaken tenant slot text.bytes.items ∥₁) }
+        ensures same { IfSome result (λ text. text ≡ self.text) }
     {
         let TakenText {
             tenant: of_tenant,

@@ -1,5 +1,5 @@
 -- How a call is made for an answer, or none.
-use Rattle.std.specs.Prelude.{Option, Some, Result, Ok, Err, IfOk, IfErr}
+use Rattle.std.specs.Prelude.{Option}
 use Rattle.std.proofs.Common.{◌≡◌, ◌∙◌, sym, subst, refl, ℕ, ℤ, false, List}
 use Rattle.etcd_types.specs.declared.step.Step.{Step}
 use Rattle.etcd_types.specs.declared.step.Step.TheVariants as step
@@ -10,6 +10,7 @@ use Rattle.tenant_calls.specs.declared.receipt.CallReceipt.{CallReceipt}
 use Rattle.tenant_calls.specs.Counts.{Counts, IsNoMore, IsOneMore}
 use Rattle.tenant_scheduler.specs.declared.request.NamedTenant.{NamedTenant}
 use Rattle.tenant_scheduler.specs.Makes.{IsCounted, IsMade, IsMadeAfterTakes, IsOnlyOn, Unmade}
+use Rattle.tenant_scheduler.specs.OwnSteps.{IsOwnMade}
 
 -- it is refused for want of memory, and no call was made
 pub unmade_for_memory : {R K : Type 0} (number_of : K → ℕ) (name_of : K → List ℕ) (gives : ℕ → Step → CallReceipt → Type 0) (tenant : NamedTenant) (step : Step) (answer : Answer R) (old new : Counts) → IsNoMore old new → Refuses Memory answer → IsMade number_of name_of gives tenant step answer old new
@@ -51,10 +52,12 @@ made_after_takes number_of name_of gives key tenant (step.CatchUp x) answer old 
 
 -- ---- by one key alone
 
--- a call was made by the key, or none
-pub only_by : {K A E : Type 0} (name_of : K → List ℕ) (key : Option K) (by : K) (result : Result A E) (old new : Counts) → key ≡ Some by → IfOk result (λ a. IsOneMore (name_of by) old new) → IfErr result (λ e. IsNoMore old new) → IsOnlyOn name_of key old new
-only_by name_of key by (Ok a) old new is more none = λ name other. more.others name (other by is)
-only_by name_of key by (Err e) old new is more none = λ name other. none name
+pub only_none : {K : Type 0} (name_of : K → List ℕ) (key : Option K) (old new : Counts) → IsNoMore old new → IsOnlyOn name_of key old new
+only_none name_of key old new none = λ name other. none name
 
 pub only_then : {K : Type 0} (name_of : K → List ℕ) (first key : Option K) (old mid new : Counts) → first ≡ key → IsOnlyOn name_of key old mid → IsOnlyOn name_of first mid new → IsOnlyOn name_of key old new
 only_then name_of first key old mid new same one more = λ name other. (subst (λ k. IsOnlyOn name_of k mid new) same more name other) ∙ (one name other)
+
+-- one call was made by the key
+pub only_own : {K : Type 0} (number_of : K → ℕ) (name_of : K → List ℕ) (gives : ℕ → Step → CallReceipt → Type 0) (key : Option K) (step : Step) (old new : Counts) → IsOwnMade number_of name_of gives key step old new → IsOnlyOn name_of key old new
+only_own number_of name_of gives key step old new made = λ name other. made.more.others name (other made.by made.has)

@@ -10,7 +10,7 @@ use Rattle.tenant_scheduler.specs.declared.caller.OwnStep.TheVariants as own
 abbrev pub step_of : OwnStep → Step
 step_of (own.Tick moment) = step.Tick moment.seconds
 step_of (own.CatchUp budget) = step.CatchUp budget
-step_of (own.Compact revision) = step.Compact revision
+step_of (own.Compact due) = step.Compact due.revision
 
 -- one call was made, by the key, which the tenant answered a receipt for this step
 pub record IsOwnMade {K : Type 0} (number_of : K → ℕ) (name_of : K → List ℕ) (gives : ℕ → Step → CallReceipt → Type 0) (key : Option K) (step : Step) (old new : Counts) : Type 0 where

@@ -5,13 +5,14 @@ ghost use Rattle.etcd_types.specs.declared.step.Step.TheVariants.{DropWatch, Tak
 ghost use Rattle.fair_turns.specs.Answers.{IsAnswer, Shows};
 ghost use Rattle.tenant_calls.specs.Answers.{IsTold, IsUncalled};
 ghost use Rattle.tenant_calls.specs.Counts.{IsNoMore};
-ghost use Rattle.tenant_scheduler.specs.Makes.{IsCounted, IsMade, IsOnlyOn};
+ghost use Rattle.tenant_scheduler.specs.Makes.{IsCounted, IsMade};
 ghost use Rattle.tenant_scheduler.specs.OwnSteps.{IsOwnMade, step_of};
 ghost use Rattle.tenant_scheduler.specs.Requests.{IsStepOf};
 ghost use Rattle.tenant_scheduler.specs.Watches.{IsListed};
 
 mod unserved;
 
+use crate::catch_up::DueRevision;
 use crate::clients::{Clients, OpenWatch, key_of};
 use crate::clock::Moment;
 use crate::inline_calls::is_brief;
@@ -33,7 +34,7 @@ pub(crate) enum OwnStep {
     /// Watches that are behind catch up over so many changes.
     CatchUp(u32),
     /// A standing order drops the history before this revision.
-    Compact(i64),
+    Compact(DueRevision),
 }
 
 impl OwnStep {
@@ -43,7 +44,7 @@ impl OwnStep {
         match self {
             OwnStep::Tick(moment) => Step::Tick(moment.seconds()),
             OwnStep::CatchUp(budget) => Step::CatchUp(budget),
-            OwnStep::Compact(revision) => Step::Compact(revision),
+            OwnStep::Compact(due) => Step::Compact(due.revision()),
         }
     }
 }
@@ -104,12 +105,15 @@ impl<R: Wait + Clock + Drop, C: TenantCalls> Caller<R, C> {
         slot: u8,
     ) -> Result<CallReceipt, Refusal>
         ensures given { IfOk result (λ receipt. C.gives number (Take slot) receipt) }
-        ensures others { IsOnlyOn C.Key.name_of key.now (C.made self.old.calls) (C.made self.new.calls) }
+        ensures made { IfOk result (λ _. IsOwnMade C.Key.number_of C.Key.name_of C.gives key.now (Take slot)
+            (C.made self.old.calls) (C.made self.new.calls)) }
+        ensures unmade { IfErr result (λ _. IsNoMore (C.made self.old.calls) (C.made self.new.calls)) }
     {
-        match key_of(key, number) {
-            Some(key) => self.calls.call(&self.rt, key, Step::Take(slot)),
-            None => Err(Refusal::NoTenant),
-        }
+        let Some(key) = key_of(key, number) else {
+            return Err(Refusal::NoTenant);
+        };
+        let receipt = self.calls.call(&self.rt, key, Step::Take(slot))?;
+        Ok(receipt)
     }
 
     /// Answers a request by its step, which opens nothing. It is refused before it is planned where its answer may be long and

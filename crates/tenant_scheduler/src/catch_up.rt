@@ -1,9 +1,12 @@
 //! The catch-up worker: moves watches on that are behind, and compacts by standing orders.
+ghost use Rattle.std.specs.Prelude.{◌≡◌};
+
 use crate::caller::{Caller, OwnStep};
 use crate::clients::Clients;
 use crate::pump::take_all;
 use crate::serving::ServingThread;
 use crate::tenants::ServedTenant;
+use auto_compaction::StandingOrder;
 use fair_turns::{Scheduler, Stopwatch, Work};
 use std::rt::Clock;
 use std::sync::Wait;
@@ -21,20 +24,46 @@ const MILLIS_A_TURN: u64 = 1;
 /// Steps CatchUp on each tenant where that is due, and compacts it where its standing order says so, until there are no
 /// more turns.
 pub(crate) fn catch_up<R: Wait + Clock + Copy + Drop, C: TenantCalls>(
-    thread: ServingThread<R, C>,
-) -> C {
-    let (rt, place, mut caller, shared) = thread.into_parts();
+    thread: &mut ServingThread<R, C>,
+) {
+    let ServingThread {
+        rt,
+        place,
+        caller,
+        shared,
+    } = thread;
+    let (rt, place) = (*rt, *place);
     for _ in rt.forever() {
         let Some(tenant) = shared.next_turn(&rt, place, &shared.turns.catch_up) else {
             break;
         };
         if let Some(tenant) = shared.numbered(&rt, tenant) {
-            keep_order(&rt, &mut caller, &shared.scheduler, &tenant);
-            move_on(&rt, &mut caller, &tenant);
+            keep_order(&rt, caller, &shared.scheduler, &tenant);
+            move_on(&rt, caller, &tenant);
             shared.scheduler.finish(&rt, tenant.turns(), Work::CatchUp);
         }
     }
-    caller.into_calls()
+}
+
+/// A revision that a tenant's standing order lets go. The catch-up worker alone asks the order, and nobody else compacts
+/// but for a client.
+#[derive(Clone, Copy, Drop)]
+pub(crate) struct DueRevision {
+    revision: i64,
+}
+
+impl DueRevision {
+    /// That of an order, which is told the tenant's moment and current revision.
+    fn of(order: &mut StandingOrder, moment: u64, current: i64) -> Option<DueRevision> {
+        let revision = order.look(moment, current)?;
+        Some(DueRevision { revision })
+    }
+
+    pub(crate) fn revision(self) -> i64
+        ensures { result ≡ self.revision }
+    {
+        self.revision
+    }
 }
 
 /// Compacts a tenant where its standing order says so. As before a client's compaction, watches are taken first.
@@ -53,10 +82,11 @@ fn keep_order<R: Wait + Clock + Drop, C: TenantCalls>(
     let Ok(revision) = caller.revision(&clients.key) else {
         return;
     };
-    let Some(at) = clients.standing.look(moment, revision) else {
+    let Some(due) = DueRevision::of(&mut clients.standing, moment, revision) else {
         return;
     };
-    if take_all(caller, &mut *clients) && caller.call(&clients.key, OwnStep::Compact(at)).is_ok() {
+    let compacts = OwnStep::Compact(due);
+    if take_all(caller, &mut *clients) && caller.call(&clients.key, compacts).is_ok() {
         clients.schedule_takes(rt, scheduler, tenant.turns());
     } else {
         clients.standing.put_off();

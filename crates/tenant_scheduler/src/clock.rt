@@ -1,5 +1,6 @@
 //! The clock: a tick a second to each tenant.
-ghost use Rattle.std.specs.Prelude.{◌≡◌};
+ghost use Rattle.std.specs.Prelude.{◌≡◌, ◌+◌, ◌/◌, ◌≤◌};
+ghost use Rattle.std.specs.Duration.{as_nanos};
 
 use crate::caller::{Caller, OwnStep};
 use crate::serving::ServingThread;
@@ -52,12 +53,16 @@ impl Running {
     }
 
     /// The moment of a tick that comes now, in whole seconds.
-    fn tick(&mut self, now: Duration) -> Moment {
+    fn tick(&mut self, now: Duration) -> Moment
+        ensures moment { result.seconds ≡ as_nanos self.new.ran / 1_000_000_000 }
+        ensures bound { as_nanos self.new.ran ≤ as_nanos self.old.ran + 2_000_000_000 }
+    {
         let passed = match self.ticked {
             Some(ticked) => now.saturating_sub(ticked),
             None => Duration::from_secs(SECONDS_A_TICK),
         };
-        let counted = passed.min(Duration::from_secs(MAX_SECONDS_A_TICK));
+        let most = Duration::from_secs(MAX_SECONDS_A_TICK);
+        let counted = if passed > most { most } else { passed };
         self.ticked = Some(now);
         self.ran = self.ran.saturating_add(counted);
         Moment {
@@ -66,7 +71,9 @@ impl Running {
     }
 
     /// The second of the last tick.
-    pub(crate) fn seconds(&self) -> u64 {
+    pub(crate) fn seconds(&self) -> u64
+        ensures { result ≡ as_nanos self.now.ran / 1_000_000_000 }
+    {
         self.ran.as_secs()
     }
 }
@@ -74,11 +81,17 @@ impl Running {
 /// Schedules each tenant's tick every second, and steps those whose turn it is, until there are no more turns.
 /// A tenant that is busy gets its tick when its turn comes; the others don't wait for it.
 pub(crate) fn keep_time<R: Wait + Clock + Copy + Drop, C: TenantCalls>(
-    thread: ServingThread<R, C>,
-) -> C {
-    let (rt, place, mut caller, shared) = thread.into_parts();
+    thread: &mut ServingThread<R, C>,
+) {
+    let ServingThread {
+        rt,
+        place,
+        caller,
+        shared,
+    } = thread;
+    let (rt, place) = (*rt, *place);
     let Ok(start) = Instant::now(&rt) else {
-        return caller.into_calls();
+        return;
     };
     let mut now = Duration::from_secs(0);
     let mut due = Duration::from_secs(SECONDS_A_TICK);
@@ -92,7 +105,7 @@ pub(crate) fn keep_time<R: Wait + Clock + Copy + Drop, C: TenantCalls>(
         match turn {
             Ok(Turn::On(tenant)) => {
                 if let Some(tenant) = shared.numbered(&rt, tenant) {
-                    tick(&rt, &mut caller, &shared.scheduler, &tenant, now);
+                    tick(&rt, caller, &shared.scheduler, &tenant, now);
                     shared.scheduler.finish(&rt, tenant.turns(), Work::Tick);
                 }
             }
@@ -103,7 +116,6 @@ pub(crate) fn keep_time<R: Wait + Clock + Copy + Drop, C: TenantCalls>(
             }
         }
     }
-    caller.into_calls()
 }
 
 /// When the ticks after those of now are due. What was missed in a pause is not made up for.

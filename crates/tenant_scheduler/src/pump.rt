@@ -24,18 +24,23 @@ const TURNS_LEFT: u32 = 256;
 
 /// Takes for the open watches of each tenant where that is due, until there are no more turns.
 pub(crate) fn pump<R: Wait + Clock + Copy + Drop, C: TenantCalls>(
-    thread: ServingThread<R, C>,
-) -> C {
-    let (rt, place, mut caller, shared) = thread.into_parts();
+    thread: &mut ServingThread<R, C>,
+) {
+    let ServingThread {
+        rt,
+        place,
+        caller,
+        shared,
+    } = thread;
+    let (rt, place) = (*rt, *place);
     for _ in rt.forever() {
         let Some(tenant) = shared.next_turn(&rt, place, &shared.turns.pump) else {
             break;
         };
         if let Some(tenant) = shared.numbered(&rt, tenant) {
-            take_turn(&rt, &mut caller, &shared.scheduler, &tenant);
+            take_turn(&rt, caller, &shared.scheduler, &tenant);
         }
     }
-    caller.into_calls()
 }
 
 /// Serves the takes of a tenant whose turn it is, unless they were long lately: then a worker serves them.
@@ -226,7 +231,7 @@ enum TakeOutcome {
 }
 
 /// Takes once, if there is room for a text.
-#[tactic(auto, using(crate::proofs::RequestLemmas::taken))]
+#[tactic(auto, using(crate::proofs::RequestLemmas::taken, crate::proofs::MakeLemmas::only_own, crate::proofs::MakeLemmas::only_none))]
 fn take<R: Wait + Clock + Drop, C: TenantCalls>(
     caller: &mut Caller<R, C>,
     key: &Option<C::Key>,

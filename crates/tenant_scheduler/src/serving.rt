@@ -46,24 +46,18 @@ impl<R: Wait + Clock + Copy + Drop, C: TenantCalls> ServingThread<R, C> {
         }
     }
 
-    /// What it works with, for the one service that it does.
-    pub(crate) fn into_parts(self) -> (R, usize, Caller<R, C>, Arc<Shared<R, C::Key>>) {
-        let ServingThread {
-            rt,
-            place,
-            caller,
-            shared,
-        } = self;
-        (rt, place, caller, shared)
-    }
-
     /// It moves.
     pub(crate) fn beat(&self) {
         self.shared.beats.beat(&self.rt, self.place);
     }
 
     pub fn into_calls(self) -> C {
-        let (_, _, caller, _) = self.into_parts();
+        let ServingThread {
+            rt: _,
+            place: _,
+            caller,
+            shared: _,
+        } = self;
         caller.into_calls()
     }
 }
@@ -94,11 +88,13 @@ impl Service {
         R: Wait + Clock + Copy + Drop,
         C: TenantCalls,
     {
+        let mut thread = thread;
         match self {
-            Service::Clock => keep_time(thread),
-            Service::Pump => pump(thread),
-            Service::CatchUp => catch_up(thread),
-            Service::Work => work(alloc, thread),
+            Service::Clock => keep_time(&mut thread),
+            Service::Pump => pump(&mut thread),
+            Service::CatchUp => catch_up(&mut thread),
+            Service::Work => work(alloc, &mut thread),
         }
+        thread.into_calls()
     }
 }

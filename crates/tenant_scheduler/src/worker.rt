@@ -29,9 +29,15 @@ const MILLIS_A_TURN: u64 = 2;
 /// Serves a few jobs of each tenant whose turn it is, until there are no more turns.
 pub(crate) fn work<R: Wait + Clock + Copy + Drop, C: TenantCalls>(
     alloc: Global,
-    thread: ServingThread<R, C>,
-) -> C {
-    let (rt, place, mut caller, shared) = thread.into_parts();
+    thread: &mut ServingThread<R, C>,
+) {
+    let ServingThread {
+        rt,
+        place,
+        caller,
+        shared,
+    } = thread;
+    let (rt, place) = (*rt, *place);
     for _ in rt.forever() {
         let Some(tenant) = shared.next_turn(&rt, place, &shared.turns.workers) else {
             break;
@@ -39,9 +45,8 @@ pub(crate) fn work<R: Wait + Clock + Copy + Drop, C: TenantCalls>(
         let Some(tenant) = shared.numbered(&rt, tenant) else {
             continue;
         };
-        take_turn(rt, alloc, &mut caller, &shared.scheduler, &tenant);
+        take_turn(rt, alloc, caller, &shared.scheduler, &tenant);
     }
-    caller.into_calls()
 }
 
 /// Serves a tenant's turn, which goes on to what is due next; a slow tenant may have to wait with it.

@@ -6,7 +6,7 @@
 ghost use Rattle.std.specs.Prelude.{◌≡◌, IfOk, IfSome};
 ghost use Rattle.fair_turns.specs.Answers.{Refuses};
 ghost use Rattle.tenant_calls.specs.Answers.{IsUncalled};
-ghost use Rattle.tenant_scheduler.specs.Requests.{IsAnswerOf, IsUnread};
+ghost use Rattle.tenant_scheduler.specs.Requests.{AsksTheSame, IsAnswerOf, IsUnread};
 
 use crate::request::{Request, RequestBody, Route};
 use etcd_types::{Mem, Refusal};
@@ -170,7 +170,9 @@ impl<R: Wait + Drop> JobAnswer<R> {
     /// What this request is told, if the answer is its own.
     #[tactic(auto, using(crate::proofs::RequestLemmas::of_the_same))]
     pub(crate) fn of(self, asked: &Request) -> Option<Told<R>>
-        ensures { IfSome result (λ told. ∥ IsAnswerOf asked.now told.answer ∥₁) }
+        ensures answers { IfSome result (λ told. ∥ IsAnswerOf asked.now told.answer ∥₁) }
+        ensures answer { IfSome result (λ told. told.answer ≡ self.answer) }
+        ensures same { IfSome result (λ _. AsksTheSame self.request.value asked.now) }
     {
         let JobAnswer { request, answer } = self;
         if request.is_same(asked) {

@@ -1,5 +1,3 @@
-use Rattle.std.proofs.Common.{subst}
-use Rattle.tenant_scheduler.specs.Requests.{IsAnswerOf}
 use Rattle.tenant_scheduler.proofs.RequestLemmas.{begun_without_memory}
 use Rattle.tenant_scheduler.proofs.pending.PendingCall.begin.Goals as goal
 
