@@ -11,7 +11,7 @@ pub record WaitsFor {R : Type 0} (call : PendingCall R) (route : Route) (body : 
   pub route_is : call.request.value.route ≡ route
   pub body_is : call.request.value.body.bytes.items ≡ body
 
--- it waits, or is told its answer
+-- it waits, or was answered
 abbrev pub IsBegun : {R : Type 0} → Begun R → Route → List ℕ → Type 0
 IsBegun (Pending call) route body = WaitsFor call route body
-IsBegun (Answered told) route body = ∥ Answers route.tenant.value.number route.call body told.answer ∥₁
+IsBegun (Answered answer) route body = ∥ Answers route.tenant route.call body answer ∥₁

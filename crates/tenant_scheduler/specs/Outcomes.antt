@@ -10,5 +10,5 @@ use Rattle.tenant_scheduler.specs.Makes.{IsMade}
 
 -- its step is served once, for its own tenant; or it is left to a worker, and no call was made
 abbrev pub IsOutcome : {R K : Type 0} → (K → ℕ) → (K → List ℕ) → (ℕ → Step → CallReceipt → Type 0) → Request → Step → InlineOutcome R → Counts → Counts → Type 0
-IsOutcome number_of name_of gives request step (Answered told) old new = IsMade number_of name_of gives request.route.tenant.value step told.answer old new
+IsOutcome number_of name_of gives request step (Answered told) old new = IsMade number_of name_of gives request.route.tenant step told.answer old new
 IsOutcome number_of name_of gives request step (Busy brief) old new = IsNoMore old new

@@ -16,14 +16,12 @@ use crate::catch_up::DueRevision;
 use crate::clients::{Clients, OpenWatch, key_of};
 use crate::clock::Moment;
 use crate::inline_calls::is_brief;
-use crate::request::NamedTenant;
 use etcd_types::{Refusal, Step};
 use fair_turns::{Answer, LONGEST_ROW, MadeText, Share, TextSender, WatchTexts, may_be_long};
 use std::alloc::Global;
 use std::rt::Clock;
 use std::sync::Wait;
 use tenant_calls::{CallReceipt, TenantCalls, TenantKey};
-pub use unserved::{Told, Unanswered};
 pub(crate) use unserved::{JobAnswer, Unserved};
 
 /// A step that a thread makes by itself, and not for a client.
@@ -127,10 +125,11 @@ impl<R: Wait + Clock + Drop, C: TenantCalls> Caller<R, C> {
     ) -> JobAnswer<R>
         requires { IsStepOf unserved.request.value step }
         ensures request { result.request ≡ unserved.request }
-        ensures made { IsMade C.Key.number_of C.Key.name_of C.gives unserved.request.value.route.tenant.value step
+        ensures made { IsMade C.Key.number_of C.Key.name_of C.gives unserved.request.value.route.tenant step
             result.answer (C.made self.old.calls) (C.made self.new.calls) }
     {
-        let answer = self.told(alloc, clients, unserved.request().tenant(), step);
+        let number = unserved.request().route.tenant;
+        let answer = self.told(alloc, clients, number, step);
         unserved.answered(answer)
     }
 
@@ -146,31 +145,30 @@ impl<R: Wait + Clock + Drop, C: TenantCalls> Caller<R, C> {
         requires step { IsStepOf unserved.request.value step }
         requires room { length clients.old.watches.items < vec_capacity clients.old.watches }
         ensures request { result.request ≡ unserved.request }
-        ensures made { IsMade C.Key.number_of C.Key.name_of C.gives unserved.request.value.route.tenant.value step
+        ensures made { IsMade C.Key.number_of C.Key.name_of C.gives unserved.request.value.route.tenant step
             result.answer (C.made self.old.calls) (C.made self.new.calls) }
     {
-        let answer = self.created(alloc, clients, unserved.request().tenant(), step, ends);
+        let number = unserved.request().route.tenant;
+        let answer = self.created(alloc, clients, number, step, ends);
         unserved.answered(answer)
     }
 
-    /// One step of a client, of the tenant that it names, if the key is to it.
+    /// One step of a client, of the tenant of that number, if the key is to it.
     fn serve(
         &mut self,
         key: &Option<C::Key>,
-        tenant: &NamedTenant,
+        number: u64,
         step: Step,
     ) -> Result<CallReceipt, Refusal>
-        ensures given { IfOk result (λ receipt. C.gives tenant.now.number step receipt) }
+        ensures given { IfOk result (λ receipt. C.gives number step receipt) }
         ensures refused { IfErr result (λ r. IsUncalled r) }
-        ensures made { IfOk result (λ _. IsCounted C.Key.number_of C.Key.name_of tenant.now
+        ensures made { IfOk result (λ _. IsCounted C.Key.number_of C.Key.name_of number
             (C.made self.old.calls) (C.made self.new.calls)) }
         ensures unmade { IfErr result (λ _. IsNoMore (C.made self.old.calls) (C.made self.new.calls)) }
     {
-        match key_of(key, tenant.number) {
-            Some(key) if key.name() == tenant.name.as_slice() => {
-                self.calls.call(&self.rt, key, step)
-            }
-            _ => Err(Refusal::NoTenant),
+        match key_of(key, number) {
+            Some(key) => self.calls.call(&self.rt, key, step),
+            None => Err(Refusal::NoTenant),
         }
     }
 
@@ -179,18 +177,18 @@ impl<R: Wait + Clock + Drop, C: TenantCalls> Caller<R, C> {
         &mut self,
         alloc: Global,
         clients: &Clients<R, C::Key>,
-        tenant: &NamedTenant,
+        number: u64,
         step: Step,
     ) -> Answer<R>
-        ensures answer { IsAnswer tenant.now.number step result }
-        ensures made { IsMade C.Key.number_of C.Key.name_of C.gives tenant.now step result
+        ensures answer { IsAnswer number step result }
+        ensures made { IsMade C.Key.number_of C.Key.name_of C.gives number step result
             (C.made self.old.calls) (C.made self.new.calls) }
     {
         if !may_be_long(&step) || (is_brief(&step) && clients.budget.left() >= LONGEST_ROW) {
-            return self.told_within(alloc, clients, tenant, step, None);
+            return self.told_within(alloc, clients, number, step, None);
         }
         match self.reserve(clients, &step) {
-            Ok(Some(share)) => self.told_within(alloc, clients, tenant, step, Some(share)),
+            Ok(Some(share)) => self.told_within(alloc, clients, number, step, Some(share)),
             Ok(None) => Answer::no_memory(),
             Err(refusal) => Answer::refused(alloc, refusal),
         }
@@ -200,15 +198,15 @@ impl<R: Wait + Clock + Drop, C: TenantCalls> Caller<R, C> {
         &mut self,
         alloc: Global,
         clients: &Clients<R, C::Key>,
-        tenant: &NamedTenant,
+        number: u64,
         step: Step,
         reserved: Option<Share>,
     ) -> Answer<R>
-        ensures answer { IsAnswer tenant.now.number step result }
-        ensures made { IsMade C.Key.number_of C.Key.name_of C.gives tenant.now step result
+        ensures answer { IsAnswer number step result }
+        ensures made { IsMade C.Key.number_of C.Key.name_of C.gives number step result
             (C.made self.old.calls) (C.made self.new.calls) }
     {
-        match self.serve(&clients.key, tenant, step) {
+        match self.serve(&clients.key, number, step) {
             Ok(receipt) => {
                 let (status, refusal) = (receipt.status, receipt.refusal);
                 let text = clients.budget.charge(reserved, receipt.into_body());
@@ -223,18 +221,18 @@ impl<R: Wait + Clock + Drop, C: TenantCalls> Caller<R, C> {
         &mut self,
         alloc: Global,
         clients: &mut Clients<R, C::Key>,
-        tenant: &NamedTenant,
+        number: u64,
         step: Step,
         ends: (TextSender, WatchTexts<R>),
     ) -> Answer<R>
         requires { length clients.old.watches.items < vec_capacity clients.old.watches }
-        ensures answer { IsAnswer tenant.now.number step result }
-        ensures made { IsMade C.Key.number_of C.Key.name_of C.gives tenant.now step result
+        ensures answer { IsAnswer number step result }
+        ensures made { IsMade C.Key.number_of C.Key.name_of C.gives number step result
             (C.made self.old.calls) (C.made self.new.calls) }
     {
         let (sender, texts) = ends;
-        match self.serve(&clients.key, tenant, step) {
-            Ok(receipt) => opened(clients, tenant.number, receipt, sender, texts),
+        match self.serve(&clients.key, number, step) {
+            Ok(receipt) => opened(clients, number, receipt, sender, texts),
             Err(refusal) => Answer::refused(alloc, refusal),
         }
     }

@@ -1,10 +1,7 @@
 //! Where the calls of each tenant go in: found by the tenant's name once, and then by its number.
 //!
 //! It knows no tenant's key: what connections hold reaches queues alone.
-ghost use Rattle.std.specs.Prelude.{◌≡◌, IfSome};
-
 use crate::clients::Job;
-use crate::request::NamedTenant;
 use crossbeam_utils::sync::ShardedLock;
 use etcd_types::Mem;
 use fair_turns::{Budget, Scheduler, TenantCounts, TenantTurns, Work};
@@ -16,17 +13,16 @@ use tokio::sync::mpsc;
 /// Where the calls of a tenant go in.
 #[derive(Drop)]
 pub(crate) struct Entrance<R: Wait + Drop> {
-    pub(crate) tenant: Arc<NamedTenant>,
     pub(crate) turns: Arc<TenantTurns>,
     pub(crate) queue: mpsc::Sender<Job<R>>,
     pub(crate) budget: Budget,
     pub(crate) counts: Arc<TenantCounts>,
 }
 
-/// The tenants by their names, and their entrances by their numbers.
+/// The numbers of the tenants by their names, and their entrances by these numbers.
 #[derive(Drop)]
 struct Directory<R: Wait + Drop> {
-    tenants: IndexMap<Vec<u8>, Arc<NamedTenant>>,
+    numbers: IndexMap<Vec<u8>, u64>,
     entrances: IndexMap<u64, Arc<Entrance<R>>>,
 }
 
@@ -49,7 +45,7 @@ impl<R: Wait + Drop> Entrances<R> {
     /// None, with the scheduler of their turns.
     pub(crate) fn new(alloc: Global, scheduler: Arc<Scheduler>) -> Mem<Entrances<R>> {
         let directory = Directory {
-            tenants: IndexMap::new(alloc),
+            numbers: IndexMap::new(alloc),
             entrances: IndexMap::new(alloc),
         };
         Ok(Entrances {
@@ -58,18 +54,10 @@ impl<R: Wait + Drop> Entrances<R> {
         })
     }
 
-    /// The tenant of that name. Threads with different shards don't disturb each other.
-    pub(crate) fn named(&self, rt: &R, shard: usize, name: &[u8]) -> Option<Arc<NamedTenant>>
-        ensures { IfSome result (λ tenant. tenant.value.name.items ≡ name.now) }
-    {
+    /// The number of the tenant of that name. Threads with different shards don't disturb each other.
+    pub(crate) fn number_of(&self, rt: &R, shard: usize, name: &[u8]) -> Option<u64> {
         let directory = self.directory.read(rt, shard);
-        let tenant = Arc::try_clone(directory.tenants.get(name)?).ok()?;
-        // What lies under a lock is known by its type alone.
-        if tenant.name.as_slice() == name {
-            Some(tenant)
-        } else {
-            None
-        }
+        directory.numbers.get(name).copied()
     }
 
     /// The entrance of the tenant of that number, unless it was removed.
@@ -91,24 +79,24 @@ impl<R: Wait + Drop> Entrances<R> {
     /// Takes the memory that one more tenant needs here.
     pub(crate) fn make_room(&self, rt: &R) -> Mem<()> {
         let mut directory = self.directory.write(rt);
-        directory.tenants.reserve(1)?;
+        directory.numbers.reserve(1)?;
         directory.entrances.reserve(1)
     }
 
     /// Takes a tenant in; where there is room for it, that takes no memory.
     pub(crate) fn insert(&self, rt: &R, name: Vec<u8>, entrance: Arc<Entrance<R>>) -> Mem<()> {
-        let tenant = Arc::try_clone(&entrance.tenant)?;
         let mut directory = self.directory.write(rt);
-        directory.entrances.insert(tenant.number, entrance)?;
-        directory.tenants.insert(name, tenant)?;
+        let number = entrance.turns.number();
+        directory.entrances.insert(number, entrance)?;
+        directory.numbers.insert(name, number)?;
         Ok(())
     }
 
     /// Takes a tenant out, and tells its number.
     pub(crate) fn remove(&self, rt: &R, name: &[u8]) -> Option<u64> {
         let mut directory = self.directory.write(rt);
-        let tenant = directory.tenants.shift_remove(name)?;
-        let _ = directory.entrances.swap_remove(&tenant.number);
-        Some(tenant.number)
+        let number = directory.numbers.shift_remove(name)?;
+        let _ = directory.entrances.swap_remove(&number);
+        Some(number)
     }
 }

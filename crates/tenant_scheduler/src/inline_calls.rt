@@ -134,14 +134,13 @@ impl<R: Wait + Clock + Copy + Drop, C: TenantCalls> InlineCalls<R, C> {
             caller,
             shared,
         } = &mut self.thread;
-        let request = brief.unserved.request();
-        let (number, call) = (request.tenant().number, request.route.call);
-        let outcome = match shared.tenants().numbered(rt, self.shard, number) {
+        let route = brief.unserved.request().route;
+        let outcome = match shared.tenants().numbered(rt, self.shard, route.tenant) {
             Some(tenant) if Scheduler::try_begin(tenant.turns()) => {
                 let stopwatch = Stopwatch::start(rt);
                 let mut clients = tenant.clients.lock(rt);
                 let outcome = answer(self.alloc, caller, &mut *clients, brief);
-                if may_give(call) {
+                if may_give(route.call) {
                     clients.schedule_takes(rt, &shared.scheduler, tenant.turns());
                 }
                 drop(clients);

@@ -1,13 +1,12 @@
 //! Where calls go in: to the event loop that has read them, or into their tenant's queue.
-ghost use Rattle.std.specs.Prelude.{◌≡◌, IfSome};
 ghost use Rattle.fair_turns.specs.Answers.{Refuses};
 ghost use Rattle.tokio.specs.Channels.{CanReserve};
 
-use crate::caller::{JobAnswer, Told, Unanswered};
+use crate::caller::JobAnswer;
 use crate::clients::Job;
 use crate::entrances::{Entrance, Entrances};
 use crate::inline_calls::InlineCall;
-use crate::request::{NamedTenant, Route};
+use crate::request::Route;
 use etcd_types::{Mem, Refusal};
 use fair_turns::{Answer, BodyShare, SHORT, Work};
 use std::alloc::Global;
@@ -78,20 +77,18 @@ impl<R: Wait + Drop> Jobs<R> {
         }
     }
 
-    /// The tenant of that name.
-    pub fn tenant(&self, rt: &R, name: &[u8]) -> Option<Arc<NamedTenant>>
-        ensures { IfSome result (λ tenant. tenant.value.name.items ≡ name.now) }
-    {
-        self.entrances.named(rt, self.shard(), name)
+    /// The number of the tenant of that name.
+    pub fn tenant(&self, rt: &R, name: &[u8]) -> Option<u64> {
+        self.entrances.number_of(rt, self.shard(), name)
     }
 
-    /// The entrance of a tenant, unless it was removed.
-    fn entrance(&self, rt: &R, tenant: &NamedTenant) -> Option<Arc<Entrance<R>>> {
-        self.entrances.numbered(rt, self.shard(), tenant.number)
+    /// The entrance of the tenant of that number, unless it was removed.
+    fn entrance(&self, rt: &R, tenant: u64) -> Option<Arc<Entrance<R>>> {
+        self.entrances.numbered(rt, self.shard(), tenant)
     }
 
     /// The share of a tenant's budget for a body of so many bytes at the most.
-    pub fn body_share(&self, rt: &R, tenant: &NamedTenant, bytes: usize) -> BodyShare {
+    pub fn body_share(&self, rt: &R, tenant: u64, bytes: usize) -> BodyShare {
         if bytes <= SHORT {
             return BodyShare::None;
         }
@@ -112,7 +109,7 @@ impl<R: Wait + Drop> Jobs<R> {
         alloc: Global,
         job: Job<R>,
     ) -> Result<Option<HeldBack<R>>, JobAnswer<R>> {
-        let Some(entrance) = self.entrance(rt, job.unserved.request().tenant()) else {
+        let Some(entrance) = self.entrance(rt, job.unserved.request().route.tenant) else {
             return Err(job.refused(alloc, Refusal::NoTenant));
         };
         match entrance.queue.try_send(job) {
@@ -130,32 +127,31 @@ impl<R: Wait + Drop> Jobs<R> {
     }
 
     /// Has a worker serve a tenant that has jobs.
-    pub(crate) fn schedule(&self, rt: &R, tenant: &NamedTenant) {
+    pub(crate) fn schedule(&self, rt: &R, tenant: u64) {
         if let Some(entrance) = self.entrance(rt, tenant) {
             self.entrances.schedule(rt, &entrance, Work::Jobs);
         }
     }
 
-    /// What a call is told that is refused before it goes in, by a body of so many bytes; the call is counted.
+    /// The answer of a call that is refused before it goes in, by a body of so many bytes; the call is counted.
     pub fn refused(
         &self,
         rt: &R,
         alloc: Global,
-        unanswered: Unanswered,
-        route: &Route,
+        route: Route,
         length: usize,
         refusal: Refusal,
-    ) -> Told<R>
-        ensures { Refuses refusal result.answer }
+    ) -> Answer<R>
+        ensures { Refuses refusal result }
     {
-        let told = unanswered.refused(alloc, refusal);
-        self.count(rt, route, length, told.answer());
-        told
+        let answer = Answer::refused(alloc, refusal);
+        self.count(rt, route, length, &answer);
+        answer
     }
 
     /// Counts a call by a body of so many bytes.
-    pub(crate) fn count(&self, rt: &R, route: &Route, length: usize, answer: &Answer<R>) {
-        if let Some(entrance) = self.entrance(rt, &*route.tenant) {
+    pub(crate) fn count(&self, rt: &R, route: Route, length: usize, answer: &Answer<R>) {
+        if let Some(entrance) = self.entrance(rt, route.tenant) {
             entrance.counts.add(route.call, length, answer);
         }
     }

@@ -10,7 +10,7 @@
 //! 3. An event loop serves an inline call if nobody has the turn (`inline_calls`), and else the call becomes a job. A worker
 //!    serves a few jobs a turn (`worker`). Both call the tenant by its key (`caller`), whose traits are those of
 //!    `tenant_calls`. By contract the answer is the written machine's reply (specs `Requests`), from the one call that was
-//!    made for it (specs `Makes`); by its type a request is answered once (`caller::unserved`).
+//!    made for it (specs `Makes`); by its type what is handed in is answered once (`caller::unserved`).
 //! 4. The answer comes back through `PendingCall::poll_answer`, with its call and tenant. That of a watch has
 //!    `WatchTexts`: the pump takes the next text when the client has read the last one (`pump`). The catch-up worker moves
 //!    watches on that are behind, and compacts by standing orders (`catch_up`); the clock ticks each tenant once a second
@@ -35,11 +35,10 @@ mod shared;
 mod tenants;
 mod worker;
 
-pub use caller::{Told, Unanswered};
 pub use inline_calls::{InlineCall, InlineCalls};
 pub use jobs::Jobs;
 pub use pending::{Begun, PendingCall};
-pub use request::{NamedTenant, RequestBody, Route};
+pub use request::{RequestBody, Route};
 pub use serving::{Service, ServingThread};
 pub use shared::{Shared, open};
 pub use tenants::{NewTenant, ServedTenant, TenantTerms, Tenants};

@@ -5,13 +5,13 @@ ghost use Rattle.futures.specs.Poll.{IfReady, OnPending};
 ghost use Rattle.tenant_scheduler.specs.Begins.{IsBegun};
 ghost use Rattle.tenant_scheduler.specs.Requests.{IsAnswerOf, IsReadAs};
 
-use crate::caller::{JobAnswer, Told, Unanswered, Unserved};
+use crate::caller::{JobAnswer, Unserved};
 use crate::clients::{BriefRequest, Job};
 use crate::inline_calls::{InlineCall, InlineOutcome, is_brief};
 use crate::jobs::{HeldBack, Jobs};
 use crate::request::{Request, RequestBody, Route};
 use etcd_types::{Refusal, Step};
-use fair_turns::{SHORT, Stopwatch};
+use fair_turns::{Answer, SHORT, Stopwatch};
 use futures::channel::oneshot;
 use futures::task::{Context, Poll};
 use futures::{Future, ready};
@@ -21,11 +21,11 @@ use std::rt::Clock;
 use std::sync::{Arc, Wait};
 use tokio::sync::mpsc::error::SendError;
 
-/// A call that was begun, or what it is told where nothing is left to wait for.
+/// A call that was begun, or its answer where nothing is left to wait for.
 #[derive(Drop)]
 pub enum Begun<R: Wait + Drop> {
     Pending(PendingCall<R>),
-    Answered(Told<R>),
+    Answered(Answer<R>),
 }
 
 /// A call that waits for its answer.
@@ -99,21 +99,11 @@ impl<R: Wait + Drop> Queueing<R> {
 
 impl<R: Wait + Clock + Copy + Drop> PendingCall<R> {
     /// Begins a call by the body that was read: hands it to the event loop, leaves it in its tenant's queue, or refuses it.
-    pub fn begin(
-        rt: R,
-        alloc: Global,
-        jobs: &Jobs<R>,
-        unanswered: Unanswered,
-        route: Route,
-        body: RequestBody,
-    ) -> Begun<R>
+    pub fn begin(rt: R, alloc: Global, jobs: &Jobs<R>, route: Route, body: RequestBody) -> Begun<R>
         ensures { IsBegun result route body.bytes.items }
     {
-        let (request, unserved) = match Unserved::new(alloc, unanswered, route, body) {
-            Ok(shared) => shared,
-            Err(unanswered) => {
-                return Begun::Answered(unanswered.refused(alloc, Refusal::Memory));
-            }
+        let Ok((request, unserved)) = Unserved::new(alloc, route, body) else {
+            return Begun::Answered(Answer::no_memory());
         };
         let mut pending = PendingCall {
             rt,
@@ -125,7 +115,7 @@ impl<R: Wait + Clock + Copy + Drop> PendingCall<R> {
             return Begun::Pending(pending);
         };
         match answer.of(&*pending.request) {
-            Some(told) => Begun::Answered(told),
+            Some(answer) => Begun::Answered(answer),
             None => Begun::Pending(pending),
         }
     }
@@ -144,7 +134,7 @@ impl<R: Wait + Clock + Copy + Drop> PendingCall<R> {
             Err(refusal) => {
                 let answer = unserved.unread(self.alloc, refusal);
                 let length = self.request.len();
-                jobs.count(&self.rt, &self.request.route, length, answer.answer());
+                jobs.count(&self.rt, self.request.route, length, answer.answer());
                 Some(answer)
             }
         }
@@ -203,10 +193,10 @@ impl<R: Wait + Clock + Copy + Drop> PendingCall<R> {
         None
     }
 
-    /// What this very request is told; none where the server ended before the call was served.
-    pub fn poll_answer(&mut self, jobs: &Jobs<R>, cx: &mut Context<'_>) -> Poll<Option<Told<R>>>
-        ensures answered { IfReady result (λ told. IfSome told (λ told.
-            ∥ IsAnswerOf self.old.request.value told.answer ∥₁)) }
+    /// The answer, which is that of this very request; none where the server ended before the call was served.
+    pub fn poll_answer(&mut self, jobs: &Jobs<R>, cx: &mut Context<'_>) -> Poll<Option<Answer<R>>>
+        ensures answered { IfReady result (λ told. IfSome told (λ answer.
+            ∥ IsAnswerOf self.old.request.value answer ∥₁)) }
         ensures request { self.new.request ≡ self.old.request }
         ensures registered { OnPending result (IsArmed cx.new) }
         ensures kept { Keeps cx.old cx.new }
@@ -270,7 +260,7 @@ impl<R: Wait + Clock + Copy + Drop> PendingCall<R> {
         self.stage = stage;
         let refused = ready!(left);
         if refused.is_none() {
-            jobs.schedule(&self.rt, self.request.tenant());
+            jobs.schedule(&self.rt, self.request.route.tenant);
         }
         Poll::Ready(refused)
     }

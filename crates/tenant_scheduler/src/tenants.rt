@@ -9,7 +9,6 @@
 use crate::clients::Clients;
 use crate::clock::Running;
 use crate::entrances::{Entrance, Entrances};
-use crate::request::NamedTenant;
 use auto_compaction::{Retention, StandingOrder};
 use crossbeam_utils::sync::ShardedLock;
 use etcd_types::Mem;
@@ -58,18 +57,18 @@ impl<R: Wait + Drop, K: TenantKey> Drop for ServedTenant<R, K> {
 }
 
 impl<R: Wait + Drop, K: TenantKey> ServedTenant<R, K> {
-    /// The tenant with these turns, on these terms. It has no key: it is not there yet.
+    /// The tenant with these turns, on these terms. Without a key it is not there yet.
     fn new(
         alloc: Global,
-        tenant: NamedTenant,
         turns: TenantTurns,
         terms: TenantTerms,
+        key: Option<K>,
     ) -> Mem<ServedTenant<R, K>> {
         let (queue, jobs) = mpsc::channel(alloc, WAITING)?;
         let budget = Budget::new(alloc, terms.budget)?;
         let counts = Arc::new(alloc, TenantCounts::new())?;
         let clients = Clients {
-            key: None,
+            key,
             budget: budget.share()?,
             counts: Arc::try_clone(&counts)?,
             jobs,
@@ -82,7 +81,6 @@ impl<R: Wait + Drop, K: TenantKey> ServedTenant<R, K> {
             left_to_workers: 0,
         };
         let entrance = Entrance {
-            tenant: Arc::new(alloc, tenant)?,
             turns: Arc::new(alloc, turns)?,
             queue,
             budget,
@@ -208,8 +206,8 @@ impl<R: Wait + Drop, K: TenantKey> Tenants<R, K> {
 
     /// The tenant of that name.
     pub fn named(&self, rt: &R, shard: usize, name: &[u8]) -> Option<Arc<ServedTenant<R, K>>> {
-        let tenant = self.entrances.named(rt, shard, name)?;
-        self.numbered(rt, shard, tenant.number)
+        let number = self.entrances.number_of(rt, shard, name)?;
+        self.numbered(rt, shard, number)
     }
 
     /// The tenant of that number. Threads with different shards don't disturb each other.
@@ -258,11 +256,7 @@ impl<R: Wait + Drop, K: TenantKey> Tenants<R, K> {
         terms: TenantTerms,
     ) -> Mem<NewTenant<R, K>> {
         let turns = self.entrances.turns_of(number)?;
-        let named = NamedTenant {
-            name: Vec::from_slice(alloc, name)?,
-            number,
-        };
-        let tenant = ServedTenant::new(alloc, named, turns, terms)?;
+        let tenant = ServedTenant::new(alloc, turns, terms, None)?;
         let new = NewTenant {
             name: Vec::from_slice(alloc, name)?,
             tenant: Arc::new(alloc, tenant)?,

@@ -200,7 +200,7 @@ impl<R: Wait + Clock + Copy + Drop, C: TenantCalls> WorkerTurn<'_, '_, R, C> {
         requires { IsStepOf unserved.request.value step }
         ensures request { result.request ≡ unserved.request }
         ensures made { IsMadeAfterTakes C.Key.number_of C.Key.name_of C.gives clients.old.key
-            unserved.request.value.route.tenant.value step result.answer (C.made caller.old.calls) (C.made caller.new.calls) }
+            unserved.request.value.route.tenant step result.answer (C.made caller.old.calls) (C.made caller.new.calls) }
     {
         match step {
             Step::Watch(_) => self.open(caller, clients, unserved, step),
@@ -244,7 +244,7 @@ impl<R: Wait + Clock + Copy + Drop, C: TenantCalls> WorkerTurn<'_, '_, R, C> {
     ) -> JobAnswer<R>
         requires { IsStepOf unserved.request.value step }
         ensures request { result.request ≡ unserved.request }
-        ensures made { IsMade C.Key.number_of C.Key.name_of C.gives unserved.request.value.route.tenant.value step
+        ensures made { IsMade C.Key.number_of C.Key.name_of C.gives unserved.request.value.route.tenant step
             result.answer (C.made caller.old.calls) (C.made caller.new.calls) }
     {
         if clients.watches.reserve(1).is_err() {

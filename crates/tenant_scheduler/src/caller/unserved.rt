@@ -1,8 +1,7 @@
-//! A request from where it comes in to its answer.
+//! A request from when it is handed in to its answer.
 //!
-//! Each request has one `Unanswered`, made where it comes in, which can't be copied. It goes with what is handed in
-//! (`Unserved`), and what it is answered uses it up: the answer of the call that was made for it, or a refusal. So a request is
-//! answered once, and one that was handed in is not refused beside.
+//! What is handed in is made with the request and can't be copied, and its answer uses it up: that of the call that was made
+//! for it, or a refusal. So it is answered once, and who was handed it can't refuse it beside.
 ghost use Rattle.std.specs.Prelude.{◌≡◌, IfOk, IfSome};
 ghost use Rattle.fair_turns.specs.Answers.{Refuses};
 ghost use Rattle.tenant_calls.specs.Answers.{IsUncalled};
@@ -14,29 +13,6 @@ use fair_turns::Answer;
 use std::alloc::Global;
 use std::sync::{Arc, Wait};
 
-/// A request that was not answered yet.
-#[derive(Drop)]
-pub struct Unanswered {
-    /// It is made here alone.
-    sealed: (),
-}
-
-impl Unanswered {
-    /// That of a request which comes in.
-    pub fn new() -> Unanswered {
-        Unanswered { sealed: () }
-    }
-
-    /// The request is refused, and was not handed in.
-    pub fn refused<R: Wait + Drop>(self, alloc: Global, refusal: Refusal) -> Told<R>
-        ensures { Refuses refusal result.answer }
-    {
-        Told {
-            answer: refusal_of(alloc, refusal),
-        }
-    }
-}
-
 /// The answer of a refusal; want of memory takes none.
 fn refusal_of<R: Wait + Drop>(alloc: Global, refusal: Refusal) -> Answer<R>
     ensures { Refuses refusal result }
@@ -47,69 +23,27 @@ fn refusal_of<R: Wait + Drop>(alloc: Global, refusal: Refusal) -> Answer<R>
     }
 }
 
-/// What a request is told, for its response.
-pub struct Told<R: Wait + Drop> {
-    answer: Answer<R>,
-}
-
-impl<R: Wait + Drop> Drop for Told<R> {
-    fn drop(self) {
-        let Told { answer: _ } = self;
-    }
-}
-
-impl<R: Wait + Drop> Told<R> {
-    pub fn answer(&self) -> &Answer<R>
-        ensures { result.now ≡ self.now.answer }
-    {
-        &self.answer
-    }
-
-    pub fn into_answer(self) -> Answer<R>
-        ensures { result ≡ self.answer }
-    {
-        let Told { answer } = self;
-        answer
-    }
-}
-
 /// A request that was handed in, for who serves it.
 #[derive(Drop)]
 pub(crate) struct Unserved {
     request: Arc<Request>,
-    unanswered: Unanswered,
 }
 
 impl Unserved {
-    /// A request, for who waits for its answer and for who serves it. Without memory it is as unanswered as before.
+    /// A request, for who waits for its answer and for who serves it.
     pub(crate) fn new(
         alloc: Global,
-        unanswered: Unanswered,
         route: Route,
         body: RequestBody,
-    ) -> Result<(Arc<Request>, Unserved), Unanswered>
+    ) -> Mem<(Arc<Request>, Unserved)>
         ensures asked { IfOk result (λ it. it.0.value ≡ record { route = route; body = body }) }
         ensures shared { IfOk result (λ it. it.1.request.value ≡ it.0.value) }
     {
-        match Unserved::shared(alloc, Request { route, body }) {
-            Ok((asked, request)) => {
-                let unserved = Unserved {
-                    request,
-                    unanswered,
-                };
-                Ok((asked, unserved))
-            }
-            Err(_) => Err(unanswered),
-        }
-    }
-
-    fn shared(alloc: Global, request: Request) -> Mem<(Arc<Request>, Arc<Request>)>
-        ensures asked { IfOk result (λ it. it.0.value ≡ request) }
-        ensures shared { IfOk result (λ it. it.1.value ≡ it.0.value) }
-    {
-        let asked = Arc::new(alloc, request)?;
-        let request = Arc::try_clone(&asked)?;
-        Ok((asked, request))
+        let request = Arc::new(alloc, Request { route, body })?;
+        let unserved = Unserved {
+            request: Arc::try_clone(&request)?,
+        };
+        Ok((request, unserved))
     }
 
     pub(crate) fn request(&self) -> &Request
@@ -124,10 +58,7 @@ impl Unserved {
         ensures request { result.request ≡ self.request }
         ensures answer { result.answer ≡ answer }
     {
-        let Unserved {
-            request,
-            unanswered: _,
-        } = self;
+        let Unserved { request } = self;
         JobAnswer { request, answer }
     }
 
@@ -167,16 +98,16 @@ impl<R: Wait + Drop> JobAnswer<R> {
         &self.answer
     }
 
-    /// What this request is told, if the answer is its own.
+    /// The answer, if it is that of this request.
     #[tactic(auto, using(crate::proofs::RequestLemmas::of_the_same))]
-    pub(crate) fn of(self, asked: &Request) -> Option<Told<R>>
-        ensures answers { IfSome result (λ told. ∥ IsAnswerOf asked.now told.answer ∥₁) }
-        ensures answer { IfSome result (λ told. told.answer ≡ self.answer) }
+    pub(crate) fn of(self, asked: &Request) -> Option<Answer<R>>
+        ensures answers { IfSome result (λ answer. ∥ IsAnswerOf asked.now answer ∥₁) }
+        ensures answer { IfSome result (λ answer. answer ≡ self.answer) }
         ensures same { IfSome result (λ _. AsksTheSame self.request.value asked.now) }
     {
         let JobAnswer { request, answer } = self;
         if request.is_same(asked) {
-            Some(Told { answer })
+            Some(answer)
         } else {
             None
         }
