@@ -1,9 +1,9 @@
 """Tests of check-server that each call is made once, and answered to who asked it.
 
 Each test is given the program, and raises `Wrong` where something is not as it is wanted. The tenant that is called is the
-second of three; the other two stay as they were. By contract what is handed in is called once. That a request is handed in
-once, and told the answer of its own call, no contract says: so clients ask the same at the same time here, and what they
-are told has to differ.
+second of three; the other two stay as they were. By contract and by type a request is called once and answered once. What
+threads do beside each other no contract says: so clients ask the same at the same time here, and what they are told has
+to differ.
 """
 import json
 from concurrent.futures import ThreadPoolExecutor
@@ -15,8 +15,8 @@ ROUNDS = 8
 TENANT = "two"
 # Over the length up to which an event loop reads a body: a worker reads it.
 LONG = text(b"v" * 9_000)
-# More than a tenant's queue holds.
-BEYOND = 450
+# How many calls wait in a tenant's queue at once.
+WAITING = 450
 # What keeps a worker busy meanwhile, some times: ranges that look at each of so many rows.
 BUSY, ROWS = 8, 1_000
 
@@ -106,16 +106,16 @@ def txn(operations):
     return json.dumps({"success": operations})
 
 
-def calls_beyond_the_queue_are_each_made(program):
-    """While a worker is kept busy more calls come than its tenant's queue holds: the others wait for room."""
-    with three(program, open_connections=BEYOND + BUSY + 8, budget=1 << 28) as server, server.connect() as client:
+def calls_that_wait_are_each_made(program):
+    """While their tenant keeps a worker busy, calls wait in its queue."""
+    with three(program, open_connections=WAITING + BUSY + 8, budget=1 << 28) as server, server.connect() as client:
         for front in range(0, ROWS, 100):
             puts = [{"request_put": {"key": text(b"%05d" % number), "value": "dg=="}} for number in range(front, front + 100)]
             told(client, "kv/txn", {"success": puts})
         look = json.loads("{" + ALL + ',"sort_target":"VALUE","sort_order":"DESCEND","limit":"1"}')
         slow = request(path(TENANT, "kv/txn"), txn([{"request_range": look}] * 30))
         same = request(path(TENANT, "kv/txn"), txn([{"request_put": {"key": text(b"k"), "value": "dg=="}}]))
-        clients = [server.connect() for _ in range(BUSY + BEYOND)]
+        clients = [server.connect() for _ in range(BUSY + WAITING)]
         try:
             for number, asker in enumerate(clients):
                 asker.send(slow if number < BUSY else same)
@@ -126,10 +126,10 @@ def calls_beyond_the_queue_are_each_made(program):
         statuses = {answer.status for answer in answers}
         want(statuses == {200}, f"calls were answered {statuses}")
         made = {json.loads(answer.body)["header"]["revision"] for answer in answers[BUSY:]}
-        want(len(made) == BEYOND, f"{BEYOND} puts were told {len(made)} revisions")
+        want(len(made) == WAITING, f"{WAITING} puts were told {len(made)} revisions")
         row = told(client, "kv/range", {"key": text(b"k")})["kvs"][0]
-        want(row["version"] == str(BEYOND), f"the key has version {row['version']}")
+        want(row["version"] == str(WAITING), f"the key has version {row['version']}")
         others_are_untouched(client)
 
 
-TESTS = [a_call_is_made_once, equal_calls_are_each_made, calls_beyond_the_queue_are_each_made]
+TESTS = [a_call_is_made_once, equal_calls_are_each_made, calls_that_wait_are_each_made]

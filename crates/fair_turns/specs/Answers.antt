@@ -8,7 +8,7 @@ use Rattle.etcd_types.specs.declared.refusal.Refusal.{Refusal}
 use Rattle.etcd_types.specs.declared.refusal.Refusal.TheVariants.{Memory}
 use Rattle.etcd_model.specs.Calls.{read_step}
 use Rattle.etcd_model.specs.ReplyText.{reply_status, reply_body, memory_answer}
-use Rattle.tenant_audit.specs.Receipts.{slot_of, refusal_of}
+use Rattle.tenant_audit.specs.Receipts.{Slip, slot_of, refusal_of}
 use Rattle.tenant_calls.specs.Answers.{IsReply, IsUncalled}
 use Rattle.fair_turns.specs.declared.answer.Answer.{Answer}
 use Rattle.fair_turns.specs.declared.answer.Text.{Text}
@@ -25,6 +25,10 @@ pub record Shows {R : Type 0} (answer : Answer R) (code : ℕ) (bytes : List ℕ
   pub status : answer.status ≡ code
   pub text : bytes_of answer.text ≡ bytes
   pub refusal : answer.refusal ≡ why
+
+-- it has those of a receipt
+abbrev pub Conveys : {R : Type 0} → Answer R → Slip → Type 0
+Conveys answer slip = Shows answer slip.status slip.body slip.refusal
 
 -- it has those of a reply
 abbrev pub Spells : {R : Type 0} → Answer R → Reply → Type 0

@@ -34,4 +34,4 @@ pub use counts::TenantCounts;
 pub use durations::{Durations, ENDS};
 pub use scheduler::{BESIDE_WORKERS, Scheduler, TenantTurns, Turn, Turns, Work};
 pub use stopwatch::Stopwatch;
-pub use watch_texts::{NoRoom, TakenText, TextSender, WatchTexts};
+pub use watch_texts::{NoRoom, ServedWatch, TextRoom, WatchEnds, WatchTexts};

@@ -3,12 +3,14 @@
 //! The next text is taken from the registry only when the client has read the last one, so a client that is slow
 //! holds one text, and one that stops reading holds up nobody. A second place is for the text that is taken right
 //! before a compaction.
+ghost use Rattle.std.specs.Prelude.{◌≡◌, IfOk, IfSome};
+ghost use Rattle.etcd_types.specs.declared.step.Step.TheVariants.{Take};
 ghost use Rattle.futures.specs.Task.{IsArmed, Keeps};
-ghost use Rattle.std.specs.Prelude.{◌≡◌, IfSome};
 ghost use Rattle.futures.specs.Poll.{IfReady, OnPending};
+ghost use Rattle.tenant_calls.specs.Answers.{IsTold};
 ghost use Rattle.fair_turns.specs.Watching.{IsTaken};
 
-use crate::budget::MadeText;
+use crate::budget::{Budget, MadeText};
 use crate::scheduler::TenantTurns;
 use etcd_types::Mem;
 use futures::ready;
@@ -16,6 +18,7 @@ use futures::task::{Context, Poll};
 use std::alloc::{AllocError, Global};
 use std::sync::atomic::{AtomicBool, Ordering};
 use std::sync::{Arc, Wait};
+use tenant_calls::CallReceipt;
 use tokio::sync::mpsc;
 use tokio::sync::mpsc::error::TrySendError;
 
@@ -32,22 +35,49 @@ pub enum NoRoom {
 
 /// A text that was taken of a tenant's watch.
 #[derive(Drop)]
-pub struct TakenText {
-    pub tenant: u64,
-    pub slot: u8,
-    pub text: MadeText,
-    pub ghost is: { ∥ IsTaken tenant slot text.bytes.items ∥₁ },
+struct TakenText {
+    tenant: u64,
+    slot: u8,
+    text: MadeText,
+    ghost is: { ∥ IsTaken tenant slot text.bytes.items ∥₁ },
 }
 
-/// Where the texts of an open watch are put in.
-pub struct TextSender {
+/// Both ends of a watch that was not created yet. They come apart when it is, so each watch has its own.
+pub struct WatchEnds<R: Wait + Drop> {
+    rt: R,
+    sender: mpsc::Sender<TakenText>,
+    receiver: mpsc::Receiver<TakenText>,
+    may_have_more: Arc<AtomicBool>,
+    asked_for_more: Arc<AtomicBool>,
+    turns: Arc<TenantTurns>,
+}
+
+impl<R: Wait + Drop> Drop for WatchEnds<R> {
+    fn drop(self) {
+        let WatchEnds {
+            rt: _,
+            sender: _,
+            receiver: _,
+            may_have_more: _,
+            asked_for_more: _,
+            turns: _,
+        } = self;
+    }
+}
+
+/// A watch whose client is there: where its texts are put in.
+pub struct ServedWatch {
+    tenant: u64,
+    slot: u8,
     texts: mpsc::Sender<TakenText>,
     may_have_more: Arc<AtomicBool>,
 }
 
-impl Drop for TextSender {
+impl Drop for ServedWatch {
     fn drop(self) {
-        let TextSender {
+        let ServedWatch {
+            tenant: _,
+            slot: _,
             texts: _,
             may_have_more: _,
         } = self;
@@ -57,7 +87,6 @@ impl Drop for TextSender {
 /// The texts of an open watch, for its client. Letting go of them ends the watch.
 pub struct WatchTexts<R: Wait + Drop> {
     rt: R,
-    /// The tenant and slot of the watch, once it was created.
     tenant: u64,
     slot: u8,
     texts: mpsc::Receiver<TakenText>,
@@ -65,28 +94,73 @@ pub struct WatchTexts<R: Wait + Drop> {
     turns: Arc<TenantTurns>,
 }
 
-impl TextSender {
-    /// The two ends for a watch of a tenant.
-    pub fn new<R: Wait + Drop>(
-        rt: R,
-        alloc: Global,
-        turns: &Arc<TenantTurns>,
-    ) -> Mem<(TextSender, WatchTexts<R>)> {
-        let (to, texts) = mpsc::channel(alloc, ROOM)?;
+/// Room for one text of a watch.
+#[derive(Drop)]
+pub struct TextRoom<'a> {
+    tenant: u64,
+    slot: u8,
+    permit: mpsc::Permit<'a, TakenText>,
+}
+
+impl<R: Wait + Drop> WatchEnds<R> {
+    /// Those for a watch of a tenant.
+    pub fn new(rt: R, alloc: Global, turns: &Arc<TenantTurns>) -> Mem<WatchEnds<R>> {
+        let (sender, receiver) = mpsc::channel(alloc, ROOM)?;
         let may_have_more = Arc::new(alloc, AtomicBool::new(false))?;
-        let sender = TextSender {
-            texts: to,
-            may_have_more: Arc::try_clone(&may_have_more)?,
+        Ok(WatchEnds {
+            rt,
+            sender,
+            receiver,
+            asked_for_more: Arc::try_clone(&may_have_more)?,
+            may_have_more,
+            turns: Arc::try_clone(turns)?,
+        })
+    }
+
+    /// The watch was created, in this slot of that tenant.
+    pub fn open(self, tenant: u64, slot: u8) -> (ServedWatch, WatchTexts<R>)
+        ensures served { (result.0.tenant ≡ tenant) × (result.0.slot ≡ slot) }
+        ensures texts { (result.1.tenant ≡ tenant) × (result.1.slot ≡ slot) }
+    {
+        let WatchEnds {
+            rt,
+            sender,
+            receiver,
+            may_have_more,
+            asked_for_more,
+            turns,
+        } = self;
+        let served = ServedWatch {
+            tenant,
+            slot,
+            texts: sender,
+            may_have_more,
         };
         let texts = WatchTexts {
             rt,
-            tenant: 0,
-            slot: 0,
-            texts,
-            may_have_more,
-            turns: Arc::try_clone(turns)?,
+            tenant,
+            slot,
+            texts: receiver,
+            may_have_more: asked_for_more,
+            turns,
         };
-        Ok((sender, texts))
+        (served, texts)
+    }
+}
+
+impl ServedWatch {
+    /// The number of its tenant.
+    pub fn tenant(&self) -> u64
+        ensures { result ≡ self.now.tenant }
+    {
+        self.tenant
+    }
+
+    /// Its slot.
+    pub fn slot(&self) -> u8
+        ensures { result ≡ self.now.slot }
+    {
+        self.slot
     }
 
     /// The client has read all that it was told.
@@ -94,10 +168,17 @@ impl TextSender {
         self.texts.capacity() >= ROOM
     }
 
-    /// A right to put one text in.
-    pub fn permit(&self) -> Result<mpsc::Permit<'_, TakenText>, NoRoom> {
+    /// Room for its next text.
+    pub fn room(&self) -> Result<TextRoom<'_>, NoRoom>
+        ensures tenant { IfOk result (λ room. room.tenant ≡ self.now.tenant) }
+        ensures slot { IfOk result (λ room. room.slot ≡ self.now.slot) }
+    {
         match self.texts.try_reserve() {
-            Ok(permit) => Ok(permit),
+            Ok(permit) => Ok(TextRoom {
+                tenant: self.tenant,
+                slot: self.slot,
+                permit,
+            }),
             Err(TrySendError::OutOfMemory(())) => Err(NoRoom::Memory),
             Err(_) => Err(NoRoom::Unread),
         }
@@ -116,16 +197,26 @@ impl TextSender {
     }
 }
 
-impl<R: Wait + Drop> WatchTexts<R> {
-    /// The watch was created: they are those of this slot of that tenant.
-    pub fn belong_to(&mut self, tenant: u64, slot: u8)
-        ensures tenant { self.new.tenant ≡ tenant }
-        ensures slot { self.new.slot ≡ slot }
+impl TextRoom<'_> {
+    /// Puts in the text of the receipt that a take of the watch's slot got, with its share of the tenant's budget: how many
+    /// bytes it has.
+    #[tactic(auto, using(crate::proofs::AnswerLemmas::taken))]
+    pub fn put<T: CallReceipt>(self, receipt: T, budget: &Budget) -> usize
+        requires { IsTold self.tenant (Take self.slot) (T.slip_of receipt) }
     {
-        self.tenant = tenant;
-        self.slot = slot;
+        let TextRoom {
+            tenant,
+            slot,
+            permit,
+        } = self;
+        let text = budget.charge(None, receipt.into_body());
+        let length = text.len();
+        permit.send(TakenText { tenant, slot, text });
+        length
     }
+}
 
+impl<R: Wait + Drop> WatchTexts<R> {
     /// The next text, or the end of the watch.
     pub fn poll_text(&mut self, cx: &mut Context<'_>) -> Poll<Option<MadeText>>
         ensures taken { IfReady result (λ told. IfSome told (λ text.

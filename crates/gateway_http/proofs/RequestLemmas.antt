@@ -9,9 +9,10 @@ use Rattle.http.specs.declared.response.Response.{Response}
 use Rattle.fair_turns.specs.declared.answer.Answer.{Answer}
 use Rattle.fair_turns.specs.Answers.{Answers, Unasked, Refuses}
 use Rattle.tenant_scheduler.specs.declared.request.Route.{Route}
+use Rattle.tenant_scheduler.specs.declared.caller.unserved.Told.{Told}
 use Rattle.tenant_scheduler.specs.declared.pending.Begun.{Begun}
 use Rattle.tenant_scheduler.specs.declared.pending.Begun.TheVariants.{Pending, Answered}
-use Rattle.tenant_scheduler.specs.declared.pending.PendingCall.{PendingCall}
+use Rattle.tenant_scheduler.specs.declared.caller.unserved.PendingCall.{PendingCall}
 use Rattle.tenant_scheduler.specs.Begins.{IsBegun}
 use Rattle.tenant_scheduler.specs.Requests.{IsAnswerOf}
 use Rattle.gateway_http.specs.declared.exchange.Stage.{Stage}
@@ -27,27 +28,27 @@ use Rattle.gateway_http.specs.Responses.{Sends}
 -- ---- beginning
 
 -- its head is refused
-pub refused_head : {R : Type 0} (given : Result Route Refusal) (lost : Option Loss) (body : List ℕ) (r : Refusal) (a : Answer R) → given ≡ Err r → Refuses r a → IsTakenUp given lost body (Answered a)
+pub refused_head : {R : Type 0} (given : Result Route Refusal) (lost : Option Loss) (body : List ℕ) (r : Refusal) (a : Told R) → given ≡ Err r → Refuses r a.answer → IsTakenUp given lost body (Answered a)
 refused_head given lost body r a head told = subst (λ h. IsTakenUp h lost body (Answered a)) (sym head) told
 
 -- its body was thrown away
-pub refused_body : {R : Type 0} (given : Result Route Refusal) (lost : Option Loss) (body : List ℕ) (route : Route) (loss : Loss) (a : Answer R) → given ≡ Ok route → lost ≡ Some loss → Refuses (loss_told loss) a → IsTakenUp given lost body (Answered a)
+pub refused_body : {R : Type 0} (given : Result Route Refusal) (lost : Option Loss) (body : List ℕ) (route : Route) (loss : Loss) (a : Told R) → given ≡ Ok route → lost ≡ Some loss → Refuses (loss_told loss) a.answer → IsTakenUp given lost body (Answered a)
 refused_body given lost body route loss a head gone told = subst (λ h. IsTakenUp h lost body (Answered a)) (sym head) (subst (λ o. IsTakenUp (Ok route) o body (Answered a)) (sym gone) told)
 
 pub begun : {R : Type 0} (given : Result Route Refusal) (lost : Option Loss) (body : List ℕ) (route : Route) (b : Begun R) → given ≡ Ok route → lost ≡ None → IsBegun b route body → IsTakenUp given lost body b
 begun given lost body route b head whole is = subst (λ h. IsTakenUp h lost body b) (sym head) (subst (λ o. IsTakenUp (Ok route) o body b) (sym whole) is)
 
 -- there was no memory to share where calls go in
-pub without_jobs : {R : Type 0} (given : Result Route Refusal) (lost : Option Loss) (body : List ℕ) (route : Route) (a : Answer R) → given ≡ Ok route → lost ≡ None → Refuses Memory a → IsTakenUp given lost body (Answered a)
-without_jobs given lost body route a head whole told = begun given lost body route (Answered a) head whole (merely (Unasked Memory (false, refl) told))
+pub without_jobs : {R : Type 0} (given : Result Route Refusal) (lost : Option Loss) (body : List ℕ) (route : Route) (a : Told R) → given ≡ Ok route → lost ≡ None → Refuses Memory a.answer → IsTakenUp given lost body (Answered a)
+without_jobs given lost body route a head whole told = begun given lost body route (Answered a) head whole told
 
 -- ---- answers
 
 -- what is taken up with an answer, once it was read, is answered so from before on
-at_once : {I R : Type 0} (old : Reading I R) (given : Result Route Refusal) (lost : Option Loss) (body : List ℕ) (a : Answer R) → given ≡ old.route → (lost ≡ None → IsOk given → (old.lost ≡ None) × IsBodyOf old.body old.read.items body) → IsTakenUp given lost body (Answered a) → ∥ IsReadingAnswer old a ∥₁
-at_once old (Err r) lost body a same kept is = merely (subst (λ h. IsAnswerTo old h a) same is)
-at_once old (Ok route) (Some loss) body a same kept is = merely (subst (λ h. IsAnswerTo old h a) same (Lost loss is))
-at_once old (Ok route) None body a same kept is = let k = kept refl refl in ∥∥₁_map is (λ told. subst (λ h. IsAnswerTo old h a) same (Whole body k.0 k.1 told))
+at_once : {I R : Type 0} (old : Reading I R) (given : Result Route Refusal) (lost : Option Loss) (body : List ℕ) (a : Told R) → given ≡ old.route → (lost ≡ None → IsOk given → (old.lost ≡ None) × IsBodyOf old.body old.read.items body) → IsTakenUp given lost body (Answered a) → ∥ IsReadingAnswer old a.answer ∥₁
+at_once old (Err r) lost body a same kept is = merely (subst (λ h. IsAnswerTo old h a.answer) same is)
+at_once old (Ok route) (Some loss) body a same kept is = merely (subst (λ h. IsAnswerTo old h a.answer) same (Lost loss is))
+at_once old (Ok route) None body a same kept is = let k = kept refl refl in merely (subst (λ h. IsAnswerTo old h a.answer) same (Whole body k.0 k.1 (Unasked Memory (false, refl) is)))
 
 -- and so is what waits, later
 later : {I R : Type 0} (old : Reading I R) (given : Result Route Refusal) (lost : Option Loss) (body : List ℕ) (call : PendingCall R) (a : Answer R) → given ≡ old.route → (lost ≡ None → IsOk given → (old.lost ≡ None) × IsBodyOf old.body old.read.items body) → IsTakenUp given lost body (Pending call) → IsAnswerOf call.request.value a → IsReadingAnswer old a
@@ -55,20 +56,20 @@ later old (Err r) lost body call a same kept waits is = elim waits [ ]
 later old (Ok route) (Some loss) body call a same kept waits is = elim waits [ ]
 later old (Ok route) None body call a same kept waits is =
     let k = kept refl refl in
-    let told = subst (λ r. Answers r.tenant r.call body a) waits.route_is (subst (λ b. Answers call.request.value.route.tenant call.request.value.route.call b a) waits.body_is is)
+    let told = subst (λ r. Answers r.tenant.value.number r.call body a) waits.route_is (subst (λ b. Answers call.request.value.route.tenant.value.number call.request.value.route.call b a) waits.body_is is)
     in subst (λ h. IsAnswerTo old h a) same (Whole body k.0 k.1 told)
 
-pub answered_at_once : {I R : Type 0} (old now : Reading I R) (a : Answer R) → IsWhole old now → IsTakenUp now.route now.lost now.read.items (Answered a) → ∥ IsReadingAnswer old a ∥₁
+pub answered_at_once : {I R : Type 0} (old now : Reading I R) (a : Told R) → IsWhole old now → IsTakenUp now.route now.lost now.read.items (Answered a) → ∥ IsReadingAnswer old a.answer ∥₁
 answered_at_once old now a whole is = at_once old now.route now.lost now.read.items a whole.0 whole.1 is
 
 pub answered_later : {I R : Type 0} (old now : Reading I R) (call : PendingCall R) → IsWhole old now → IsTakenUp now.route now.lost now.read.items (Pending call) → (a : Answer R) → ∥ IsAnswerOf call.request.value a ∥₁ → ∥ IsReadingAnswer old a ∥₁
 answered_later old now call whole waits a is = ∥∥₁_map is (λ told. later old now.route now.lost now.read.items call a whole.0 whole.1 waits told)
 
-pub taken_answered : {I R : Type 0} (old now : Reading I R) (told : Option (Answer R)) (new : Stage I R) → IsWhole old now → TakesUp (stage.Reading now) told new → IfSome told (λ a. ∥ IsReadingAnswer old a ∥₁)
+pub taken_answered : {I R : Type 0} (old now : Reading I R) (told : Option (Told R)) (new : Stage I R) → IsWhole old now → TakesUp (stage.Reading now) told new → IfSome told (λ a. ∥ IsReadingAnswer old a.answer ∥₁)
 taken_answered old now (Some a) new whole is = answered_at_once old now a whole is.0
 taken_answered old now None new whole is = tt
 
-pub taken_on : {I R : Type 0} (old now : Reading I R) (told : Option (Answer R)) (new : Stage I R) → IsWhole old now → TakesUp (stage.Reading now) told new → GoesOn (stage.Reading old) new
+pub taken_on : {I R : Type 0} (old now : Reading I R) (told : Option (Told R)) (new : Stage I R) → IsWhole old now → TakesUp (stage.Reading now) told new → GoesOn (stage.Reading old) new
 taken_on old now (Some a) new whole is = λ answer may. elim (subst (λ s. IsStageAnswer s answer) is.1 may) [ ]
 taken_on old now None (stage.Pending call) whole is = answered_later old now call whole is
 taken_on old now None (stage.Reading reading) whole is = elim is [ ]

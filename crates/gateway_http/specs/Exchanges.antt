@@ -7,6 +7,7 @@ use Rattle.http.specs.declared.response.Response.{Response}
 use Rattle.http.specs.Request.{head_of, body_of}
 use Rattle.http_uri.specs.Uri.{uri_path}
 use Rattle.fair_turns.specs.declared.answer.Answer.{Answer}
+use Rattle.tenant_scheduler.specs.declared.caller.unserved.Told.{Told}
 use Rattle.tenant_scheduler.specs.declared.pending.Begun.TheVariants.{Pending, Answered}
 use Rattle.tenant_scheduler.specs.Requests.{IsAnswerOf}
 use Rattle.gateway_http.specs.declared.exchange.Stage.{Stage}
@@ -29,12 +30,12 @@ Exchanges request (stage.Reading reading) = Begins request reading
 Exchanges request stage = ⊥
 
 -- a request that was read is taken up: it has an answer, or goes on as what waits for one
-abbrev pub TakesUp : {I R : Type 0} → Stage I R → Option (Answer R) → Stage I R → Type 0
-TakesUp (stage.Reading reading) (Some answer) new =
-    IsTakenUp reading.route reading.lost reading.read.items (Answered answer) × (new ≡ stage.Over)
+abbrev pub TakesUp : {I R : Type 0} → Stage I R → Option (Told R) → Stage I R → Type 0
+TakesUp (stage.Reading reading) (Some told) new =
+    IsTakenUp reading.route reading.lost reading.read.items (Answered told) × (new ≡ stage.Over)
 TakesUp (stage.Reading reading) None (stage.Pending call) = IsTakenUp reading.route reading.lost reading.read.items (Pending call)
 TakesUp (stage.Reading reading) None new = ⊥
-TakesUp old answer new = (answer ≡ None) × (new ≡ stage.Over)
+TakesUp old told new = (told ≡ None) × (new ≡ stage.Over)
 
 -- what an exchange may answer from here on
 abbrev pub IsStageAnswer : {I R : Type 0} → Stage I R → Answer R → Type 0

@@ -75,7 +75,7 @@ IsLost old new = (new.route ≡ old.route) × (new.body ≡ old.body) × (new.lo
 -- a request that has a route is answered: since its body was thrown away, or by its body
 pub data IsRoutedAnswer {I R : Type 0} (reading : Reading I R) (route : Route) (answer : Answer R) : Type 0 where
   Lost : (loss : Loss) → Refuses (loss_told loss) answer → IsRoutedAnswer reading route answer
-  Whole : (body : List ℕ) → reading.lost ≡ None → IsBodyOf reading.body reading.read.items body → Answers route.tenant route.call body answer
+  Whole : (body : List ℕ) → reading.lost ≡ None → IsBodyOf reading.body reading.read.items body → Answers route.tenant.value.number route.call body answer
       → IsRoutedAnswer reading route answer
 
 abbrev pub IsAnswerTo : {I R : Type 0} → Reading I R → Result Route Refusal → Answer R → Type 0

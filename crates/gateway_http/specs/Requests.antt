@@ -12,23 +12,24 @@ use Rattle.tenant_scheduler.specs.Begins.{IsBegun}
 use Rattle.gateway_http.specs.declared.reading.Loss.{Loss}
 use Rattle.gateway_http.specs.declared.reading.Loss.TheVariants as loss
 
--- a target names a call
-pub record Names (target : List ℕ) (call : Call) : Type 0 where
+-- a target names a tenant and a call
+pub record Names (target : List ℕ) (tenant : List ℕ) (call : Call) : Type 0 where
   pub place : Target
   pub found : target_of target ≡ Some place
+  pub whose : place.tenant ≡ tenant
   pub named : call_of place.path ≡ Some call
 
 -- why a request has no route: it names no call, or one on a tenant that is not there, or is no POST; or there is no memory
 abbrev pub IsUnrouted : List ℕ → List ℕ → Refusal → Type 0
-IsUnrouted method target refusal.NoPath = (call : Call) → Names target call → ⊥
-IsUnrouted method target refusal.NoTenant = (call : Call) × Names target call
-IsUnrouted method target refusal.NotPost = ((call : Call) × Names target call) × (method ≢ codes "POST")
+IsUnrouted method target refusal.NoPath = (tenant : List ℕ) → (call : Call) → Names target tenant call → ⊥
+IsUnrouted method target refusal.NoTenant = (tenant : List ℕ) × (call : Call) × Names target tenant call
+IsUnrouted method target refusal.NotPost = ((tenant : List ℕ) × (call : Call) × Names target tenant call) × (method ≢ codes "POST")
 IsUnrouted method target refusal.Memory = ⊤
 IsUnrouted method target r = ⊥
 
--- the route of a request by this method and target is to the call that it names, or why it has none
+-- the route of a request by this method and target is to the tenant and the call that it names, or why it has none
 abbrev pub IsRouteOf : List ℕ → List ℕ → Result Route Refusal → Type 0
-IsRouteOf method target (Ok route) = Names target route.call × (method ≡ codes "POST")
+IsRouteOf method target (Ok route) = Names target route.tenant.value.name.items route.call × (method ≡ codes "POST")
 IsRouteOf method target (Err r) = IsUnrouted method target r
 
 -- why a body is thrown away
@@ -39,7 +40,7 @@ loss_told loss.NoMemory = refusal.Memory
 
 -- it is refused at once
 abbrev pub IsRefused : {R : Type 0} → Refusal → Begun R → Type 0
-IsRefused r (Answered answer) = Refuses r answer
+IsRefused r (Answered told) = Refuses r told.answer
 IsRefused r (Pending call) = ⊥
 
 -- its head is refused, or its body was thrown away; or its call begins, by its body

@@ -15,7 +15,7 @@ use crate::stall::{BodyTimer, Stall};
 use connection_table::{Requests, UnderWay};
 use etcd_types::Refusal;
 use etcd_types::limits::MAX_BODY;
-use fair_turns::{Answer, BodyShare};
+use fair_turns::BodyShare;
 use futures::task::{Context, Poll};
 use futures::{Future, ready};
 use http_body_util::Limited;
@@ -27,7 +27,7 @@ use std::mem;
 use std::rt::Clock;
 use std::sync::Wait;
 use std::time::Duration;
-use tenant_scheduler::{Begun, Jobs, PendingCall, Route};
+use tenant_scheduler::{Begun, Jobs, PendingCall, Route, Told, Unanswered};
 use tokio::time;
 
 /// Begins an exchange for each request of a connection.
@@ -117,7 +117,7 @@ impl<I: Drop, R: Wait + Clock + Copy + Drop> Service<Request<Incoming<I>>> for G
         let bound = bound_of(req.body());
         let lost = loss_of(req.headers(), bound);
         let share = match (&jobs, &route, lost) {
-            (Some(jobs), Ok(route), None) => { jobs.body_share(&self.rt, route.tenant, bound) }
+            (Some(jobs), Ok(route), None) => { jobs.body_share(&self.rt, &*route.tenant, bound) }
             _ => BodyShare::None,
         };
         Exchange {
@@ -126,6 +126,7 @@ impl<I: Drop, R: Wait + Clock + Copy + Drop> Service<Request<Incoming<I>>> for G
             jobs,
             standing,
             stage: Stage::Reading(Reading {
+                unanswered: Unanswered::new(),
                 route,
                 body: Limited::new(req.into_body(), MAX_BODY),
                 read: Vec::new(self.alloc),
@@ -160,7 +161,7 @@ impl<R: Wait + Clock + Copy + Drop> Gateway<R> {
         let Some(requests) = &self.requests else {
             return (Ok(route), Standing::Free);
         };
-        match requests.begin(route.tenant) {
+        match requests.begin(route.tenant.number()) {
             Some(under_way) => (Ok(route), Standing::Owned(under_way)),
             None => (Err(Refusal::Memory), Standing::OneTooMany),
         }
@@ -185,32 +186,32 @@ impl<I: Drop, R: Wait + Clock + Copy + Drop> Future for Exchange<I, R> {
         &mut self,
         cx: &mut Context<'_>,
     ) -> Poll<Result<Response<ResponseBody<R>>, hyper::Error>> {
-        match ready!(self.poll_answer(cx)) {
-            Ok(answer) => Poll::Ready(self.respond(answer)),
+        match ready!(self.poll_told(cx)) {
+            Ok(told) => Poll::Ready(self.respond(told)),
             Err(e) => Poll::Ready(Err(e)),
         }
     }
 }
 
 impl<I: Drop, R: Wait + Clock + Copy + Drop> Exchange<I, R> {
-    /// The answer. It fails where the peer breaks off, or the server ends.
-    fn poll_answer(&mut self, cx: &mut Context<'_>) -> Poll<Result<Answer<R>, hyper::Error>>
-        ensures answered { IfReady result (λ told. IfOk told (λ answer. IsStageAnswer self.old.stage answer)) }
+    /// What the request is told. It fails where the peer breaks off, or the server ends.
+    fn poll_told(&mut self, cx: &mut Context<'_>) -> Poll<Result<Told<R>, hyper::Error>>
+        ensures answered { IfReady result (λ it. IfOk it (λ told. IsStageAnswer self.old.stage told.answer)) }
         ensures goes_on { GoesOn self.old.stage self.new.stage }
         ensures registered { OnPending result (IsArmed cx.new) }
         ensures kept { Keeps cx.old cx.new }
     {
         match ready!(self.poll_begun(cx)) {
             Ok(None) => self.poll_served(cx),
-            Ok(Some(answer)) => Poll::Ready(Ok(answer)),
+            Ok(Some(told)) => Poll::Ready(Ok(told)),
             Err(e) => Poll::Ready(Err(e)),
         }
     }
 
-    /// Ready once the call has begun; with its answer, if there is one already.
-    fn poll_begun(&mut self, cx: &mut Context<'_>) -> Poll<Result<Option<Answer<R>>, hyper::Error>>
-        ensures answered { IfReady result (λ told. IfOk told (λ begun.
-            IfSome begun (λ answer. IsStageAnswer self.old.stage answer))) }
+    /// Ready once the call has begun; with what the request is told, if that is known already.
+    fn poll_begun(&mut self, cx: &mut Context<'_>) -> Poll<Result<Option<Told<R>>, hyper::Error>>
+        ensures answered { IfReady result (λ it. IfOk it (λ begun.
+            IfSome begun (λ told. IsStageAnswer self.old.stage told.answer))) }
         ensures goes_on { GoesOn self.old.stage self.new.stage }
         ensures registered { OnPending result (IsArmed cx.new) }
         ensures kept { Keeps cx.old cx.new }
@@ -227,44 +228,41 @@ impl<I: Drop, R: Wait + Clock + Copy + Drop> Exchange<I, R> {
         }
     }
 
-    /// The answer of a call that waits.
-    fn poll_served(&mut self, cx: &mut Context<'_>) -> Poll<Result<Answer<R>, hyper::Error>>
-        ensures answered { IfReady result (λ told. IfOk told (λ answer. IsStageAnswer self.old.stage answer)) }
+    /// What a call that waits is told.
+    fn poll_served(&mut self, cx: &mut Context<'_>) -> Poll<Result<Told<R>, hyper::Error>>
+        ensures answered { IfReady result (λ it. IfOk it (λ told. IsStageAnswer self.old.stage told.answer)) }
         ensures goes_on { GoesOn self.old.stage self.new.stage }
         ensures registered { OnPending result (IsArmed cx.new) }
         ensures kept { Keeps cx.old cx.new }
     {
-        let Some(jobs) = &self.jobs else {
-            return Poll::Ready(Err(hyper::Error::from(AllocError)));
-        };
         let Stage::Pending(call) = &mut self.stage else {
             return Poll::Ready(Err(hyper::Error::from(AllocError)));
         };
-        match ready!(call.poll_answer(jobs, cx)) {
-            Some(answer) => Poll::Ready(Ok(answer)),
+        match ready!(call.poll_told(cx)) {
+            Some(told) => Poll::Ready(Ok(told)),
             None => Poll::Ready(Err(hyper::Error::from(AllocError))),
         }
     }
 
-    fn respond(&mut self, answer: Answer<R>) -> Result<Response<ResponseBody<R>>, hyper::Error>
-        ensures { IfOk result (λ response. Sends response answer) }
+    fn respond(&mut self, told: Told<R>) -> Result<Response<ResponseBody<R>>, hyper::Error>
+        ensures { IfOk result (λ response. Sends response told.answer) }
     {
         respond(
             self.alloc,
-            answer,
+            told,
             mem::replace(&mut self.standing, Standing::Free),
         )
     }
 
-    /// Begins the call of a request that was read; its answer, if there is one already.
-    fn begin(&mut self) -> Option<Answer<R>>
+    /// Begins the call of a request that was read; what it is told, if that is known already.
+    fn begin(&mut self) -> Option<Told<R>>
         ensures { TakesUp self.old.stage result self.new.stage }
     {
         let Stage::Reading(reading) = mem::replace(&mut self.stage, Stage::Over) else {
             return None;
         };
         match reading.begin(self.rt, self.alloc, &self.jobs) {
-            Begun::Answered(answer) => Some(answer),
+            Begun::Answered(told) => Some(told),
             Begun::Pending(call) => {
                 self.stage = Stage::Pending(call);
                 None

@@ -2,8 +2,8 @@
 //!
 //! 1. Hyper reads a head, and `Gateway::call` begins an `Exchange` (`exchange`). `route` says which call it is, of which
 //!    tenant (`routing`), whose the connection is from then on. The body is read (`reading`), whether the request is to be
-//!    refused or not; one that stops coming ends its connection (`stall`).
-//! 2. `PendingCall::begin` hands the call to the scheduler, and the exchange waits for its answer, which `respond` makes a
+//!    refused or not; one that stops coming ends its connection (`stall`). What it is told uses up its `Unanswered`.
+//! 2. `Begun::new` hands the call to the scheduler, and the exchange waits for its answer, which `respond` makes a
 //!    response (`response`). The body of a watch's response goes on with the texts of its watch.
 //! 3. `Http::connect` makes the connection that does all this, for whoever polls it (`connection`).
 //!

@@ -3,7 +3,6 @@ ghost use Rattle.std.specs.Prelude.{◌≡◌, []};
 ghost use Rattle.futures.specs.Task.{IsArmed, Keeps};
 ghost use Rattle.futures.specs.Poll.{OnPending};
 ghost use Rattle.http_body.specs.Frame.{bytes_in};
-ghost use Rattle.fair_turns.specs.Answers.{Refuses};
 ghost use Rattle.gateway_http.specs.Readings.{IsKept, IsLost, ReadsOn, ReadsWhole};
 ghost use Rattle.gateway_http.specs.Requests.{IsTakenUp, loss_told};
 
@@ -11,7 +10,7 @@ use crate::stall::Stall;
 use bytes::Bytes;
 use etcd_types::Refusal;
 use etcd_types::limits::MAX_BODY;
-use fair_turns::{Answer, BodyShare};
+use fair_turns::BodyShare;
 use futures::ready;
 use futures::task::{Context, Poll};
 use http_body_util::{Limited, LimitedError};
@@ -21,7 +20,7 @@ use std::alloc::{AllocError, Global};
 use std::mem;
 use std::rt::Clock;
 use std::sync::Wait;
-use tenant_scheduler::{Begun, Jobs, PendingCall, RequestBody, Route};
+use tenant_scheduler::{Begun, Jobs, RequestBody, Route, Unanswered};
 
 /// How many pieces of a body are read in one poll.
 const PIECES_A_POLL: usize = 128;
@@ -37,6 +36,7 @@ const MAX_PASSED: u32 = 4096;
 /// A request whose body is being read.
 #[derive(Drop)]
 pub(crate) struct Reading<I, R: Wait + Drop> {
+    pub(crate) unanswered: Unanswered,
     pub(crate) route: Result<Route, Refusal>,
     pub(crate) body: Limited<Incoming<I>>,
     pub(crate) read: Vec<u8>,
@@ -198,6 +198,7 @@ impl<I: Drop, R: Wait + Clock + Copy + Drop> Reading<I, R> {
         ensures { IsTakenUp self.route self.lost self.read.items result }
     {
         let Reading {
+            unanswered,
             route,
             body: _,
             read,
@@ -210,34 +211,21 @@ impl<I: Drop, R: Wait + Clock + Copy + Drop> Reading<I, R> {
         } = self;
         let route = match route {
             Ok(route) => route,
-            Err(refusal) => return Begun::Answered(Answer::refused(alloc, refusal)),
+            Err(refusal) => return Begun::Answered(unanswered.refused(alloc, refusal)),
         };
         if let Some(loss) = lost {
-            return Begun::Answered(refuse(rt, alloc, jobs, route, read.len(), loss.refusal()));
+            let refusal = loss.refusal();
+            return Begun::Answered(match jobs {
+                Some(jobs) => { jobs.refused(&rt, alloc, unanswered, &route, read.len(), refusal) }
+                None => unanswered.refused(alloc, refusal),
+            });
         }
         let Some(jobs) = jobs else {
-            return Begun::Answered(Answer::no_memory());
+            return Begun::Answered(unanswered.refused(alloc, Refusal::Memory));
         };
         let share = share.for_body(read.len());
         let body = RequestBody { bytes: read, share };
-        PendingCall::begin(rt, alloc, jobs, route, body)
-    }
-}
-
-/// The answer of a request that has a route, and is refused; the call is counted, if there was memory for its jobs.
-fn refuse<R: Wait + Drop>(
-    rt: R,
-    alloc: Global,
-    jobs: &Option<Jobs<R>>,
-    route: Route,
-    length: usize,
-    refusal: Refusal,
-) -> Answer<R>
-    ensures { Refuses refusal result }
-{
-    match jobs {
-        Some(jobs) => jobs.refused(&rt, alloc, route, length, refusal),
-        None => Answer::refused(alloc, refusal),
+        Begun::new(&rt, alloc, jobs, unanswered, route, body)
     }
 }
 

@@ -1,14 +1,15 @@
 //! An answer as HTTP sends it.
-ghost use Rattle.std.specs.Prelude.{◌≡◌, ◌++◌, IfOk, Some};
+ghost use Rattle.std.specs.Prelude.{◌≡◌, ◌++◌, IfOk, OnOk, Some};
 ghost use Rattle.futures.specs.Task.{IsArmed, Keeps};
 ghost use Rattle.futures.specs.Poll.{IfReady, OnPending};
+ghost use Rattle.http_header.specs.HeaderMap.{insert};
 ghost use Rattle.fair_turns.specs.Answers.{bytes_of};
 ghost use Rattle.gateway_http.specs.Bodies.{GivesNext, bytes_left, run_of, text_of, watch_of};
 ghost use Rattle.gateway_http.specs.Responses.{Sends};
 
 use crate::exchange::Standing;
 use bytes::Bytes;
-use fair_turns::{Answer, MadeText, Share, Text, WatchTexts};
+use fair_turns::{MadeText, Share, Text, WatchTexts};
 use futures::ready;
 use futures::task::{Context, Poll};
 use gateway_text::memory_text;
@@ -18,6 +19,7 @@ use hyper::{Response, StatusCode};
 use std::alloc::{AllocError, Global};
 use std::rt::Clock;
 use std::sync::Wait;
+use tenant_scheduler::Told;
 
 /// How many bytes of an answer are handed to the connection at once, which copies them. So a long text is held here,
 /// with its share of the tenant's budget, until the last piece of it is taken.
@@ -61,15 +63,16 @@ struct Sending {
     share: Share,
 }
 
-/// The response of an answer, with its kind of text; behind that of a connection too many the connection ends. A text
+/// The response to what a request is told, with its kind of text; behind that of a connection too many the connection ends. A text
 /// that can't be shared ends it too: its call stays made.
 pub(crate) fn respond<R: Wait + Clock + Drop>(
     alloc: Global,
-    answer: Answer<R>,
+    told: Told<R>,
     standing: Standing<R>,
 ) -> Result<Response<ResponseBody<R>>, hyper::Error>
-    ensures { IfOk result (λ response. Sends response answer) }
+    ensures { IfOk result (λ response. Sends response told.answer) }
 {
+    let answer = told.into_answer();
     // No answer has another status than one of HTTP.
     let Ok(status) = StatusCode::from_u16(answer.status()) else {
         return Err(hyper::Error::from(AllocError));
@@ -87,7 +90,9 @@ pub(crate) fn respond<R: Wait + Clock + Drop>(
     Ok(response)
 }
 
-fn set(headers: &mut HeaderMap, name: HeaderName, value: HeaderValue) -> Result<(), AllocError> {
+fn set(headers: &mut HeaderMap, name: HeaderName, value: HeaderValue) -> Result<(), AllocError>
+    ensures { OnOk result (headers.new ≡ insert headers.old name value) }
+{
     match headers.insert(name, value) {
         Ok(_) => Ok(()),
         Err(_) => Err(AllocError),

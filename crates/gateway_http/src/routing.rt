@@ -21,7 +21,10 @@ pub(crate) fn route<R: Wait + Drop>(
     let Some(call) = call_of(target.path) else {
         return Err(Refusal::NoPath);
     };
-    let Some(tenant) = jobs.tenant(rt, target.tenant) else {
+    let Ok(found) = jobs.tenant(rt, target.tenant) else {
+        return Err(Refusal::Memory);
+    };
+    let Some(tenant) = found else {
         return Err(Refusal::NoTenant);
     };
     if method != b"POST".as_slice() {

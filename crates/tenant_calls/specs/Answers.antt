@@ -9,8 +9,7 @@ use Rattle.etcd_model.specs.declared.state.State.{State}
 use Rattle.etcd_model.specs.Machine.{machine}
 use Rattle.etcd_model.specs.ReplyText.{reply_status, reply_body}
 use Rattle.tenant_audit.specs.Audits.{LeadsTo, Log}
-use Rattle.tenant_audit.specs.Receipts.{slot_of, is_cancel, refusal_of}
-use Rattle.tenant_calls.specs.declared.receipt.CallReceipt.{CallReceipt}
+use Rattle.tenant_audit.specs.Receipts.{Slip, slot_of, is_cancel, refusal_of}
 
 -- the written machine's reply to a step, in a state to which some acts have led from an opening of that number; which acts
 -- these were is known of audits, and whose tenant was called, of counts
@@ -22,18 +21,18 @@ pub record IsReply (number : ℕ) (step : Step) (reply : Reply) : Type 0 where
   pub is : reply ≡ (machine state step).reply
 
 -- a receipt has all of a reply
-pub record Tells (receipt : CallReceipt) (reply : Reply) : Type 0 where
-  pub status : receipt.status ≡ reply_status reply
-  pub body : receipt.body.items ≡ reply_body reply
-  pub slot : receipt.slot ≡ slot_of reply
-  pub canceled : receipt.canceled ≡ is_cancel reply
-  pub refusal : receipt.refusal ≡ refusal_of reply
+pub record Tells (slip : Slip) (reply : Reply) : Type 0 where
+  pub status : slip.status ≡ reply_status reply
+  pub body : slip.body ≡ reply_body reply
+  pub slot : slip.slot ≡ slot_of reply
+  pub canceled : slip.canceled ≡ is_cancel reply
+  pub refusal : slip.refusal ≡ refusal_of reply
 
 -- a receipt tells what the tenant of that number replied to a step
-pub record IsTold (number : ℕ) (step : Step) (receipt : CallReceipt) : Type 0 where
+pub record IsTold (number : ℕ) (step : Step) (slip : Slip) : Type 0 where
   pub reply : Reply
   pub is : IsReply number step reply
-  pub told : Tells receipt reply
+  pub told : Tells slip reply
 
 -- why a call has no receipt: the tenant was removed, or there is no memory
 abbrev pub IsUncalled : Refusal → Type 0

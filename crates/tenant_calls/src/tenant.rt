@@ -1,7 +1,7 @@
 //! What serves a tenant, as the threads of a server see it.
 ghost use Rattle.std.specs.Prelude.{◌≡◌, ℕ, List, IfErr, IfOk};
 ghost use Rattle.etcd_types.specs.declared.step.Step.{Step};
-ghost use Rattle.tenant_calls.specs.declared.receipt.CallReceipt.{CallReceipt};
+ghost use Rattle.tenant_audit.specs.Receipts.{Slip};
 ghost use Rattle.tenant_calls.specs.Answers.{IsTold, IsUncalled};
 ghost use Rattle.tenant_calls.specs.Counts.{Counts, IsNoMore, IsOneMore};
 
@@ -43,11 +43,14 @@ pub trait TenantCalls: Drop {
     /// What is told of a tenant's watches.
     type Hint: TakeHint;
 
+    /// What a call is answered.
+    type Receipt: CallReceipt;
+
     ghost made: { Self → Counts };
 
-    // The tenant of a number has given this receipt for a step. What serves clients knows no more of it, so it can have it of no
-    // receipt but that of the call.
-    ghost gives: { ℕ → Step → CallReceipt → Type 0 };
+    // The tenant of a number has given a receipt that tells this, for a step. What serves clients knows no more of it, so it can
+    // have it of nothing but what a receipt tells.
+    ghost gives: { ℕ → Step → Slip → Type 0 };
 
     /// One step of the tenant that has the key: one call is made on it, and its receipt tells the written machine's reply.
     /// It is refused if the tenant was removed, and else only for want of memory; then no call was made.
@@ -56,8 +59,8 @@ pub trait TenantCalls: Drop {
         rt: &R,
         key: &Self::Key,
         step: Step,
-    ) -> Result<CallReceipt, Refusal>
-        ensures given { IfOk result (λ receipt. gives (Self.Key.number_of key.now) step receipt) }
+    ) -> Result<Self::Receipt, Refusal>
+        ensures given { IfOk result (λ receipt. gives (Self.Key.number_of key.now) step (Self.Receipt.slip_of receipt)) }
         ensures refused { IfErr result (λ r. IsUncalled r) }
         ensures made { IfOk result (λ _. IsOneMore (Self.Key.name_of key.now) (made self.old) (made self.new)) }
         ensures unmade { IfErr result (λ _. IsNoMore (made self.old) (made self.new)) };
@@ -80,6 +83,5 @@ pub trait TenantCalls: Drop {
         ensures { IfErr result (λ r. IsUncalled r) };
 
     // A receipt that a tenant has given tells the written machine's reply.
-    ghost tells: { (number : ℕ) → (step : Step) → (receipt : CallReceipt)
-        → gives number step receipt → IsTold number step receipt };
+    ghost tells: { (number : ℕ) → (step : Step) → (slip : Slip) → gives number step slip → IsTold number step slip };
 }

@@ -57,20 +57,31 @@ impl TakeHint for WatchHint {
     }
 }
 
-/// What a server's thread is told of a receipt.
-fn told(receipt: Receipt) -> CallReceipt
-    ensures status { result.status ≡ receipt.status }
-    ensures body { result.body.items ≡ receipt.body }
-    ensures slot { result.slot ≡ receipt.slot }
-    ensures canceled { result.canceled ≡ receipt.canceled }
-    ensures refusal { result.refusal ≡ receipt.refusal }
-{
-    CallReceipt {
-        status: receipt.status(),
-        slot: receipt.slot(),
-        canceled: receipt.canceled(),
-        refusal: receipt.refusal(),
-        body: receipt.into_body(),
+impl CallReceipt for Receipt {
+    ghost slip_of = { λ receipt. receipt };
+
+    fn status(&self) -> u16 {
+        self.status()
+    }
+
+    fn body(&self) -> &[u8] {
+        self.body()
+    }
+
+    fn into_body(self) -> Vec<u8> {
+        self.into_body()
+    }
+
+    fn slot(&self) -> Option<u8> {
+        self.slot()
+    }
+
+    fn canceled(&self) -> bool {
+        self.canceled()
+    }
+
+    fn refusal(&self) -> Option<Refusal> {
+        self.refusal()
     }
 }
 
@@ -79,27 +90,22 @@ impl<G: Gate> TenantCalls for SeatedCalls<'_, G> {
 
     type Hint = WatchHint;
 
+    type Receipt = Receipt;
+
     ghost made = { λ it. calls_counted it.seat };
 
-    ghost gives = { λ number step receipt. IsTold number step receipt };
+    ghost gives = { IsTold };
 
     #[tactic(auto, using(crate::proofs::SeatedLemmas::told_of, crate::proofs::SeatedLemmas::one_more, crate::proofs::SeatedLemmas::no_more))]
-    fn call<R: Wait + Clock>(
-        &mut self,
-        rt: &R,
-        key: &Key,
-        step: Step,
-    ) -> Result<CallReceipt, Refusal>
+    fn call<R: Wait + Clock>(&mut self, rt: &R, key: &Key, step: Step) -> Result<Receipt, Refusal>
         ensures given { IfOk result (λ receipt. IsTold key.now.number step receipt) }
         ensures refused { IfErr result (λ r. IsUncalled r) }
         ensures made { IfOk result
             (λ _. IsOneMore key.now.name (calls_counted self.old.seat) (calls_counted self.new.seat)) }
         ensures unmade { IfErr result (λ _. IsNoMore (calls_counted self.old.seat) (calls_counted self.new.seat)) }
     {
-        match key.call(rt, &mut self.seat, self.gate, step) {
-            Ok(receipt) => Ok(told(receipt)),
-            Err(refusal) => Err(refusal),
-        }
+        let receipt = key.call(rt, &mut self.seat, self.gate, step)?;
+        Ok(receipt)
     }
 
     fn revision<R: Wait>(&self, rt: &R, key: &Key) -> Result<i64, Refusal> {
@@ -122,7 +128,7 @@ impl<G: Gate> TenantCalls for SeatedCalls<'_, G> {
         key.weight(rt, step, enough)
     }
 
-    ghost tells = { λ number step receipt given. given };
+    ghost tells = { λ number step slip given. given };
 }
 
 impl Registry {

@@ -1,3 +1,4 @@
 -- Proofs of this crate.
 pub mod MakeLemmas
 pub mod RequestLemmas
+pub mod WatchLemmas

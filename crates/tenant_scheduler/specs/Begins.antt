@@ -1,9 +1,10 @@
 -- How a call begins.
 use Rattle.std.specs.Prelude.{◌≡◌, ℕ, List}
-use Rattle.fair_turns.specs.Answers.{Answers}
+use Rattle.etcd_types.specs.declared.refusal.Refusal.TheVariants.{Memory}
+use Rattle.fair_turns.specs.Answers.{Refuses}
 use Rattle.tenant_scheduler.specs.declared.pending.Begun.{Begun}
 use Rattle.tenant_scheduler.specs.declared.pending.Begun.TheVariants.{Pending, Answered}
-use Rattle.tenant_scheduler.specs.declared.pending.PendingCall.{PendingCall}
+use Rattle.tenant_scheduler.specs.declared.caller.unserved.PendingCall.{PendingCall}
 use Rattle.tenant_scheduler.specs.declared.request.Route.{Route}
 
 -- it waits for the answer of this call, by this body
@@ -11,7 +12,7 @@ pub record WaitsFor {R : Type 0} (call : PendingCall R) (route : Route) (body : 
   pub route_is : call.request.value.route ≡ route
   pub body_is : call.request.value.body.bytes.items ≡ body
 
--- it waits, or was answered
+-- it waits; or it is told that there is no memory
 abbrev pub IsBegun : {R : Type 0} → Begun R → Route → List ℕ → Type 0
 IsBegun (Pending call) route body = WaitsFor call route body
-IsBegun (Answered answer) route body = ∥ Answers route.tenant route.call body answer ∥₁
+IsBegun (Answered told) route body = Refuses Memory told.answer

@@ -2,7 +2,7 @@
 use Rattle.std.specs.Prelude.{◌≡◌, ℕ, List, Option, Some}
 use Rattle.etcd_types.specs.declared.step.Step.{Step}
 use Rattle.etcd_types.specs.declared.step.Step.TheVariants as step
-use Rattle.tenant_calls.specs.declared.receipt.CallReceipt.{CallReceipt}
+use Rattle.tenant_audit.specs.Receipts.{Slip}
 use Rattle.tenant_calls.specs.Counts.{Counts, IsOneMore}
 use Rattle.tenant_scheduler.specs.declared.caller.OwnStep.{OwnStep}
 use Rattle.tenant_scheduler.specs.declared.caller.OwnStep.TheVariants as own
@@ -13,9 +13,9 @@ step_of (own.CatchUp budget) = step.CatchUp budget
 step_of (own.Compact due) = step.Compact due.revision
 
 -- one call was made, by the key, which the tenant answered a receipt for this step
-pub record IsOwnMade {K : Type 0} (number_of : K → ℕ) (name_of : K → List ℕ) (gives : ℕ → Step → CallReceipt → Type 0) (key : Option K) (step : Step) (old new : Counts) : Type 0 where
+pub record IsOwnMade {K : Type 0} (number_of : K → ℕ) (name_of : K → List ℕ) (gives : ℕ → Step → Slip → Type 0) (key : Option K) (step : Step) (old new : Counts) : Type 0 where
   pub by : K
   pub has : key ≡ Some by
-  pub receipt : CallReceipt
-  pub given : gives (number_of by) step receipt
+  pub slip : Slip
+  pub given : gives (number_of by) step slip
   pub more : IsOneMore (name_of by) old new

@@ -10,7 +10,8 @@ use Rattle.tenant_scheduler.specs.declared.request.Request.{Request}
 
 -- both are of one call on one tenant, and have the same body
 pub record AsksTheSame (one other : Request) : Type 0 where
-  pub route : one.route ≡ other.route
+  pub tenant : one.route.tenant.value.number ≡ other.route.tenant.value.number
+  pub call : one.route.call ≡ other.route.call
   pub body : one.body.bytes.items ≡ other.body.bytes.items
 
 -- its body is read as the step
@@ -27,4 +28,4 @@ IsUnread request r = r ≢ Memory → read_step request.route.call request.body.
 
 -- it may be answered so
 abbrev pub IsAnswerOf : {R : Type 0} → Request → Answer R → Type 0
-IsAnswerOf request answer = Answers request.route.tenant request.route.call request.body.bytes.items answer
+IsAnswerOf request answer = Answers request.route.tenant.value.number request.route.call request.body.bytes.items answer

@@ -2,7 +2,7 @@
 ghost use Rattle.std.specs.Prelude.{◌≡◌, ◌<◌, length, vec_capacity, IfErr, IfOk};
 ghost use Rattle.etcd_types.specs.declared.step.Step.{Step};
 ghost use Rattle.etcd_types.specs.declared.step.Step.TheVariants.{DropWatch, Take};
-ghost use Rattle.fair_turns.specs.Answers.{IsAnswer, Shows};
+ghost use Rattle.fair_turns.specs.Answers.{Conveys, IsAnswer};
 ghost use Rattle.tenant_calls.specs.Answers.{IsTold, IsUncalled};
 ghost use Rattle.tenant_calls.specs.Counts.{IsNoMore};
 ghost use Rattle.tenant_scheduler.specs.Makes.{IsCounted, IsMade};
@@ -13,15 +13,17 @@ ghost use Rattle.tenant_scheduler.specs.Watches.{IsListed};
 mod unserved;
 
 use crate::catch_up::DueRevision;
-use crate::clients::{Clients, OpenWatch, key_of};
+use crate::clients::{Clients, key_of};
 use crate::clock::Moment;
 use crate::inline_calls::is_brief;
+use crate::request::NamedTenant;
 use etcd_types::{Refusal, Step};
-use fair_turns::{Answer, LONGEST_ROW, MadeText, Share, TextSender, WatchTexts, may_be_long};
+use fair_turns::{Answer, LONGEST_ROW, MadeText, ServedWatch, Share, WatchEnds, may_be_long};
 use std::alloc::Global;
 use std::rt::Clock;
 use std::sync::Wait;
 use tenant_calls::{CallReceipt, TenantCalls, TenantKey};
+pub use unserved::{PendingCall, Told, Unanswered};
 pub(crate) use unserved::{JobAnswer, Unserved};
 
 /// A step that a thread makes by itself, and not for a client.
@@ -79,17 +81,20 @@ impl<R: Wait + Clock + Drop, C: TenantCalls> Caller<R, C> {
     pub(crate) fn end_watch(
         &mut self,
         key: &Option<C::Key>,
-        watch: OpenWatch,
-    ) -> Result<(), OpenWatch>
+        watch: ServedWatch,
+    ) -> Result<(), ServedWatch>
         ensures made { IfOk result (λ _. IsOwnMade C.Key.number_of C.Key.name_of C.gives key.now
             (DropWatch watch.slot) (C.made self.old.calls) (C.made self.new.calls)) }
         ensures stays { IfErr result (λ left. left ≡ watch) }
         ensures unmade { IfErr result (λ _. IsNoMore (C.made self.old.calls) (C.made self.new.calls)) }
     {
-        let Some(key) = key_of(key, watch.tenant) else {
+        let Some(key) = key_of(key, watch.tenant()) else {
             return Err(watch);
         };
-        match self.calls.call(&self.rt, key, Step::DropWatch(watch.slot)) {
+        match self
+            .calls
+            .call(&self.rt, key, Step::DropWatch(watch.slot()))
+        {
             Ok(_) => Ok(()),
             Err(_) => Err(watch),
         }
@@ -101,8 +106,8 @@ impl<R: Wait + Clock + Drop, C: TenantCalls> Caller<R, C> {
         key: &Option<C::Key>,
         number: u64,
         slot: u8,
-    ) -> Result<CallReceipt, Refusal>
-        ensures given { IfOk result (λ receipt. C.gives number (Take slot) receipt) }
+    ) -> Result<C::Receipt, Refusal>
+        ensures given { IfOk result (λ receipt. C.gives number (Take slot) (C.Receipt.slip_of receipt)) }
         ensures made { IfOk result (λ _. IsOwnMade C.Key.number_of C.Key.name_of C.gives key.now (Take slot)
             (C.made self.old.calls) (C.made self.new.calls)) }
         ensures unmade { IfErr result (λ _. IsNoMore (C.made self.old.calls) (C.made self.new.calls)) }
@@ -119,17 +124,16 @@ impl<R: Wait + Clock + Drop, C: TenantCalls> Caller<R, C> {
     pub(crate) fn answer(
         &mut self,
         alloc: Global,
-        clients: &Clients<R, C::Key>,
-        unserved: Unserved,
+        clients: &Clients<C::Key>,
+        unserved: Unserved<R>,
         step: Step,
     ) -> JobAnswer<R>
         requires { IsStepOf unserved.request.value step }
-        ensures request { result.request ≡ unserved.request }
-        ensures made { IsMade C.Key.number_of C.Key.name_of C.gives unserved.request.value.route.tenant step
-            result.answer (C.made self.old.calls) (C.made self.new.calls) }
+        ensures request { result.own.request ≡ unserved.request }
+        ensures made { IsMade C.Key.number_of C.Key.name_of C.gives unserved.request.value.route.tenant.value step
+            result.own.answer (C.made self.old.calls) (C.made self.new.calls) }
     {
-        let number = unserved.request().route.tenant;
-        let answer = self.told(alloc, clients, number, step);
+        let answer = self.told(alloc, clients, unserved.request().tenant(), step);
         unserved.answered(answer)
     }
 
@@ -137,38 +141,39 @@ impl<R: Wait + Clock + Drop, C: TenantCalls> Caller<R, C> {
     pub(crate) fn open(
         &mut self,
         alloc: Global,
-        clients: &mut Clients<R, C::Key>,
-        unserved: Unserved,
+        clients: &mut Clients<C::Key>,
+        unserved: Unserved<R>,
         step: Step,
-        ends: (TextSender, WatchTexts<R>),
+        ends: WatchEnds<R>,
     ) -> JobAnswer<R>
         requires step { IsStepOf unserved.request.value step }
         requires room { length clients.old.watches.items < vec_capacity clients.old.watches }
-        ensures request { result.request ≡ unserved.request }
-        ensures made { IsMade C.Key.number_of C.Key.name_of C.gives unserved.request.value.route.tenant step
-            result.answer (C.made self.old.calls) (C.made self.new.calls) }
+        ensures request { result.own.request ≡ unserved.request }
+        ensures made { IsMade C.Key.number_of C.Key.name_of C.gives unserved.request.value.route.tenant.value step
+            result.own.answer (C.made self.old.calls) (C.made self.new.calls) }
     {
-        let number = unserved.request().route.tenant;
-        let answer = self.created(alloc, clients, number, step, ends);
+        let answer = self.created(alloc, clients, unserved.request().tenant(), step, ends);
         unserved.answered(answer)
     }
 
-    /// One step of a client, of the tenant of that number, if the key is to it.
+    /// One step of a client, of the tenant that it names, if the key is to it.
     fn serve(
         &mut self,
         key: &Option<C::Key>,
-        number: u64,
+        tenant: &NamedTenant,
         step: Step,
-    ) -> Result<CallReceipt, Refusal>
-        ensures given { IfOk result (λ receipt. C.gives number step receipt) }
+    ) -> Result<C::Receipt, Refusal>
+        ensures given { IfOk result (λ receipt. C.gives tenant.now.number step (C.Receipt.slip_of receipt)) }
         ensures refused { IfErr result (λ r. IsUncalled r) }
-        ensures made { IfOk result (λ _. IsCounted C.Key.number_of C.Key.name_of number
+        ensures made { IfOk result (λ _. IsCounted C.Key.number_of C.Key.name_of tenant.now
             (C.made self.old.calls) (C.made self.new.calls)) }
         ensures unmade { IfErr result (λ _. IsNoMore (C.made self.old.calls) (C.made self.new.calls)) }
     {
-        match key_of(key, number) {
-            Some(key) => self.calls.call(&self.rt, key, step),
-            None => Err(Refusal::NoTenant),
+        match key_of(key, tenant.number) {
+            Some(key) if key.name() == tenant.name.as_slice() => {
+                self.calls.call(&self.rt, key, step)
+            }
+            _ => Err(Refusal::NoTenant),
         }
     }
 
@@ -176,19 +181,19 @@ impl<R: Wait + Clock + Drop, C: TenantCalls> Caller<R, C> {
     fn told(
         &mut self,
         alloc: Global,
-        clients: &Clients<R, C::Key>,
-        number: u64,
+        clients: &Clients<C::Key>,
+        tenant: &NamedTenant,
         step: Step,
     ) -> Answer<R>
-        ensures answer { IsAnswer number step result }
-        ensures made { IsMade C.Key.number_of C.Key.name_of C.gives number step result
+        ensures answer { IsAnswer tenant.now.number step result }
+        ensures made { IsMade C.Key.number_of C.Key.name_of C.gives tenant.now step result
             (C.made self.old.calls) (C.made self.new.calls) }
     {
         if !may_be_long(&step) || (is_brief(&step) && clients.budget.left() >= LONGEST_ROW) {
-            return self.told_within(alloc, clients, number, step, None);
+            return self.told_within(alloc, clients, tenant, step, None);
         }
         match self.reserve(clients, &step) {
-            Ok(Some(share)) => self.told_within(alloc, clients, number, step, Some(share)),
+            Ok(Some(share)) => self.told_within(alloc, clients, tenant, step, Some(share)),
             Ok(None) => Answer::no_memory(),
             Err(refusal) => Answer::refused(alloc, refusal),
         }
@@ -197,18 +202,18 @@ impl<R: Wait + Clock + Drop, C: TenantCalls> Caller<R, C> {
     fn told_within(
         &mut self,
         alloc: Global,
-        clients: &Clients<R, C::Key>,
-        number: u64,
+        clients: &Clients<C::Key>,
+        tenant: &NamedTenant,
         step: Step,
         reserved: Option<Share>,
     ) -> Answer<R>
-        ensures answer { IsAnswer number step result }
-        ensures made { IsMade C.Key.number_of C.Key.name_of C.gives number step result
+        ensures answer { IsAnswer tenant.now.number step result }
+        ensures made { IsMade C.Key.number_of C.Key.name_of C.gives tenant.now step result
             (C.made self.old.calls) (C.made self.new.calls) }
     {
-        match self.serve(&clients.key, number, step) {
+        match self.serve(&clients.key, tenant, step) {
             Ok(receipt) => {
-                let (status, refusal) = (receipt.status, receipt.refusal);
+                let (status, refusal) = (receipt.status(), receipt.refusal());
                 let text = clients.budget.charge(reserved, receipt.into_body());
                 Answer::text(status, refusal, text)
             }
@@ -220,25 +225,24 @@ impl<R: Wait + Clock + Drop, C: TenantCalls> Caller<R, C> {
     fn created(
         &mut self,
         alloc: Global,
-        clients: &mut Clients<R, C::Key>,
-        number: u64,
+        clients: &mut Clients<C::Key>,
+        tenant: &NamedTenant,
         step: Step,
-        ends: (TextSender, WatchTexts<R>),
+        ends: WatchEnds<R>,
     ) -> Answer<R>
         requires { length clients.old.watches.items < vec_capacity clients.old.watches }
-        ensures answer { IsAnswer number step result }
-        ensures made { IsMade C.Key.number_of C.Key.name_of C.gives number step result
+        ensures answer { IsAnswer tenant.now.number step result }
+        ensures made { IsMade C.Key.number_of C.Key.name_of C.gives tenant.now step result
             (C.made self.old.calls) (C.made self.new.calls) }
     {
-        let (sender, texts) = ends;
-        match self.serve(&clients.key, number, step) {
-            Ok(receipt) => opened(clients, number, receipt, sender, texts),
+        match self.serve(&clients.key, tenant, step) {
+            Ok(receipt) => opened(clients, tenant.number, receipt, ends),
             Err(refusal) => Answer::refused(alloc, refusal),
         }
     }
 
     /// The share of what a step may take until its answer is sent, if the budget has so much.
-    fn reserve(&self, clients: &Clients<R, C::Key>, step: &Step) -> Result<Option<Share>, Refusal>
+    fn reserve(&self, clients: &Clients<C::Key>, step: &Step) -> Result<Option<Share>, Refusal>
         ensures { IfErr result (λ r. IsUncalled r) }
     {
         let Some(key) = &clients.key else {
@@ -271,31 +275,25 @@ impl<R: Wait + Clock + Drop, C: TenantCalls> Caller<R, C> {
 }
 
 /// The answer of a watch that was created, which is kept with its tenant's clients, or of what was told instead.
-fn opened<R: Wait + Drop, K: TenantKey>(
-    clients: &mut Clients<R, K>,
+#[tactic(auto, using(crate::proofs::WatchLemmas::unlisted))]
+fn opened<R: Wait + Drop, K: TenantKey, T: CallReceipt>(
+    clients: &mut Clients<K>,
     number: u64,
-    receipt: CallReceipt,
-    sender: TextSender,
-    texts: WatchTexts<R>,
+    receipt: T,
+    ends: WatchEnds<R>,
 ) -> Answer<R>
     requires { length clients.old.watches.items < vec_capacity clients.old.watches }
-    ensures answer { (step : Step) → IsTold number step receipt → IsAnswer number step result }
-    ensures shows { Shows result receipt.status receipt.body.items receipt.refusal }
-    ensures listed { IsListed number receipt.slot sender clients.old.watches.items clients.new.watches.items }
+    ensures answer { (step : Step) → IsTold number step (T.slip_of receipt) → IsAnswer number step result }
+    ensures shows { Conveys result (T.slip_of receipt) }
+    ensures listed { IsListed number (T.slip_of receipt).slot clients.old.watches.items clients.new.watches.items }
 {
-    let (status, refusal) = (receipt.status, receipt.refusal);
-    let Some(slot) = receipt.slot else {
+    let (status, refusal) = (receipt.status(), receipt.refusal());
+    let Some(slot) = receipt.slot() else {
         return Answer::text(status, refusal, MadeText::short(receipt.into_body()));
     };
-    let watch = OpenWatch {
-        tenant: number,
-        slot,
-        texts: sender,
-    };
+    let (watch, texts) = ends.open(number, slot);
     // There is room.
     let _ = clients.watches.push(watch);
-    let mut texts = texts;
-    texts.belong_to(number, slot);
     let created = MadeText::short(receipt.into_body());
     Answer::watch(status, refusal, created, texts)
 }

@@ -115,13 +115,13 @@ fn move_on<R: Wait + Clock + Drop, C: TenantCalls>(
 /// A watch of the tenant is far behind.
 fn is_far_behind<R: Wait + Clock + Drop, C: TenantCalls>(
     caller: &Caller<R, C>,
-    clients: &Clients<R, C::Key>,
+    clients: &Clients<C::Key>,
 ) -> bool {
     let Some(hint) = caller.hint(&clients.key) else {
         return false;
     };
     for watch in clients.watches.as_slice() {
-        if hint.is_far_behind(watch.slot) {
+        if hint.is_far_behind(watch.slot()) {
             return true;
         }
     }

@@ -1,28 +1,31 @@
 //! Where the calls of each tenant go in: found by the tenant's name once, and then by its number.
 //!
 //! It knows no tenant's key: what connections hold reaches queues alone.
-use crate::clients::Job;
+ghost use Rattle.std.specs.Prelude.{◌≡◌, IfOk, IfSome};
+
+use crate::job_queue::{Job, JobQueue};
+use crate::request::NamedTenant;
 use crossbeam_utils::sync::ShardedLock;
-use etcd_types::Mem;
+use etcd_types::{Mem, Refusal};
 use fair_turns::{Budget, Scheduler, TenantCounts, TenantTurns, Work};
 use indexmap::IndexMap;
 use std::alloc::Global;
 use std::sync::{Arc, Wait};
-use tokio::sync::mpsc;
 
 /// Where the calls of a tenant go in.
 #[derive(Drop)]
 pub(crate) struct Entrance<R: Wait + Drop> {
+    pub(crate) tenant: Arc<NamedTenant>,
     pub(crate) turns: Arc<TenantTurns>,
-    pub(crate) queue: mpsc::Sender<Job<R>>,
+    pub(crate) queue: JobQueue<R>,
     pub(crate) budget: Budget,
     pub(crate) counts: Arc<TenantCounts>,
 }
 
-/// The numbers of the tenants by their names, and their entrances by these numbers.
+/// The tenants by their names, and their entrances by their numbers.
 #[derive(Drop)]
 struct Directory<R: Wait + Drop> {
-    numbers: IndexMap<Vec<u8>, u64>,
+    tenants: IndexMap<Vec<u8>, Arc<NamedTenant>>,
     entrances: IndexMap<u64, Arc<Entrance<R>>>,
 }
 
@@ -45,7 +48,7 @@ impl<R: Wait + Drop> Entrances<R> {
     /// None, with the scheduler of their turns.
     pub(crate) fn new(alloc: Global, scheduler: Arc<Scheduler>) -> Mem<Entrances<R>> {
         let directory = Directory {
-            numbers: IndexMap::new(alloc),
+            tenants: IndexMap::new(alloc),
             entrances: IndexMap::new(alloc),
         };
         Ok(Entrances {
@@ -54,16 +57,49 @@ impl<R: Wait + Drop> Entrances<R> {
         })
     }
 
-    /// The number of the tenant of that name. Threads with different shards don't disturb each other.
-    pub(crate) fn number_of(&self, rt: &R, shard: usize, name: &[u8]) -> Option<u64> {
+    /// The tenant of that name. Threads with different shards don't disturb each other.
+    pub(crate) fn named(&self, rt: &R, shard: usize, name: &[u8]) -> Mem<Option<Arc<NamedTenant>>>
+        ensures { IfOk result (λ found. IfSome found (λ tenant. tenant.value.name.items ≡ name.now)) }
+    {
         let directory = self.directory.read(rt, shard);
-        directory.numbers.get(name).copied()
+        // What lies under a lock is known by its type alone.
+        match directory.tenants.get(name) {
+            Some(tenant) if tenant.name.as_slice() == name => Ok(Some(Arc::try_clone(tenant)?)),
+            _ => Ok(None),
+        }
     }
 
     /// The entrance of the tenant of that number, unless it was removed.
-    pub(crate) fn numbered(&self, rt: &R, shard: usize, number: u64) -> Option<Arc<Entrance<R>>> {
+    pub(crate) fn numbered(
+        &self,
+        rt: &R,
+        shard: usize,
+        number: u64,
+    ) -> Mem<Option<Arc<Entrance<R>>>> {
         let directory = self.directory.read(rt, shard);
-        Arc::try_clone(directory.entrances.get(&number)?).ok()
+        match directory.entrances.get(&number) {
+            Some(entrance) => Ok(Some(Arc::try_clone(entrance)?)),
+            None => Ok(None),
+        }
+    }
+
+    /// Leaves a job in its tenant's queue, and has a worker serve it. It is refused if the tenant was removed, and else
+    /// only for want of memory.
+    pub(crate) fn queue(&self, rt: &R, shard: usize, alloc: Global, job: Job<R>) {
+        let pushed = match self.numbered(rt, shard, job.unserved.request().tenant().number) {
+            Ok(Some(entrance)) => {
+                let pushed = entrance.queue.push(rt, alloc, job);
+                if pushed.is_ok() {
+                    self.schedule(rt, &entrance, Work::Jobs);
+                }
+                pushed
+            }
+            Ok(None) => Err(job.refused(alloc, Refusal::NoTenant)),
+            Err(_) => Err(job.refused(alloc, Refusal::Memory)),
+        };
+        if let Err(refused) = pushed {
+            refused.send();
+        }
     }
 
     /// The turns of a new tenant that has this number.
@@ -79,24 +115,24 @@ impl<R: Wait + Drop> Entrances<R> {
     /// Takes the memory that one more tenant needs here.
     pub(crate) fn make_room(&self, rt: &R) -> Mem<()> {
         let mut directory = self.directory.write(rt);
-        directory.numbers.reserve(1)?;
+        directory.tenants.reserve(1)?;
         directory.entrances.reserve(1)
     }
 
     /// Takes a tenant in; where there is room for it, that takes no memory.
     pub(crate) fn insert(&self, rt: &R, name: Vec<u8>, entrance: Arc<Entrance<R>>) -> Mem<()> {
+        let tenant = Arc::try_clone(&entrance.tenant)?;
         let mut directory = self.directory.write(rt);
-        let number = entrance.turns.number();
-        directory.entrances.insert(number, entrance)?;
-        directory.numbers.insert(name, number)?;
+        directory.entrances.insert(tenant.number, entrance)?;
+        directory.tenants.insert(name, tenant)?;
         Ok(())
     }
 
     /// Takes a tenant out, and tells its number.
     pub(crate) fn remove(&self, rt: &R, name: &[u8]) -> Option<u64> {
         let mut directory = self.directory.write(rt);
-        let number = directory.numbers.shift_remove(name)?;
-        let _ = directory.entrances.swap_remove(&number);
-        Some(number)
+        let tenant = directory.tenants.shift_remove(name)?;
+        let _ = directory.entrances.swap_remove(&tenant.number);
+        Some(tenant.number)
     }
 }

@@ -8,20 +8,20 @@ ghost use Rattle.futures.specs.Poll.{OnPending};
 ghost use Rattle.tenant_scheduler.specs.Outcomes.{IsOutcome};
 
 use crate::caller::{Caller, JobAnswer};
-use crate::clients::{BriefRequest, Clients};
+use crate::clients::Clients;
+use crate::job_queue::BriefRequest;
+use crate::jobs::LoopCalls;
 use crate::serving::ServingThread;
 use crate::tenants::ServedTenant;
 use crate::worker::may_give;
 use etcd_types::Step;
 use fair_turns::{Scheduler, Stopwatch, Work};
-use futures::channel::oneshot;
 use futures::ready;
 use futures::task::{Context, Poll};
 use std::alloc::Global;
 use std::rt::Clock;
 use std::sync::Wait;
-use tenant_calls::{TenantCalls, TenantKey};
-use tokio::sync::mpsc::UnboundedReceiver;
+use tenant_calls::TenantCalls;
 
 /// How many brief calls are served before the loop looks at its connections again.
 const CALLS_A_POLL: usize = 64;
@@ -32,83 +32,27 @@ const SHORT_ANSWER: usize = 16_384;
 /// How many brief calls of a tenant are left to the workers after a longer one.
 const CALLS_LEFT: u32 = 256;
 
-/// A brief call, and where its outcome goes.
-pub struct InlineCall<R: Wait + Drop> {
-    pub(crate) brief: BriefRequest,
-    pub(crate) reply: oneshot::Sender<InlineOutcome<R>>,
-}
-
-impl<R: Wait + Drop> Drop for InlineCall<R> {
-    fn drop(self) {
-        let InlineCall { brief: _, reply: _ } = self;
-    }
-}
-
-impl<R: Wait + Drop> InlineCall<R> {
-    pub(crate) fn into_brief(self) -> BriefRequest {
-        let (brief, _) = self.into_parts();
-        brief
-    }
-
-    fn into_parts(self) -> (BriefRequest, oneshot::Sender<InlineOutcome<R>>) {
-        let InlineCall { brief, reply } = self;
-        (brief, reply)
-    }
-}
-
-/// What became of a brief call.
-#[derive(Drop)]
-pub(crate) enum InlineOutcome<R: Wait + Drop> {
-    Answered(JobAnswer<R>),
-    /// Its tenant is busy, so it is a worker's.
-    Busy(BriefRequest),
-}
-
-impl<R: Wait + Drop> InlineOutcome<R> {
-    /// Counts the call, if it was answered.
-    fn count<K: TenantKey>(self, tenant: &ServedTenant<R, K>) -> InlineOutcome<R> {
-        if let InlineOutcome::Answered(told) = &self {
-            let (call, length) = (told.request().route.call, told.request().len());
-            tenant.counts().add(call, length, told.answer());
-        }
-        self
-    }
-}
-
 /// Where an event loop receives the brief calls of its connections, and serves them.
 pub struct InlineCalls<R: Wait + Drop, C: TenantCalls> {
     alloc: Global,
-    /// The part of the directory that is read here.
-    shard: usize,
     thread: ServingThread<R, C>,
-    calls: UnboundedReceiver<InlineCall<R>>,
+    own: LoopCalls<R>,
 }
 
 impl<R: Wait + Drop, C: TenantCalls> Drop for InlineCalls<R, C> {
     fn drop(self) {
         let InlineCalls {
             alloc: _,
-            shard: _,
             thread: _,
-            calls: _,
+            own: _,
         } = self;
     }
 }
 
 impl<R: Wait + Clock + Copy + Drop, C: TenantCalls> InlineCalls<R, C> {
-    /// Those of the event loop of that number.
-    pub fn new(
-        alloc: Global,
-        number: usize,
-        thread: ServingThread<R, C>,
-        calls: UnboundedReceiver<InlineCall<R>>,
-    ) -> InlineCalls<R, C> {
-        InlineCalls {
-            alloc,
-            shard: number,
-            thread,
-            calls,
-        }
+    /// Those that an event loop receives.
+    pub fn new(alloc: Global, thread: ServingThread<R, C>, own: LoopCalls<R>) -> InlineCalls<R, C> {
+        InlineCalls { alloc, thread, own }
     }
 
     /// Serves what is there. Ready once no connection is left that could hand something in.
@@ -117,41 +61,33 @@ impl<R: Wait + Clock + Copy + Drop, C: TenantCalls> InlineCalls<R, C> {
         ensures kept { Keeps cx.old cx.new }
     {
         for _ in 0..CALLS_A_POLL {
-            match ready!(self.calls.poll_recv(cx)) {
-                Some(call) => self.serve(call),
+            match ready!(self.own.calls.poll_recv(cx)) {
+                Some(brief) => self.serve(brief),
                 None => return Poll::Ready(()),
             }
         }
         cx.yield_now()
     }
 
-    /// Serves a call if nobody has the turn on its tenant, and else gives it back.
-    fn serve(&mut self, call: InlineCall<R>) {
-        let (brief, reply) = call.into_parts();
+    /// Serves a request if nobody has the turn on its tenant, and else leaves it to a worker.
+    fn serve(&mut self, brief: BriefRequest<R>) {
         let ServingThread {
             rt,
             place: _,
             caller,
             shared,
         } = &mut self.thread;
-        let route = brief.unserved.request().route;
-        let outcome = match shared.tenants().numbered(rt, self.shard, route.tenant) {
+        let tenants = shared.tenants();
+        let number = brief.unserved.request().tenant().number;
+        let left = match tenants.numbered(rt, self.own.shard, number) {
             Some(tenant) if Scheduler::try_begin(tenant.turns()) => {
-                let stopwatch = Stopwatch::start(rt);
-                let mut clients = tenant.clients.lock(rt);
-                let outcome = answer(self.alloc, caller, &mut *clients, brief);
-                if may_give(route.call) {
-                    clients.schedule_takes(rt, &shared.scheduler, tenant.turns());
-                }
-                drop(clients);
-                shared.scheduler.finish(rt, tenant.turns(), Work::Jobs);
-                tenant.counts().turns().add(stopwatch.passed(rt));
-                outcome.count(&tenant)
+                take_turn(rt, self.alloc, caller, &shared.scheduler, &tenant, brief)
             }
-            _ => InlineOutcome::Busy(brief),
+            _ => Some(brief),
         };
-        // Where the client has gone, the call stays made.
-        drop(reply.send(outcome));
+        if let Some(brief) = left {
+            tenants.queue(rt, self.own.shard, self.alloc, brief.into_job(rt));
+        }
     }
 
     /// The loop moves.
@@ -162,34 +98,61 @@ impl<R: Wait + Clock + Copy + Drop, C: TenantCalls> InlineCalls<R, C> {
     pub fn into_calls(self) -> C {
         let InlineCalls {
             alloc: _,
-            shard: _,
             thread,
-            calls: _,
+            own: _,
         } = self;
         thread.into_calls()
     }
 }
 
-/// What a tenant answers, unless its answers were long lately.
+/// Serves a request on its tenant, on which the loop has the turn; it is left where the tenant's answers were long lately.
+fn take_turn<R: Wait + Clock + Copy + Drop, C: TenantCalls>(
+    rt: &R,
+    alloc: Global,
+    caller: &mut Caller<R, C>,
+    scheduler: &Scheduler,
+    tenant: &ServedTenant<R, C::Key>,
+    brief: BriefRequest<R>,
+) -> Option<BriefRequest<R>> {
+    let stopwatch = Stopwatch::start(rt);
+    let call = brief.unserved.request().route.call;
+    let mut clients = tenant.clients.lock(rt);
+    let outcome = answer(alloc, caller, &mut *clients, brief);
+    if may_give(call) {
+        clients.schedule_takes(rt, scheduler, tenant.turns());
+    }
+    drop(clients);
+    scheduler.finish(rt, tenant.turns(), Work::Jobs);
+    tenant.counts().turns().add(stopwatch.passed(rt));
+    match outcome {
+        Ok(answer) => {
+            answer.count(tenant.counts());
+            answer.send();
+            None
+        }
+        Err(brief) => Some(brief),
+    }
+}
+
+/// What a tenant answers, unless its answers were long lately: then the request is left.
 fn answer<R: Wait + Clock + Drop, C: TenantCalls>(
     alloc: Global,
     caller: &mut Caller<R, C>,
-    clients: &mut Clients<R, C::Key>,
-    brief: BriefRequest,
-) -> InlineOutcome<R>
-    ensures { IsOutcome C.Key.number_of C.Key.name_of C.gives brief.unserved.request.value brief.step result
-        (C.made caller.old.calls) (C.made caller.new.calls) }
+    clients: &mut Clients<C::Key>,
+    brief: BriefRequest<R>,
+) -> Result<JobAnswer<R>, BriefRequest<R>>
+    ensures { IsOutcome C.Key.number_of C.Key.name_of C.gives brief result (C.made caller.old.calls) (C.made caller.new.calls) }
 {
     if clients.left_to_workers > 0 {
         clients.left_to_workers -= 1;
-        return InlineOutcome::Busy(brief);
+        return Err(brief);
     }
     let BriefRequest { unserved, step } = brief;
     let told = caller.answer(alloc, clients, unserved, step);
     if told.answer().len() > SHORT_ANSWER {
         clients.left_to_workers = CALLS_LEFT;
     }
-    InlineOutcome::Answered(told)
+    Ok(told)
 }
 
 /// A step that looks at one key at most, and at its present row.

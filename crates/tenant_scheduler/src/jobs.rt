@@ -1,48 +1,38 @@
 //! Where calls go in: to the event loop that has read them, or into their tenant's queue.
+ghost use Rattle.std.specs.Prelude.{◌≡◌, IfOk, IfSome};
 ghost use Rattle.fair_turns.specs.Answers.{Refuses};
-ghost use Rattle.tokio.specs.Channels.{CanReserve};
+ghost use Rattle.tenant_scheduler.specs.Requests.{IsReadAs};
 
-use crate::caller::JobAnswer;
-use crate::clients::Job;
+use crate::caller::{JobAnswer, Told, Unanswered, Unserved};
 use crate::entrances::{Entrance, Entrances};
-use crate::inline_calls::InlineCall;
-use crate::request::Route;
-use etcd_types::{Mem, Refusal};
-use fair_turns::{Answer, BodyShare, SHORT, Work};
+use crate::job_queue::{BriefRequest, Job};
+use crate::request::{NamedTenant, Route};
+use etcd_types::{Mem, Refusal, Step};
+use fair_turns::{Answer, BodyShare, SHORT, Stopwatch};
 use std::alloc::Global;
+use std::rt::Clock;
 use std::sync::{Arc, Wait};
-use tokio::sync::mpsc::error::TrySendError;
-use tokio::sync::mpsc::{
-    self, ReserveOwned, UnboundedReceiver, UnboundedSender, unbounded_channel,
-};
-
-/// A job that waits for room in its tenant's queue.
-#[derive(Drop)]
-pub(crate) struct HeldBack<R: Wait + Drop> {
-    pub(crate) room: ReserveOwned<Job<R>>,
-    pub(crate) job: Job<R>,
-    pub(crate) ghost may_wait: { CanReserve room },
-}
-
-impl<R: Wait + Drop> HeldBack<R> {
-    /// A job whose queue is full; the job without memory.
-    fn of(queue: &mpsc::Sender<Job<R>>, job: Job<R>) -> Result<HeldBack<R>, Job<R>> {
-        match queue.clone() {
-            Ok(queue) => Ok(HeldBack {
-                room: queue.reserve_owned(),
-                job,
-            }),
-            Err(_) => Err(job),
-        }
-    }
-}
+use tokio::sync::mpsc::{UnboundedReceiver, UnboundedSender, unbounded_channel};
 
 /// An event loop, for its connections.
 #[derive(Drop)]
 pub(crate) struct LoopEntrance<R: Wait + Drop> {
-    calls: UnboundedSender<InlineCall<R>>,
+    calls: UnboundedSender<BriefRequest<R>>,
     /// The part of the directory that is read here.
     shard: usize,
+}
+
+/// Where an event loop receives the brief calls of its connections.
+pub struct LoopCalls<R: Wait + Drop> {
+    pub(crate) calls: UnboundedReceiver<BriefRequest<R>>,
+    /// The part of the directory that is read here.
+    pub(crate) shard: usize,
+}
+
+impl<R: Wait + Drop> Drop for LoopCalls<R> {
+    fn drop(self) {
+        let LoopCalls { calls: _, shard: _ } = self;
+    }
 }
 
 /// Where calls go in, which connections share.
@@ -77,18 +67,22 @@ impl<R: Wait + Drop> Jobs<R> {
         }
     }
 
-    /// The number of the tenant of that name.
-    pub fn tenant(&self, rt: &R, name: &[u8]) -> Option<u64> {
-        self.entrances.number_of(rt, self.shard(), name)
+    /// The tenant of that name.
+    pub fn tenant(&self, rt: &R, name: &[u8]) -> Mem<Option<Arc<NamedTenant>>>
+        ensures { IfOk result (λ found. IfSome found (λ tenant. tenant.value.name.items ≡ name.now)) }
+    {
+        self.entrances.named(rt, self.shard(), name)
     }
 
-    /// The entrance of the tenant of that number, unless it was removed.
-    fn entrance(&self, rt: &R, tenant: u64) -> Option<Arc<Entrance<R>>> {
-        self.entrances.numbered(rt, self.shard(), tenant)
+    /// The entrance of a tenant; none if it was removed, or where there is no memory to share it.
+    fn entrance(&self, rt: &R, tenant: &NamedTenant) -> Option<Arc<Entrance<R>>> {
+        self.entrances
+            .numbered(rt, self.shard(), tenant.number)
+            .ok()?
     }
 
     /// The share of a tenant's budget for a body of so many bytes at the most.
-    pub fn body_share(&self, rt: &R, tenant: u64, bytes: usize) -> BodyShare {
+    pub fn body_share(&self, rt: &R, tenant: &NamedTenant, bytes: usize) -> BodyShare {
         if bytes <= SHORT {
             return BodyShare::None;
         }
@@ -101,69 +95,32 @@ impl<R: Wait + Drop> Jobs<R> {
         }
     }
 
-    /// Leaves a job in its tenant's queue, and has a worker serve it; where the queue is full, the job that waits for room.
-    /// It is refused if the tenant was removed, and else only for want of memory.
-    pub(crate) fn offer(
-        &self,
-        rt: &R,
-        alloc: Global,
-        job: Job<R>,
-    ) -> Result<Option<HeldBack<R>>, JobAnswer<R>> {
-        let Some(entrance) = self.entrance(rt, job.unserved.request().route.tenant) else {
-            return Err(job.refused(alloc, Refusal::NoTenant));
-        };
-        match entrance.queue.try_send(job) {
-            Ok(()) => {
-                self.entrances.schedule(rt, &entrance, Work::Jobs);
-                Ok(None)
-            }
-            Err(TrySendError::Full(job)) => match HeldBack::of(&entrance.queue, job) {
-                Ok(held) => Ok(Some(held)),
-                Err(job) => Err(job.refused(alloc, Refusal::Memory)),
-            },
-            Err(TrySendError::Closed(job)) => Err(job.refused(alloc, Refusal::NoTenant)),
-            Err(TrySendError::OutOfMemory(job)) => Err(job.refused(alloc, Refusal::Memory)),
-        }
-    }
-
-    /// Has a worker serve a tenant that has jobs.
-    pub(crate) fn schedule(&self, rt: &R, tenant: u64) {
-        if let Some(entrance) = self.entrance(rt, tenant) {
-            self.entrances.schedule(rt, &entrance, Work::Jobs);
-        }
-    }
-
-    /// The answer of a call that is refused before it goes in, by a body of so many bytes; the call is counted.
+    /// What a call is told that is refused before it goes in, by a body of so many bytes; the call is counted.
     pub fn refused(
         &self,
         rt: &R,
         alloc: Global,
-        route: Route,
+        unanswered: Unanswered,
+        route: &Route,
         length: usize,
         refusal: Refusal,
-    ) -> Answer<R>
-        ensures { Refuses refusal result }
+    ) -> Told<R>
+        ensures { Refuses refusal result.answer }
     {
-        let answer = Answer::refused(alloc, refusal);
-        self.count(rt, route, length, &answer);
-        answer
+        let told = unanswered.refused(alloc, refusal);
+        self.add(rt, route, length, told.answer());
+        told
     }
 
-    /// Counts a call by a body of so many bytes.
-    pub(crate) fn count(&self, rt: &R, route: Route, length: usize, answer: &Answer<R>) {
-        if let Some(entrance) = self.entrance(rt, route.tenant) {
+    /// Counts a call that was answered so.
+    pub(crate) fn count(&self, rt: &R, answer: &JobAnswer<R>) {
+        let request = answer.request();
+        self.add(rt, &request.route, request.len(), answer.answer());
+    }
+
+    fn add(&self, rt: &R, route: &Route, length: usize, answer: &Answer<R>) {
+        if let Some(entrance) = self.entrance(rt, &*route.tenant) {
             entrance.counts.add(route.call, length, answer);
-        }
-    }
-
-    /// Hands a brief call to the event loop of its connection, or gives it back where there is none.
-    pub(crate) fn hand(&self, call: InlineCall<R>) -> Result<(), InlineCall<R>> {
-        match &self.inline {
-            Some(inline) => {
-                let sent = inline.calls.send(call);
-                sent.map_err(|error| error.into_inner())
-            }
-            None => Err(call),
         }
     }
 
@@ -184,11 +141,7 @@ impl<R: Wait + Drop> Jobs<R> {
     }
 
     /// The same for the connections of the event loop of that number, and where it receives their brief calls.
-    pub fn with_inline_calls(
-        &self,
-        alloc: Global,
-        number: usize,
-    ) -> Mem<(Jobs<R>, UnboundedReceiver<InlineCall<R>>)> {
+    pub fn with_inline_calls(&self, alloc: Global, number: usize) -> Mem<(Jobs<R>, LoopCalls<R>)> {
         let (sender, calls) = unbounded_channel(alloc)?;
         let inline = LoopEntrance {
             calls: sender,
@@ -198,6 +151,37 @@ impl<R: Wait + Drop> Jobs<R> {
             entrances: Arc::try_clone(&self.entrances)?,
             inline: Some(Arc::new(alloc, inline)?),
         };
+        let calls = LoopCalls {
+            calls,
+            shard: number,
+        };
         Ok((jobs, calls))
+    }
+}
+
+impl<R: Wait + Clock + Drop> Jobs<R> {
+    /// Leaves a request in its tenant's queue; its step is none where a worker has to read it.
+    pub(crate) fn queue(&self, rt: &R, alloc: Global, unserved: Unserved<R>, step: Option<Step>)
+        requires { IsReadAs unserved.request.value step }
+    {
+        let job = Job {
+            unserved,
+            step,
+            waiting: Stopwatch::start(rt),
+        };
+        self.entrances.queue(rt, self.shard(), alloc, job);
+    }
+
+    /// Hands a brief request to the event loop of its connection, or leaves it in its tenant's queue where there is no loop.
+    pub(crate) fn hand(&self, rt: &R, alloc: Global, brief: BriefRequest<R>) {
+        let left = match &self.inline {
+            Some(inline) => match inline.calls.send(brief) {
+                Ok(()) => return,
+                Err(error) => error.into_inner(),
+            },
+            None => brief,
+        };
+        let job = left.into_job(rt);
+        self.entrances.queue(rt, self.shard(), alloc, job);
     }
 }

@@ -2,16 +2,16 @@
 //!
 //! How a call goes through:
 //!
-//! 1. `Jobs::tenant` finds the tenant that the call names (`jobs`, `entrances`). `PendingCall::begin` (`pending`) reads the
-//!    step of a short body. A brief step becomes an *inline call*, for the event loop whose connection it came by; any other
-//!    step, and a long body as it is, becomes a *job* in its tenant's queue.
+//! 1. `Jobs::tenant` finds the tenant that the call names (`jobs`, `entrances`). `Begun::new` (`pending`) reads the step of a
+//!    short body. A brief step becomes an *inline call*, for the event loop whose connection it came by; any other step, and a
+//!    long body as it is, becomes a *job* in its tenant's queue (`job_queue`).
 //! 2. A tenant is served by one thread at a time, which has the *turn* there. Whose turn it is, and what a tenant's clients
 //!    may have under way, is `fair_turns`'.
 //! 3. An event loop serves an inline call if nobody has the turn (`inline_calls`), and else the call becomes a job. A worker
 //!    serves a few jobs a turn (`worker`). Both call the tenant by its key (`caller`), whose traits are those of
 //!    `tenant_calls`. By contract the answer is the written machine's reply (specs `Requests`), from the one call that was
-//!    made for it (specs `Makes`); by its type what is handed in is answered once (`caller::unserved`).
-//! 4. The answer comes back through `PendingCall::poll_answer`, with its call and tenant. That of a watch has
+//!    made for it (specs `Makes`); by its type a request is answered once (`caller::unserved`).
+//! 4. The answer comes back through `PendingCall::poll_told`, with its request. That of a watch has
 //!    `WatchTexts`: the pump takes the next text when the client has read the last one (`pump`). The catch-up worker moves
 //!    watches on that are behind, and compacts by standing orders (`catch_up`); the clock ticks each tenant once a second
 //!    (`clock`).
@@ -26,6 +26,7 @@ mod clients;
 mod clock;
 mod entrances;
 mod inline_calls;
+mod job_queue;
 mod jobs;
 mod pending;
 mod pump;
@@ -35,10 +36,11 @@ mod shared;
 mod tenants;
 mod worker;
 
-pub use inline_calls::{InlineCall, InlineCalls};
-pub use jobs::Jobs;
-pub use pending::{Begun, PendingCall};
-pub use request::{RequestBody, Route};
+pub use caller::{PendingCall, Told, Unanswered};
+pub use inline_calls::InlineCalls;
+pub use jobs::{Jobs, LoopCalls};
+pub use pending::Begun;
+pub use request::{NamedTenant, RequestBody, Route};
 pub use serving::{Service, ServingThread};
 pub use shared::{Shared, open};
 pub use tenants::{NewTenant, ServedTenant, TenantTerms, Tenants};

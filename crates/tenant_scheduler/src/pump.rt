@@ -3,15 +3,15 @@ ghost use Rattle.std.specs.Prelude.{◌≡◌};
 ghost use Rattle.tenant_scheduler.specs.Makes.{IsOnlyOn};
 
 use crate::caller::Caller;
-use crate::clients::{Clients, OpenWatch};
+use crate::clients::Clients;
 use crate::serving::ServingThread;
 use crate::tenants::ServedTenant;
 use fair_turns::{
-    Budget, NoRoom, Scheduler, Stopwatch, TakenText, TenantCounts, TenantTurns, Work,
+    Budget, NoRoom, Scheduler, ServedWatch, Stopwatch, TenantCounts, TenantTurns, Work,
 };
 use std::rt::Clock;
 use std::sync::Wait;
-use tenant_calls::{TakeHint, TenantCalls};
+use tenant_calls::{CallReceipt, TakeHint, TenantCalls};
 
 /// After how many milliseconds a turn ends, once the take at hand is served.
 const MILLIS_A_TURN: u64 = 1;
@@ -66,7 +66,7 @@ pub(crate) fn serve_takes<R: Wait + Clock + Drop, C: TenantCalls>(
     caller: &mut Caller<R, C>,
     scheduler: &Scheduler,
     turns: &TenantTurns,
-    clients: &mut Clients<R, C::Key>,
+    clients: &mut Clients<C::Key>,
 ) {
     let stopwatch = Stopwatch::start(rt);
     drop_closed(caller, clients);
@@ -86,7 +86,7 @@ fn take_and_schedule<R: Wait + Clock + Drop, C: TenantCalls>(
     caller: &mut Caller<R, C>,
     scheduler: &Scheduler,
     turns: &TenantTurns,
-    clients: &mut Clients<R, C::Key>,
+    clients: &mut Clients<C::Key>,
     stopwatch: &Stopwatch,
 ) {
     let Some(hint) = caller.hint(&clients.key) else {
@@ -98,10 +98,10 @@ fn take_and_schedule<R: Wait + Clock + Drop, C: TenantCalls>(
     };
     let mut has_more = false;
     for watch in clients.watches.as_slice() {
-        if left.has(watch.slot) {
+        if left.has(watch.slot()) {
             has_more = true;
             // Where a take found no memory, the clock schedules the next turn.
-            if watch.texts.promise_more() && all_answered {
+            if watch.promise_more() && all_answered {
                 scheduler.schedule(rt, turns, Work::Takes);
             }
         }
@@ -117,7 +117,7 @@ fn take_and_schedule<R: Wait + Clock + Drop, C: TenantCalls>(
 fn take_hinted<R: Wait + Clock + Drop, C: TenantCalls>(
     rt: &R,
     caller: &mut Caller<R, C>,
-    clients: &mut Clients<R, C::Key>,
+    clients: &mut Clients<C::Key>,
     hint: &C::Hint,
     stopwatch: &Stopwatch,
 ) -> bool {
@@ -145,7 +145,7 @@ fn take_hinted<R: Wait + Clock + Drop, C: TenantCalls>(
 /// It is `false` where a take found no memory.
 pub(crate) fn take_all<R: Wait + Clock + Drop, C: TenantCalls>(
     caller: &mut Caller<R, C>,
-    clients: &mut Clients<R, C::Key>,
+    clients: &mut Clients<C::Key>,
 ) -> bool
     ensures { IsOnlyOn C.Key.name_of clients.old.key (C.made caller.old.calls) (C.made caller.new.calls) }
 {
@@ -167,7 +167,7 @@ pub(crate) fn take_all<R: Wait + Clock + Drop, C: TenantCalls>(
 /// place to the last. It is `false` where the take found no memory.
 fn take_at<R: Wait + Clock + Drop, C: TenantCalls>(
     caller: &mut Caller<R, C>,
-    clients: &mut Clients<R, C::Key>,
+    clients: &mut Clients<C::Key>,
     at: &mut usize,
     hint: &C::Hint,
     meant: Meant,
@@ -210,12 +210,10 @@ enum Meant {
 }
 
 impl Meant {
-    fn has<H: TakeHint>(self, hint: &H, budget: &Budget, watch: &OpenWatch) -> bool {
-        let may_give = hint.has(watch.slot);
+    fn has<H: TakeHint>(self, hint: &H, budget: &Budget, watch: &ServedWatch) -> bool {
+        let may_give = hint.has(watch.slot());
         match self {
-            Meant::Waiting => {
-                may_give && !hint.is_far_behind(watch.slot) && watch.texts.is_read()
-            }
+            Meant::Waiting => { may_give && !hint.is_far_behind(watch.slot()) && watch.is_read() }
             Meant::All => !may_give || budget.left() > 0,
         }
     }
@@ -231,36 +229,33 @@ enum TakeOutcome {
 }
 
 /// Takes once, if there is room for a text.
-#[tactic(auto, using(crate::proofs::RequestLemmas::taken, crate::proofs::MakeLemmas::only_own, crate::proofs::MakeLemmas::only_none))]
+#[tactic(auto, using(crate::proofs::MakeLemmas::only_own, crate::proofs::MakeLemmas::only_none))]
 fn take<R: Wait + Clock + Drop, C: TenantCalls>(
     caller: &mut Caller<R, C>,
     key: &Option<C::Key>,
     budget: &Budget,
     counts: &TenantCounts,
-    watch: &OpenWatch,
+    watch: &ServedWatch,
 ) -> TakeOutcome
     ensures { IsOnlyOn C.Key.name_of key.now (C.made caller.old.calls) (C.made caller.new.calls) }
 {
-    let permit = match watch.texts.permit() {
-        Ok(permit) => permit,
+    let room = match watch.room() {
+        Ok(room) => room,
         Err(NoRoom::Unread) => return TakeOutcome::Open,
         Err(NoRoom::Memory) => return TakeOutcome::NoMemory,
     };
-    let (tenant, slot) = (watch.tenant, watch.slot);
-    let Ok(receipt) = caller.take(key, tenant, slot) else {
+    let Ok(receipt) = caller.take(key, watch.tenant(), watch.slot()) else {
         return TakeOutcome::NoMemory;
     };
-    if receipt.body.is_empty() {
+    if receipt.body().is_empty() {
         return TakeOutcome::Open;
     }
-    let taken = if receipt.canceled {
+    let taken = if receipt.canceled() {
         TakeOutcome::Ended
     } else {
         TakeOutcome::Open
     };
-    let text = budget.charge(None, receipt.into_body());
-    counts.add_out(text.len());
-    permit.send(TakenText { tenant, slot, text });
+    counts.add_out(room.put(receipt, budget));
     taken
 }
 
@@ -268,7 +263,7 @@ fn take<R: Wait + Clock + Drop, C: TenantCalls>(
 /// turn.
 pub(crate) fn drop_closed<R: Wait + Clock + Drop, C: TenantCalls>(
     caller: &mut Caller<R, C>,
-    clients: &mut Clients<R, C::Key>,
+    clients: &mut Clients<C::Key>,
 ) {
     let key = &clients.key;
     let watches = &mut clients.watches;
@@ -277,7 +272,7 @@ pub(crate) fn drop_closed<R: Wait + Clock + Drop, C: TenantCalls>(
         if at >= watches.len() {
             break;
         }
-        if !watches[at].texts.is_closed() {
+        if !watches[at].is_closed() {
             at += 1;
         } else if let Err(watch) = caller.end_watch(key, watches.swap_remove(at)) {
             // There is room: it stood here.

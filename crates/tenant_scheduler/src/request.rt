@@ -6,11 +6,28 @@ use etcd_types::{Call, Refusal, Step};
 use fair_turns::Share;
 use gateway_json::read_step;
 use std::alloc::Global;
+use std::sync::Arc;
 
-/// A call that a client may make, and the number of the tenant that it names.
-#[derive(Clone, Copy, Drop)]
+/// A tenant as its requests name it.
+#[derive(Drop)]
+pub struct NamedTenant {
+    pub(crate) name: Vec<u8>,
+    pub(crate) number: u64,
+}
+
+impl NamedTenant {
+    /// Its number, which no other tenant of its server ever has.
+    pub fn number(&self) -> u64
+        ensures { result ≡ self.now.number }
+    {
+        self.number
+    }
+}
+
+/// A call that a client may make, and the tenant that it names.
+#[derive(Drop)]
 pub struct Route {
-    pub tenant: u64,
+    pub tenant: Arc<NamedTenant>,
     pub call: Call,
 }
 
@@ -55,12 +72,18 @@ impl Request {
         read_step(alloc, self.route.call, self.bytes())
     }
 
+    /// The tenant that it names.
+    pub(crate) fn tenant(&self) -> &NamedTenant
+        ensures { result.now ≡ self.now.route.tenant.value }
+    {
+        &*self.route.tenant
+    }
+
     /// Both are the same call on the same tenant by the same body.
-    #[tactic(auto, using(crate::proofs::RequestLemmas::asks_the_same))]
     pub(crate) fn is_same(&self, other: &Request) -> bool
         ensures { result ≡ true → AsksTheSame self.now other.now }
     {
-        self.route.tenant == other.route.tenant
+        self.tenant().number == other.tenant().number
             && self.route.call == other.route.call
             && self.bytes() == other.bytes()
     }

@@ -9,6 +9,8 @@
 use crate::clients::Clients;
 use crate::clock::Running;
 use crate::entrances::{Entrance, Entrances};
+use crate::job_queue::{Job, JobQueue};
+use crate::request::NamedTenant;
 use auto_compaction::{Retention, StandingOrder};
 use crossbeam_utils::sync::ShardedLock;
 use etcd_types::Mem;
@@ -19,10 +21,6 @@ use std::alloc::Global;
 use std::rt::Clock;
 use std::sync::{Arc, Mutex, Wait};
 use tenant_calls::TenantKey;
-use tokio::sync::mpsc;
-
-/// How many jobs wait for one tenant before its callers are held back.
-const WAITING: usize = 256;
 
 /// What a tenant is served by.
 #[derive(Clone, Copy, Debug)]
@@ -44,7 +42,7 @@ impl TenantTerms {
 /// A tenant as it is served.
 pub struct ServedTenant<R: Wait + Drop, K: TenantKey> {
     pub(crate) entrance: Arc<Entrance<R>>,
-    pub(crate) clients: Mutex<Clients<R, K>>,
+    pub(crate) clients: Mutex<Clients<K>>,
 }
 
 impl<R: Wait + Drop, K: TenantKey> Drop for ServedTenant<R, K> {
@@ -57,21 +55,19 @@ impl<R: Wait + Drop, K: TenantKey> Drop for ServedTenant<R, K> {
 }
 
 impl<R: Wait + Drop, K: TenantKey> ServedTenant<R, K> {
-    /// The tenant with these turns, on these terms. Without a key it is not there yet.
+    /// The tenant with these turns, on these terms. It has no key: it is not there yet.
     fn new(
         alloc: Global,
+        tenant: NamedTenant,
         turns: TenantTurns,
         terms: TenantTerms,
-        key: Option<K>,
     ) -> Mem<ServedTenant<R, K>> {
-        let (queue, jobs) = mpsc::channel(alloc, WAITING)?;
         let budget = Budget::new(alloc, terms.budget)?;
         let counts = Arc::new(alloc, TenantCounts::new())?;
         let clients = Clients {
-            key,
+            key: None,
             budget: budget.share()?,
             counts: Arc::try_clone(&counts)?,
-            jobs,
             watches: Vec::new(alloc),
             next_take: 0,
             running: Running::new(),
@@ -81,8 +77,9 @@ impl<R: Wait + Drop, K: TenantKey> ServedTenant<R, K> {
             left_to_workers: 0,
         };
         let entrance = Entrance {
+            tenant: Arc::new(alloc, tenant)?,
             turns: Arc::new(alloc, turns)?,
-            queue,
+            queue: JobQueue::new(alloc),
             budget,
             counts,
         };
@@ -206,8 +203,8 @@ impl<R: Wait + Drop, K: TenantKey> Tenants<R, K> {
 
     /// The tenant of that name.
     pub fn named(&self, rt: &R, shard: usize, name: &[u8]) -> Option<Arc<ServedTenant<R, K>>> {
-        let number = self.entrances.number_of(rt, shard, name)?;
-        self.numbered(rt, shard, number)
+        let tenant = self.entrances.named(rt, shard, name).ok()??;
+        self.numbered(rt, shard, tenant.number)
     }
 
     /// The tenant of that number. Threads with different shards don't disturb each other.
@@ -219,6 +216,11 @@ impl<R: Wait + Drop, K: TenantKey> Tenants<R, K> {
     ) -> Option<Arc<ServedTenant<R, K>>> {
         let served = self.served.read(rt, shard);
         Arc::try_clone(served.get(&number)?).ok()
+    }
+
+    /// Leaves a job in its tenant's queue.
+    pub(crate) fn queue(&self, rt: &R, shard: usize, alloc: Global, job: Job<R>) {
+        self.entrances.queue(rt, shard, alloc, job);
     }
 
     /// Work is due on all tenants.
@@ -256,7 +258,11 @@ impl<R: Wait + Drop, K: TenantKey> Tenants<R, K> {
         terms: TenantTerms,
     ) -> Mem<NewTenant<R, K>> {
         let turns = self.entrances.turns_of(number)?;
-        let tenant = ServedTenant::new(alloc, turns, terms, None)?;
+        let named = NamedTenant {
+            name: Vec::from_slice(alloc, name)?,
+            number,
+        };
+        let tenant = ServedTenant::new(alloc, named, turns, terms)?;
         let new = NewTenant {
             name: Vec::from_slice(alloc, name)?,
             tenant: Arc::new(alloc, tenant)?,
@@ -292,7 +298,8 @@ impl<R: Wait + Clock + Copy + Drop, K: TenantKey> Tenants<R, K> {
             return;
         };
         Scheduler::retire(rt, tenant.turns());
-        tenant.clients.lock(rt).end(alloc);
+        tenant.clients.lock(rt).end();
+        tenant.entrance.queue.close(rt, alloc);
         let _ = self.served.write(rt).swap_remove(&number);
     }
 }

@@ -4,13 +4,14 @@ ghost use Rattle.tenant_scheduler.specs.Makes.{IsMade, IsMadeAfterTakes, IsReque
 ghost use Rattle.tenant_scheduler.specs.Requests.{IsReadAs, IsStepOf, IsUnread};
 
 use crate::caller::{Caller, JobAnswer, Unserved};
-use crate::clients::{Clients, Job};
+use crate::clients::Clients;
+use crate::job_queue::Job;
 use crate::pump::{serve_takes, take_all};
 use crate::request::Request;
 use crate::serving::ServingThread;
 use crate::tenants::ServedTenant;
 use etcd_types::{Call, Refusal, Step};
-use fair_turns::{SMALL_TREE, Scheduler, Stopwatch, TextSender, Work, tree_weight};
+use fair_turns::{SMALL_TREE, Scheduler, Stopwatch, WatchEnds, Work, tree_weight};
 use std::alloc::Global;
 use std::rt::Clock;
 use std::sync::{Arc, Wait};
@@ -98,7 +99,7 @@ impl<R: Wait + Clock + Copy + Drop, C: TenantCalls> WorkerTurn<'_, '_, R, C> {
     }
 
     /// Serves the takes of a tenant where they are due and were long lately.
-    fn serve_long_takes(&self, caller: &mut Caller<R, C>, clients: &mut Clients<R, C::Key>) {
+    fn serve_long_takes(&self, caller: &mut Caller<R, C>, clients: &mut Clients<C::Key>) {
         let turns = self.tenant.turns();
         if clients.takes_left > 0 && Scheduler::begins_takes(turns) {
             serve_takes(&self.rt, caller, self.scheduler, turns, clients);
@@ -109,7 +110,7 @@ impl<R: Wait + Clock + Copy + Drop, C: TenantCalls> WorkerTurn<'_, '_, R, C> {
     fn serve_jobs(
         &self,
         caller: &mut Caller<R, C>,
-        clients: &mut Clients<R, C::Key>,
+        clients: &mut Clients<C::Key>,
         stopwatch: &Stopwatch,
     ) {
         let mut bytes = 0usize;
@@ -117,7 +118,7 @@ impl<R: Wait + Clock + Copy + Drop, C: TenantCalls> WorkerTurn<'_, '_, R, C> {
             if bytes > BYTES_A_TURN || stopwatch.is_past(&self.rt, MILLIS_A_TURN) {
                 break;
             }
-            let Ok(job) = clients.jobs.try_recv() else {
+            let Some(job) = self.tenant.entrance.queue.pop(&self.rt) else {
                 return;
             };
             bytes = bytes.saturating_add(self.serve_job(caller, clients, job));
@@ -130,23 +131,21 @@ impl<R: Wait + Clock + Copy + Drop, C: TenantCalls> WorkerTurn<'_, '_, R, C> {
     fn serve_job(
         &self,
         caller: &mut Caller<R, C>,
-        clients: &mut Clients<R, C::Key>,
+        clients: &mut Clients<C::Key>,
         job: Job<R>,
     ) -> usize {
         let Job {
             unserved,
             step,
             waiting,
-            reply,
         } = job;
         clients.counts.waits().add(waiting.passed(&self.rt));
         let (call, length) = (unserved.request().route.call, unserved.request().len());
         let read = if step.is_some() { 0 } else { length };
-        let told = self.answer(caller, clients, unserved, step);
-        clients.counts.add(call, length, told.answer());
-        let bytes = read.saturating_add(told.answer().len());
-        // Where the client has gone, the call stays made.
-        drop(reply.send(told));
+        let answer = self.answer(caller, clients, unserved, step);
+        answer.count(&clients.counts);
+        let bytes = read.saturating_add(answer.answer().len());
+        answer.send();
         if may_give(call) {
             clients.schedule_takes(&self.rt, self.scheduler, self.tenant.turns());
         }
@@ -157,13 +156,13 @@ impl<R: Wait + Clock + Copy + Drop, C: TenantCalls> WorkerTurn<'_, '_, R, C> {
     fn answer(
         &self,
         caller: &mut Caller<R, C>,
-        clients: &mut Clients<R, C::Key>,
-        unserved: Unserved,
+        clients: &mut Clients<C::Key>,
+        unserved: Unserved<R>,
         step: Option<Step>,
     ) -> JobAnswer<R>
         requires { IsReadAs unserved.request.value step }
-        ensures request { result.request ≡ unserved.request }
-        ensures made { IsRequestMade C.Key.number_of C.Key.name_of C.gives clients.old.key unserved.request.value result.answer
+        ensures request { result.own.request ≡ unserved.request }
+        ensures made { IsRequestMade C.Key.number_of C.Key.name_of C.gives clients.old.key unserved.request.value result.own.answer
             (C.made caller.old.calls) (C.made caller.new.calls) }
     {
         match self.step_of(clients, unserved.request(), step) {
@@ -175,7 +174,7 @@ impl<R: Wait + Clock + Copy + Drop, C: TenantCalls> WorkerTurn<'_, '_, R, C> {
     /// The step of a request, or why there is none.
     fn step_of(
         &self,
-        clients: &Clients<R, C::Key>,
+        clients: &Clients<C::Key>,
         request: &Request,
         step: Option<Step>,
     ) -> Result<Step, Refusal>
@@ -193,14 +192,14 @@ impl<R: Wait + Clock + Copy + Drop, C: TenantCalls> WorkerTurn<'_, '_, R, C> {
     fn serve(
         &self,
         caller: &mut Caller<R, C>,
-        clients: &mut Clients<R, C::Key>,
-        unserved: Unserved,
+        clients: &mut Clients<C::Key>,
+        unserved: Unserved<R>,
         step: Step,
     ) -> JobAnswer<R>
         requires { IsStepOf unserved.request.value step }
-        ensures request { result.request ≡ unserved.request }
+        ensures request { result.own.request ≡ unserved.request }
         ensures made { IsMadeAfterTakes C.Key.number_of C.Key.name_of C.gives clients.old.key
-            unserved.request.value.route.tenant step result.answer (C.made caller.old.calls) (C.made caller.new.calls) }
+            unserved.request.value.route.tenant.value step result.own.answer (C.made caller.old.calls) (C.made caller.new.calls) }
     {
         match step {
             Step::Watch(_) => self.open(caller, clients, unserved, step),
@@ -218,7 +217,7 @@ impl<R: Wait + Clock + Copy + Drop, C: TenantCalls> WorkerTurn<'_, '_, R, C> {
 
     /// The step of a long body. It is refused where the tree that is made of it is large, and the tenant's budget has no
     /// room for it.
-    fn read(&self, clients: &Clients<R, C::Key>, request: &Request) -> Result<Step, Refusal>
+    fn read(&self, clients: &Clients<C::Key>, request: &Request) -> Result<Step, Refusal>
         ensures step { IfOk result (λ step. IsStepOf request.now step) }
         ensures refused { IfErr result (λ r. IsUnread request.now r) }
     {
@@ -238,19 +237,19 @@ impl<R: Wait + Clock + Copy + Drop, C: TenantCalls> WorkerTurn<'_, '_, R, C> {
     fn open(
         &self,
         caller: &mut Caller<R, C>,
-        clients: &mut Clients<R, C::Key>,
-        unserved: Unserved,
+        clients: &mut Clients<C::Key>,
+        unserved: Unserved<R>,
         step: Step,
     ) -> JobAnswer<R>
         requires { IsStepOf unserved.request.value step }
-        ensures request { result.request ≡ unserved.request }
-        ensures made { IsMade C.Key.number_of C.Key.name_of C.gives unserved.request.value.route.tenant step
-            result.answer (C.made caller.old.calls) (C.made caller.new.calls) }
+        ensures request { result.own.request ≡ unserved.request }
+        ensures made { IsMade C.Key.number_of C.Key.name_of C.gives unserved.request.value.route.tenant.value step
+            result.own.answer (C.made caller.old.calls) (C.made caller.new.calls) }
     {
         if clients.watches.reserve(1).is_err() {
             return unserved.refused(self.alloc, Refusal::Memory);
         }
-        let Ok(ends) = TextSender::new(self.rt, self.alloc, self.tenant.turns()) else {
+        let Ok(ends) = WatchEnds::new(self.rt, self.alloc, self.tenant.turns()) else {
             return unserved.refused(self.alloc, Refusal::Memory);
         };
         caller.open(self.alloc, clients, unserved, step, ends)

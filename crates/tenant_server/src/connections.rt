@@ -320,7 +320,7 @@ where
     let Ok((jobs, inline_calls)) = jobs.with_inline_calls(alloc, own.number) else {
         return (thread.into_calls(), Err(ServeFault::Memory));
     };
-    let mut inline_calls = InlineCalls::new(alloc, own.number, thread, inline_calls);
+    let mut inline_calls = InlineCalls::new(alloc, thread, inline_calls);
     let served = serve_sockets(rt, alloc, own, jobs, &mut inline_calls);
     let served = served.map_err(|error| ServeFault::of(&error));
     (inline_calls.into_calls(), served)

@@ -8,7 +8,7 @@ pub returns-clause-goes_on : goal.returns-clause-goes_on
 returns-clause-goes_on g c = λ answer is. subst (λ s. IsStageAnswer s answer) (sym c.in-Reading.is) (reads_on c.in-Reading.reading c.poll_whole.new.self (search rules) answer is)
 
 pub returns-in-Ok-clause-answered : goal.returns-in-Ok-clause-answered
-returns-in-Ok-clause-answered g c = subst (λ s. IfSome c.begin.result (λ answer. IsStageAnswer s answer)) (sym c.in-Reading.is) (taken_answered c.in-Reading.reading c.poll_whole.new.self c.begin.result c.begin.new.self.stage (search rules) c.begin.ensures)
+returns-in-Ok-clause-answered g c = subst (λ s. IfSome c.begin.result (λ told. IsStageAnswer s told.answer)) (sym c.in-Reading.is) (taken_answered c.in-Reading.reading c.poll_whole.new.self c.begin.result c.begin.new.self.stage (search rules) c.begin.ensures)
 
 pub returns-in-Ok-clause-goes_on : goal.returns-in-Ok-clause-goes_on
 returns-in-Ok-clause-goes_on g c = λ answer may. subst (λ s. IsStageAnswer s answer) (sym c.in-Reading.is) (taken_on c.in-Reading.reading c.poll_whole.new.self c.begin.result c.begin.new.self.stage (search rules) c.begin.ensures answer may)

@@ -3,10 +3,10 @@ use Rattle.tenant_scheduler.specs.Makes.{Made, Unmade}
 use Rattle.tenant_scheduler.proofs.caller.Caller.created.Goals as goal
 
 pub returns-in-Ok-clause-answer : goal.returns-in-Ok-clause-answer
-returns-in-Ok-clause-answer g c = c.opened.ensures.answer c.args.step (g.met.C.TenantCalls.tells c.args.number c.args.step c.in-Ok.receipt c.in-Ok.ensures.given)
+returns-in-Ok-clause-answer g c = c.opened.ensures.answer c.args.step (g.met.C.TenantCalls.tells c.args.tenant.now.number c.args.step (g.C.Receipt.CallReceipt.slip_of c.in-Ok.receipt) c.in-Ok.ensures.given)
 
 pub returns-in-Ok-clause-made : goal.returns-in-Ok-clause-made
-returns-in-Ok-clause-made g c = Made c.in-Ok.receipt c.in-Ok.ensures.made c.in-Ok.ensures.given c.opened.ensures.shows
+returns-in-Ok-clause-made g c = Made (g.C.Receipt.CallReceipt.slip_of c.in-Ok.receipt) c.in-Ok.ensures.made c.in-Ok.ensures.given c.opened.ensures.shows
 
 pub returns-in-Err-clause-answer : goal.returns-in-Err-clause-answer
 returns-in-Err-clause-answer g c = Uncalled c.in-Err.refusal c.in-Err.ensures.refused c.refused.ensures

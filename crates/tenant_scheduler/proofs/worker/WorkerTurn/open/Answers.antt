@@ -3,7 +3,7 @@ use Rattle.tenant_scheduler.proofs.MakeLemmas.{unmade_for_memory}
 use Rattle.tenant_scheduler.proofs.worker.WorkerTurn.open.Goals as goal
 
 pub returns-then-is_err-clause-made : goal.returns-then-is_err-clause-made
-returns-then-is_err-clause-made g c = unmade_for_memory g.C.Key.TenantKey.number_of g.C.Key.TenantKey.name_of g.C.TenantCalls.gives c.args.unserved.request.value.route.tenant c.args.step c.refused.result.answer _ _ (λ name. refl) c.refused.ensures.answer
+returns-then-is_err-clause-made g c = unmade_for_memory g.C.Key.TenantKey.number_of g.C.Key.TenantKey.name_of g.C.TenantCalls.gives c.args.unserved.request.value.route.tenant.value c.args.step c.refused.result.own.answer _ _ (λ name. refl) c.refused.ensures.answer
 
 pub returns-in_default-clause-made : goal.returns-in_default-clause-made
-returns-in_default-clause-made g c = unmade_for_memory g.C.Key.TenantKey.number_of g.C.Key.TenantKey.name_of g.C.TenantCalls.gives c.args.unserved.request.value.route.tenant c.args.step c.refused-in_default.result.answer _ _ (λ name. refl) c.refused-in_default.ensures.answer
+returns-in_default-clause-made g c = unmade_for_memory g.C.Key.TenantKey.number_of g.C.Key.TenantKey.name_of g.C.TenantCalls.gives c.args.unserved.request.value.route.tenant.value c.args.step c.refused-in_default.result.own.answer _ _ (λ name. refl) c.refused-in_default.ensures.answer
