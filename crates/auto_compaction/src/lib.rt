@@ -4,5 +4,5 @@
 mod order;
 mod retention;
 
-pub use order::StandingOrder;
+pub use order::{DueRevision, StandingOrder};
 pub use retention::{MAX_RETENTION, Retention};

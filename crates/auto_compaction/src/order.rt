@@ -44,6 +44,21 @@ impl Note {
     }
 }
 
+/// A revision that a tenant's standing order lets go. Orders alone tell one.
+#[derive(Clone, Copy, Drop)]
+pub struct DueRevision {
+    revision: i64,
+}
+
+impl DueRevision {
+    /// The revision before which the history goes.
+    pub fn revision(self) -> i64
+        ensures { result ≡ self.revision }
+    {
+        self.revision
+    }
+}
+
 /// A tenant's standing order, and how far it was carried out.
 pub struct StandingOrder {
     retention: Retention,
@@ -92,14 +107,19 @@ impl StandingOrder {
 
     /// The revision at which the tenant is to be compacted now, if it is, whose current revision this is. What its order
     /// keeps stays.
-    pub fn look(&mut self, moment: u64, revision: i64) -> Option<i64>
-        ensures spares { IfSome result (MayGo self.new.retention self.new.notes.items moment revision) }
+    pub fn look(&mut self, moment: u64, revision: i64) -> Option<DueRevision>
+        ensures spares { IfSome result
+            (λ due. MayGo self.new.retention self.new.notes.items moment revision due.revision) }
         ensures stays { self.new.retention ≡ self.old.retention }
     {
-        match self.retention {
+        let due = match self.retention {
             Retention::All => None,
             Retention::Seconds(seconds) => self.look_at_time(moment, revision, seconds),
             Retention::Revisions(count) => self.look_at_count(moment, revision, count),
+        };
+        match due {
+            Some(revision) => Some(DueRevision { revision }),
+            None => None,
         }
     }
 

@@ -7,7 +7,7 @@
 //! 2. Long bodies and texts take shares of their tenant's budget (`budget`), so that what one tenant's clients have under
 //!    way is bounded, and no other tenant pays for it.
 //! 3. An `Answer` is a status and a text (`answer`), or the texts of a watch as they come, one at a time
-//!    (`watch_texts`).
+//!    (`watch_texts`, `taken_text`).
 //! 4. A dashboard is told what was answered and how long that took (`counts`, `answered`, `durations`), and whether each
 //!    thread moves (`beats`).
 #![tactic(auto)]
@@ -21,6 +21,7 @@ mod durations;
 mod scheduler;
 mod slow_tenants;
 mod stopwatch;
+mod taken_text;
 mod watch_texts;
 
 pub use answer::{Answer, Text};
@@ -34,4 +35,5 @@ pub use counts::TenantCounts;
 pub use durations::{Durations, ENDS};
 pub use scheduler::{BESIDE_WORKERS, Scheduler, TenantTurns, Turn, Turns, Work};
 pub use stopwatch::Stopwatch;
+pub use taken_text::TakenText;
 pub use watch_texts::{NoRoom, ServedWatch, TextRoom, WatchEnds, WatchTexts};

@@ -10,8 +10,9 @@ ghost use Rattle.futures.specs.Poll.{IfReady, OnPending};
 ghost use Rattle.tenant_calls.specs.Answers.{IsTold};
 ghost use Rattle.fair_turns.specs.Watching.{IsTaken};
 
-use crate::budget::{Budget, MadeText};
+use crate::budget::Budget;
 use crate::scheduler::TenantTurns;
+use crate::taken_text::TakenText;
 use etcd_types::Mem;
 use futures::ready;
 use futures::task::{Context, Poll};
@@ -31,15 +32,6 @@ pub enum NoRoom {
     /// The client has not read what it was told, or has gone.
     Unread,
     Memory,
-}
-
-/// A text that was taken of a tenant's watch.
-#[derive(Drop)]
-struct TakenText {
-    tenant: u64,
-    slot: u8,
-    text: MadeText,
-    ghost is: { ∥ IsTaken tenant slot text.bytes.items ∥₁ },
 }
 
 /// Both ends of a watch that was not created yet. They come apart when it is, so each watch has its own.
@@ -200,7 +192,6 @@ impl ServedWatch {
 impl TextRoom<'_> {
     /// Puts in the text of the receipt that a take of the watch's slot got, with its share of the tenant's budget: how many
     /// bytes it has.
-    #[tactic(auto, using(crate::proofs::AnswerLemmas::taken))]
     pub fn put<T: CallReceipt>(self, receipt: T, budget: &Budget) -> usize
         requires { IsTold self.tenant (Take self.slot) (T.slip_of receipt) }
     {
@@ -209,18 +200,19 @@ impl TextRoom<'_> {
             slot,
             permit,
         } = self;
-        let text = budget.charge(None, receipt.into_body());
+        let text = TakenText::new(tenant, slot, receipt, budget);
         let length = text.len();
-        permit.send(TakenText { tenant, slot, text });
+        permit.send(text);
         length
     }
 }
 
 impl<R: Wait + Drop> WatchTexts<R> {
     /// The next text, or the end of the watch.
-    pub fn poll_text(&mut self, cx: &mut Context<'_>) -> Poll<Option<MadeText>>
-        ensures taken { IfReady result (λ told. IfSome told (λ text.
-            ∥ IsTaken self.old.tenant self.old.slot text.bytes.items ∥₁)) }
+    #[tactic(auto, using(crate::proofs::AnswerLemmas::of_the_same_watch))]
+    pub fn poll_text(&mut self, cx: &mut Context<'_>) -> Poll<Option<TakenText>>
+        ensures taken { IfReady result (λ told. IfSome told (λ taken.
+            ∥ IsTaken self.old.tenant self.old.slot taken.text.bytes.items ∥₁)) }
         ensures tenant { self.new.tenant ≡ self.old.tenant }
         ensures slot { self.new.slot ≡ self.old.slot }
         ensures registered { OnPending result (IsArmed cx.new) }
@@ -234,26 +226,6 @@ impl<R: Wait + Drop> WatchTexts<R> {
             return Poll::Ready(None);
         };
         Poll::Ready(taken.of(self.tenant, self.slot))
-    }
-}
-
-impl TakenText {
-    /// The text, if it is of this slot of that tenant.
-    #[tactic(auto, using(crate::proofs::AnswerLemmas::of_the_same_watch))]
-    fn of(self, tenant: u64, slot: u8) -> Option<MadeText>
-        ensures taken { IfSome result (λ text. ∥ IsTaken tenant slot text.bytes.items ∥₁) }
-        ensures same { IfSome result (λ text. text ≡ self.text) }
-    {
-        let TakenText {
-            tenant: of_tenant,
-            slot: of_slot,
-            text,
-        } = self;
-        if of_tenant == tenant && of_slot == slot {
-            Some(text)
-        } else {
-            None
-        }
     }
 }
 

@@ -9,7 +9,7 @@ use Rattle.http.specs.declared.response.Response.{Response}
 use Rattle.fair_turns.specs.declared.answer.Answer.{Answer}
 use Rattle.fair_turns.specs.Answers.{Answers, Unasked, Refuses}
 use Rattle.tenant_scheduler.specs.declared.request.Route.{Route}
-use Rattle.tenant_scheduler.specs.declared.caller.unserved.Told.{Told}
+use Rattle.tenant_scheduler.specs.declared.caller.told.Told.{Told}
 use Rattle.tenant_scheduler.specs.declared.pending.Begun.{Begun}
 use Rattle.tenant_scheduler.specs.declared.pending.Begun.TheVariants.{Pending, Answered}
 use Rattle.tenant_scheduler.specs.declared.caller.unserved.PendingCall.{PendingCall}

@@ -8,17 +8,15 @@ ghost use Rattle.gateway_http.specs.Exchanges.{Exchanges, GoesOn, IsResponseOf, 
 ghost use Rattle.gateway_http.specs.Requests.{IsRouteOf};
 ghost use Rattle.gateway_http.specs.Responses.{Sends};
 
-use crate::reading::{Reading, bound_of, loss_of};
+use crate::reading::{BodyTerms, Reading, WholeBody, bound_of, loss_of};
 use crate::response::{ResponseBody, respond};
 use crate::routing::route;
 use crate::stall::{BodyTimer, Stall};
 use connection_table::{Requests, UnderWay};
 use etcd_types::Refusal;
-use etcd_types::limits::MAX_BODY;
 use fair_turns::BodyShare;
 use futures::task::{Context, Poll};
 use futures::{Future, ready};
-use http_body_util::Limited;
 use hyper::body::Incoming;
 use hyper::service::Service;
 use hyper::{Request, Response};
@@ -120,23 +118,25 @@ impl<I: Drop, R: Wait + Clock + Copy + Drop> Service<Request<Incoming<I>>> for G
             (Some(jobs), Ok(route), None) => { jobs.body_share(&self.rt, &*route.tenant, bound) }
             _ => BodyShare::None,
         };
+        let terms = BodyTerms {
+            bound,
+            share,
+            stall: Stall::new(self.rt, self.body_timer()),
+        };
+        let reading = Reading::new(
+            self.alloc,
+            Unanswered::new(),
+            route,
+            req.into_body(),
+            terms,
+            lost,
+        );
         Exchange {
             rt: self.rt,
             alloc: self.alloc,
             jobs,
             standing,
-            stage: Stage::Reading(Reading {
-                unanswered: Unanswered::new(),
-                route,
-                body: Limited::new(req.into_body(), MAX_BODY),
-                read: Vec::new(self.alloc),
-                bound,
-                share,
-                stall: Stall::new(self.rt, self.body_timer()),
-                rests: false,
-                lost,
-                passed: 0,
-            }),
+            stage: Stage::Reading(reading),
         }
     }
 }
@@ -220,7 +220,7 @@ impl<I: Drop, R: Wait + Clock + Copy + Drop> Exchange<I, R> {
             return Poll::Ready(Ok(None));
         };
         match ready!(reading.poll_whole(cx)) {
-            Ok(()) => Poll::Ready(Ok(self.begin())),
+            Ok(whole) => Poll::Ready(Ok(self.begin(whole))),
             Err(e) => {
                 self.stage = Stage::Over;
                 Poll::Ready(Err(e))
@@ -255,13 +255,13 @@ impl<I: Drop, R: Wait + Clock + Copy + Drop> Exchange<I, R> {
     }
 
     /// Begins the call of a request that was read; what it is told, if that is known already.
-    fn begin(&mut self) -> Option<Told<R>>
+    fn begin(&mut self, whole: WholeBody) -> Option<Told<R>>
         ensures { TakesUp self.old.stage result self.new.stage }
     {
         let Stage::Reading(reading) = mem::replace(&mut self.stage, Stage::Over) else {
             return None;
         };
-        match reading.begin(self.rt, self.alloc, &self.jobs) {
+        match reading.begin(whole, self.rt, self.alloc, &self.jobs) {
             Begun::Answered(told) => Some(told),
             Begun::Pending(call) => {
                 self.stage = Stage::Pending(call);

@@ -2,6 +2,7 @@
 ghost use Rattle.std.specs.Prelude.{◌≡◌, []};
 ghost use Rattle.futures.specs.Task.{IsArmed, Keeps};
 ghost use Rattle.futures.specs.Poll.{OnPending};
+ghost use Rattle.etcd_types.specs.Limits.{max_body};
 ghost use Rattle.http_body.specs.Frame.{bytes_in};
 ghost use Rattle.gateway_http.specs.Readings.{IsKept, IsLost, ReadsOn, ReadsWhole};
 ghost use Rattle.gateway_http.specs.Requests.{IsTakenUp, loss_told};
@@ -36,19 +37,43 @@ const MAX_PASSED: u32 = 4096;
 /// A request whose body is being read.
 #[derive(Drop)]
 pub(crate) struct Reading<I, R: Wait + Drop> {
-    pub(crate) unanswered: Unanswered,
-    pub(crate) route: Result<Route, Refusal>,
-    pub(crate) body: Limited<Incoming<I>>,
-    pub(crate) read: Vec<u8>,
+    unanswered: Unanswered,
+    route: Result<Route, Refusal>,
+    body: Limited<Incoming<I>>,
+    read: Vec<u8>,
+    terms: BodyTerms<R>,
+    /// Much of it was read: the next piece is left for a later turn of its loop.
+    rests: bool,
+    /// Why the body is read on and thrown away.
+    lost: Option<Loss>,
+    passed: u32,
+}
+
+/// On which terms a body is read.
+#[derive(Drop)]
+pub(crate) struct BodyTerms<R: Wait + Drop> {
     /// The most bytes that it may come to have.
     pub(crate) bound: usize,
     pub(crate) share: BodyShare,
     pub(crate) stall: Stall<R>,
-    /// Much of it was read: the next piece is left for a later turn of its loop.
-    pub(crate) rests: bool,
-    /// Why the body is read on and thrown away.
-    pub(crate) lost: Option<Loss>,
-    pub(crate) passed: u32,
+}
+
+/// A body was read to its end, or enough of it was passed over. It is told once, and then its call begins.
+#[derive(Drop)]
+pub(crate) struct WholeBody {
+    /// It is made here alone.
+    sealed: (),
+}
+
+impl<R: Wait + Drop> BodyTerms<R> {
+    fn into_share(self) -> BodyShare {
+        let BodyTerms {
+            bound: _,
+            share,
+            stall: _,
+        } = self;
+        share
+    }
 }
 
 /// Why a body is thrown away.
@@ -74,9 +99,37 @@ impl Loss {
 }
 
 impl<I: Drop, R: Wait + Clock + Copy + Drop> Reading<I, R> {
+    /// A request with this route, none of whose body was read.
+    pub(crate) fn new(
+        alloc: Global,
+        unanswered: Unanswered,
+        route: Result<Route, Refusal>,
+        body: Incoming<I>,
+        terms: BodyTerms<R>,
+        lost: Option<Loss>,
+    ) -> Reading<I, R>
+        ensures route { result.route ≡ route }
+        ensures body { result.body ≡ record { remaining = max_body; inner = body } }
+        ensures read { result.read.items ≡ [] }
+    {
+        Reading {
+            unanswered,
+            route,
+            body: Limited::new(body, MAX_BODY),
+            read: Vec::new(alloc),
+            terms,
+            rests: false,
+            lost,
+            passed: 0,
+        }
+    }
+
     /// Ready once the body is read, or once enough of it was passed over. It fails where the peer breaks off, or takes
     /// too long for the next piece.
-    pub(crate) fn poll_whole(&mut self, cx: &mut Context<'_>) -> Poll<Result<(), hyper::Error>>
+    pub(crate) fn poll_whole(
+        &mut self,
+        cx: &mut Context<'_>,
+    ) -> Poll<Result<WholeBody, hyper::Error>>
         ensures read { ReadsWhole self.old result self.new }
         ensures registered { OnPending result (IsArmed cx.new) }
         ensures kept { Keeps cx.old cx.new }
@@ -90,13 +143,13 @@ impl<I: Drop, R: Wait + Clock + Copy + Drop> Reading<I, R> {
         for _ in 0..PIECES_A_POLL {
             match ready!(self.poll_piece(cx)) {
                 Ok(Some(more)) => bytes = bytes.saturating_add(more),
-                Ok(None) => return Poll::Ready(Ok(())),
+                Ok(None) => return Poll::Ready(Ok(WholeBody { sealed: () })),
                 Err(e) => return Poll::Ready(Err(e)),
             }
             if self.lost.is_some() {
                 self.passed = self.passed.saturating_add(1);
                 if self.passed > MAX_PASSED {
-                    return Poll::Ready(Ok(()));
+                    return Poll::Ready(Ok(WholeBody { sealed: () }));
                 }
             }
             if bytes >= BYTES_A_POLL {
@@ -115,10 +168,10 @@ impl<I: Drop, R: Wait + Clock + Copy + Drop> Reading<I, R> {
         ensures kept { Keeps cx.old cx.new }
     {
         let Poll::Ready(came) = self.body.poll_frame(cx) else {
-            ready!(self.stall.poll_over(cx));
+            ready!(self.terms.stall.poll_over(cx));
             return Poll::Ready(Err(hyper::Error::from(AllocError)));
         };
-        self.stall.relent();
+        self.terms.stall.relent();
         match came {
             Some(Ok(frame)) => Poll::Ready(Ok(Some(self.take_in(frame)))),
             Some(Err(LimitedError::LengthLimit)) => {
@@ -151,24 +204,24 @@ impl<I: Drop, R: Wait + Clock + Copy + Drop> Reading<I, R> {
         ensures registered { OnPending result (IsArmed cx.new) }
         ensures kept { Keeps cx.old cx.new }
     {
-        let BodyShare::Awaited(_) = &self.share else {
+        let BodyShare::Awaited(_) = &self.terms.share else {
             return Poll::Ready(());
         };
-        let (share, held) = mem::replace(&mut self.share, BodyShare::None).poll_held(cx);
-        self.share = share;
+        let (share, held) = mem::replace(&mut self.terms.share, BodyShare::None).poll_held(cx);
+        self.terms.share = share;
         match held {
             Poll::Ready(true) => {
-                if self.read.reserve_exact(self.bound).is_err() {
+                if self.read.reserve_exact(self.terms.bound).is_err() {
                     self.lose();
                 }
             }
             Poll::Ready(false) => self.lose(),
             Poll::Pending => {
-                ready!(self.stall.poll_over(cx));
+                ready!(self.terms.stall.poll_over(cx));
                 self.lose();
             }
         }
-        self.stall.relent();
+        self.terms.stall.relent();
         Poll::Ready(())
     }
 
@@ -177,7 +230,7 @@ impl<I: Drop, R: Wait + Clock + Copy + Drop> Reading<I, R> {
         ensures { IsLost self.old self.new }
     {
         self.lost = Some(Loss::NoMemory);
-        self.share = BodyShare::None;
+        self.terms.share = BodyShare::None;
     }
 
     /// Keeps a piece of the body of a request that is not refused yet.
@@ -194,7 +247,13 @@ impl<I: Drop, R: Wait + Clock + Copy + Drop> Reading<I, R> {
     }
 
     /// Begins the call of a request that was read, or refuses it.
-    pub(crate) fn begin(self, rt: R, alloc: Global, jobs: &Option<Jobs<R>>) -> Begun<R>
+    pub(crate) fn begin(
+        self,
+        _whole: WholeBody,
+        rt: R,
+        alloc: Global,
+        jobs: &Option<Jobs<R>>,
+    ) -> Begun<R>
         ensures { IsTakenUp self.route self.lost self.read.items result }
     {
         let Reading {
@@ -202,9 +261,7 @@ impl<I: Drop, R: Wait + Clock + Copy + Drop> Reading<I, R> {
             route,
             body: _,
             read,
-            bound: _,
-            share,
-            stall: _,
+            terms,
             rests: _,
             lost,
             passed: _,
@@ -223,7 +280,7 @@ impl<I: Drop, R: Wait + Clock + Copy + Drop> Reading<I, R> {
         let Some(jobs) = jobs else {
             return Begun::Answered(unanswered.refused(alloc, Refusal::Memory));
         };
-        let share = share.for_body(read.len());
+        let share = terms.into_share().for_body(read.len());
         let body = RequestBody { bytes: read, share };
         Begun::new(&rt, alloc, jobs, unanswered, route, body)
     }

@@ -9,7 +9,7 @@ ghost use Rattle.gateway_http.specs.Responses.{Sends};
 
 use crate::exchange::Standing;
 use bytes::Bytes;
-use fair_turns::{MadeText, Share, Text, WatchTexts};
+use fair_turns::{Share, TakenText, Text, WatchTexts};
 use futures::ready;
 use futures::task::{Context, Poll};
 use gateway_text::memory_text;
@@ -172,7 +172,7 @@ impl<R: Wait + Clock + Drop> ResponseBody<R> {
             return Poll::Ready(None);
         };
         match ready!(texts.poll_text(cx)) {
-            Some(text) => Poll::Ready(Some(self.watched(text))),
+            Some(taken) => Poll::Ready(Some(self.watched(taken))),
             None => Poll::Ready(None),
         }
     }
@@ -203,12 +203,12 @@ impl<R: Wait + Clock + Drop> ResponseBody<R> {
 
     /// A text of a watch, whole. One that can't be shared ends the connection: what was taken of a watch is not given
     /// again.
-    fn watched(&mut self, text: MadeText) -> Result<Bytes, AllocError>
-        ensures text { IfOk result (λ sent. sent ≡ text.bytes.items) }
+    fn watched(&mut self, taken: TakenText) -> Result<Bytes, AllocError>
+        ensures text { IfOk result (λ sent. sent ≡ taken.text.bytes.items) }
         ensures first { self.new.first ≡ self.old.first }
         ensures following { self.new.following ≡ self.old.following }
     {
-        let (bytes, share) = text.into_parts();
+        let (bytes, share) = taken.into_text().into_parts();
         let text = shared(bytes)?;
         if let Some(share) = share {
             self.keep(text.clone()?, share);

@@ -11,6 +11,7 @@ use Rattle.tenant_scheduler.specs.declared.request.Request.{Request}
 -- both are of one call on one tenant, and have the same body
 pub record AsksTheSame (one other : Request) : Type 0 where
   pub tenant : one.route.tenant.value.number ≡ other.route.tenant.value.number
+  pub name : one.route.tenant.value.name.items ≡ other.route.tenant.value.name.items
   pub call : one.route.call ≡ other.route.call
   pub body : one.body.bytes.items ≡ other.body.bytes.items
 

@@ -10,20 +10,22 @@ ghost use Rattle.tenant_scheduler.specs.OwnSteps.{IsOwnMade, step_of};
 ghost use Rattle.tenant_scheduler.specs.Requests.{IsStepOf};
 ghost use Rattle.tenant_scheduler.specs.Watches.{IsListed};
 
+mod told;
 mod unserved;
 
-use crate::catch_up::DueRevision;
 use crate::clients::{Clients, key_of};
 use crate::clock::Moment;
 use crate::inline_calls::is_brief;
 use crate::request::NamedTenant;
+use auto_compaction::DueRevision;
 use etcd_types::{Refusal, Step};
 use fair_turns::{Answer, LONGEST_ROW, MadeText, ServedWatch, Share, WatchEnds, may_be_long};
 use std::alloc::Global;
 use std::rt::Clock;
 use std::sync::Wait;
 use tenant_calls::{CallReceipt, TenantCalls, TenantKey};
-pub use unserved::{PendingCall, Told, Unanswered};
+pub use told::{Told, Unanswered};
+pub use unserved::PendingCall;
 pub(crate) use unserved::{JobAnswer, Unserved};
 
 /// A step that a thread makes by itself, and not for a client.
@@ -57,7 +59,10 @@ pub(crate) struct Caller<R, C> {
 }
 
 impl<R: Wait + Clock + Drop, C: TenantCalls> Caller<R, C> {
-    pub(crate) fn new(rt: R, calls: C) -> Caller<R, C> {
+    /// The way to tenants that these calls are; none was made.
+    pub(crate) fn new(rt: R, calls: C) -> Caller<R, C>
+        ensures { result.calls ≡ calls }
+    {
         Caller { rt, calls }
     }
 
@@ -269,7 +274,9 @@ impl<R: Wait + Clock + Drop, C: TenantCalls> Caller<R, C> {
         }
     }
 
-    pub(crate) fn into_calls(self) -> C {
+    pub(crate) fn into_calls(self) -> C
+        ensures { result ≡ self.calls }
+    {
         self.calls
     }
 }

@@ -1,12 +1,9 @@
 //! The catch-up worker: moves watches on that are behind, and compacts by standing orders.
-ghost use Rattle.std.specs.Prelude.{◌≡◌};
-
 use crate::caller::{Caller, OwnStep};
 use crate::clients::Clients;
 use crate::pump::take_all;
 use crate::serving::ServingThread;
 use crate::tenants::ServedTenant;
-use auto_compaction::StandingOrder;
 use fair_turns::{Scheduler, Stopwatch, Work};
 use std::rt::Clock;
 use std::sync::Wait;
@@ -45,27 +42,6 @@ pub(crate) fn catch_up<R: Wait + Clock + Copy + Drop, C: TenantCalls>(
     }
 }
 
-/// A revision that a tenant's standing order lets go. The catch-up worker alone asks the order, and nobody else compacts
-/// but for a client.
-#[derive(Clone, Copy, Drop)]
-pub(crate) struct DueRevision {
-    revision: i64,
-}
-
-impl DueRevision {
-    /// That of an order, which is told the tenant's moment and current revision.
-    fn of(order: &mut StandingOrder, moment: u64, current: i64) -> Option<DueRevision> {
-        let revision = order.look(moment, current)?;
-        Some(DueRevision { revision })
-    }
-
-    pub(crate) fn revision(self) -> i64
-        ensures { result ≡ self.revision }
-    {
-        self.revision
-    }
-}
-
 /// Compacts a tenant where its standing order says so. As before a client's compaction, watches are taken first.
 fn keep_order<R: Wait + Clock + Drop, C: TenantCalls>(
     rt: &R,
@@ -82,7 +58,7 @@ fn keep_order<R: Wait + Clock + Drop, C: TenantCalls>(
     let Ok(revision) = caller.revision(&clients.key) else {
         return;
     };
-    let Some(due) = DueRevision::of(&mut clients.standing, moment, revision) else {
+    let Some(due) = clients.standing.look(moment, revision) else {
         return;
     };
     let compacts = OwnStep::Compact(due);

@@ -3,6 +3,7 @@
 //! A call that goes to a worker wakes two threads, which takes longer than a brief call does. So the connections of
 //! an event loop hand it their brief calls, and it takes the turn on the tenant, if nobody has it, and answers. What
 //! may take long is left to the workers: a loop has many connections, which wait meanwhile.
+ghost use Rattle.std.specs.Prelude.{◌≡◌};
 ghost use Rattle.futures.specs.Task.{IsArmed, Keeps};
 ghost use Rattle.futures.specs.Poll.{OnPending};
 ghost use Rattle.tenant_scheduler.specs.Outcomes.{IsOutcome};
@@ -95,7 +96,9 @@ impl<R: Wait + Clock + Copy + Drop, C: TenantCalls> InlineCalls<R, C> {
         self.thread.beat();
     }
 
-    pub fn into_calls(self) -> C {
+    pub fn into_calls(self) -> C
+        ensures { result ≡ self.thread.caller.calls }
+    {
         let InlineCalls {
             alloc: _,
             thread,

@@ -84,6 +84,7 @@ impl Request {
         ensures { result ≡ true → AsksTheSame self.now other.now }
     {
         self.tenant().number == other.tenant().number
+            && self.tenant().name.as_slice() == other.tenant().name.as_slice()
             && self.route.call == other.route.call
             && self.bytes() == other.bytes()
     }

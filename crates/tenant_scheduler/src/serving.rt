@@ -1,4 +1,6 @@
 //! The threads that serve tenants: what each works with, and what it does.
+ghost use Rattle.std.specs.Prelude.{◌≡◌};
+
 use crate::caller::Caller;
 use crate::catch_up::catch_up;
 use crate::clock::keep_time;
@@ -31,13 +33,10 @@ impl<R: Wait + Drop, C: TenantCalls> Drop for ServingThread<R, C> {
 }
 
 impl<R: Wait + Clock + Copy + Drop, C: TenantCalls> ServingThread<R, C> {
-    /// That of the thread at a place, from 0 on.
-    pub fn new(
-        rt: R,
-        place: usize,
-        calls: C,
-        shared: Arc<Shared<R, C::Key>>,
-    ) -> ServingThread<R, C> {
+    /// That of the thread at a place, from 0 on. It makes no call.
+    pub fn new(rt: R, place: usize, calls: C, shared: Arc<Shared<R, C::Key>>) -> ServingThread<R, C>
+        ensures { result.caller.calls ≡ calls }
+    {
         ServingThread {
             rt,
             place,
@@ -51,7 +50,9 @@ impl<R: Wait + Clock + Copy + Drop, C: TenantCalls> ServingThread<R, C> {
         self.shared.beats.beat(&self.rt, self.place);
     }
 
-    pub fn into_calls(self) -> C {
+    pub fn into_calls(self) -> C
+        ensures { result ≡ self.caller.calls }
+    {
         let ServingThread {
             rt: _,
             place: _,

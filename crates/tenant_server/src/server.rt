@@ -188,6 +188,7 @@ where
     where
         C: TenantCalls<Key = K> + Send,
         C::Hint: Send,
+        C::Receipt: Send,
     {
         let Opened {
             threads,
@@ -205,6 +206,7 @@ where
     where
         C: TenantCalls<Key = K> + Send,
         C::Hint: Send,
+        C::Receipt: Send,
         W: FnOnce(UnboundedReceiver<()>) -> io::Result<()> + Drop,
         requires { W.IsAlwaysCallable work }
     {
@@ -238,6 +240,7 @@ where
     C: TenantCalls + Send,
     C::Key: Send,
     C::Hint: Send,
+    C::Receipt: Send,
     B: FnOnce(Jobs<R>) -> Result<(), ServeFault> + Drop,
     requires { B.IsAlwaysCallable bring }
 {

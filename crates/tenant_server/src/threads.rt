@@ -35,6 +35,7 @@ where
     C: TenantCalls + Send,
     C::Key: Send,
     C::Hint: Send,
+    C::Receipt: Send,
     B: FnOnce(Jobs<R>, Option<UnboundedReceiver<()>>) -> Result<(), ServeFault> + Drop,
     requires { B.IsAlwaysCallable bring }
 {

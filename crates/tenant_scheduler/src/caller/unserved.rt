@@ -1,16 +1,14 @@
-//! A request from where it comes in to its answer.
+//! A request from where it is handed in to its answer.
 //!
-//! Each request has one `Unanswered`, made where it comes in, which can't be copied. It goes with what is handed in (`Unserved`),
-//! and what it is answered uses it up: the answer of the call that was made for it, or a refusal. So a request is answered once,
-//! and one that was handed in is not refused beside. Where its answer goes is made with it and known here alone, so nobody can
-//! send it the answer of another request.
+//! Where its answer goes is made with what is handed in, and known here alone. So nobody can send it the answer of another one.
 ghost use Rattle.std.specs.Prelude.{◌≡◌, IfOk, IfSome};
 ghost use Rattle.futures.specs.Task.{IsArmed, Keeps};
 ghost use Rattle.futures.specs.Poll.{IfReady, OnPending};
 ghost use Rattle.fair_turns.specs.Answers.{Refuses};
 ghost use Rattle.tenant_calls.specs.Answers.{IsUncalled};
-ghost use Rattle.tenant_scheduler.specs.Requests.{AsksTheSame, IsAnswerOf, IsUnread};
+ghost use Rattle.tenant_scheduler.specs.Requests.{IsAnswerOf, IsUnread};
 
+use super::told::{OwnAnswer, Told, Unanswered, refusal_of};
 use crate::request::{Request, RequestBody, Route};
 use etcd_types::{Mem, Refusal};
 use fair_turns::{Answer, TenantCounts};
@@ -19,65 +17,6 @@ use futures::task::{Context, Poll};
 use futures::{Future, ready};
 use std::alloc::Global;
 use std::sync::{Arc, Wait};
-
-/// A request that was not answered yet.
-#[derive(Drop)]
-pub struct Unanswered {
-    /// It is made here alone.
-    sealed: (),
-}
-
-impl Unanswered {
-    /// That of a request which comes in.
-    pub fn new() -> Unanswered {
-        Unanswered { sealed: () }
-    }
-
-    /// The request is refused, and was not handed in.
-    pub fn refused<R: Wait + Drop>(self, alloc: Global, refusal: Refusal) -> Told<R>
-        ensures { Refuses refusal result.answer }
-    {
-        Told {
-            answer: refusal_of(alloc, refusal),
-        }
-    }
-}
-
-/// The answer of a refusal; want of memory takes none.
-fn refusal_of<R: Wait + Drop>(alloc: Global, refusal: Refusal) -> Answer<R>
-    ensures { Refuses refusal result }
-{
-    match refusal {
-        Refusal::Memory => Answer::no_memory(),
-        refusal => Answer::refused(alloc, refusal),
-    }
-}
-
-/// What a request is told, for its response.
-pub struct Told<R: Wait + Drop> {
-    answer: Answer<R>,
-}
-
-impl<R: Wait + Drop> Drop for Told<R> {
-    fn drop(self) {
-        let Told { answer: _ } = self;
-    }
-}
-
-impl<R: Wait + Drop> Told<R> {
-    pub fn answer(&self) -> &Answer<R>
-        ensures { result.now ≡ self.now.answer }
-    {
-        &self.answer
-    }
-
-    pub fn into_answer(self) -> Answer<R>
-        ensures { result ≡ self.answer }
-    {
-        let Told { answer } = self;
-        answer
-    }
-}
 
 /// A request that was handed in, for who serves it.
 #[derive(Drop)]
@@ -95,22 +34,27 @@ impl<R: Wait + Drop> Unserved<R> {
         route: Route,
         body: RequestBody,
     ) -> Result<(Unserved<R>, PendingCall<R>), Unanswered>
+        ensures served { IfOk result (λ it. it.0.request.value ≡ record { route = route; body = body }) }
         ensures asked { IfOk result (λ it. it.1.request.value ≡ record { route = route; body = body }) }
     {
         match Ends::new(alloc, Request { route, body }) {
             Ok(ends) => {
                 let Ends {
+                    served,
                     asked,
-                    request,
                     reply,
                     answer,
                 } = ends;
                 let unserved = Unserved {
-                    request: asked,
+                    request: served,
                     unanswered,
                     reply,
                 };
-                Ok((unserved, PendingCall { request, answer }))
+                let pending = PendingCall {
+                    request: asked,
+                    answer,
+                };
+                Ok((unserved, pending))
             }
             Err(_) => Err(unanswered),
         }
@@ -135,11 +79,11 @@ impl<R: Wait + Drop> Unserved<R> {
     {
         let Unserved {
             request,
-            unanswered: _,
+            unanswered,
             reply,
         } = self;
         JobAnswer {
-            own: OwnAnswer { request, answer },
+            own: OwnAnswer::new(unanswered, request, answer),
             reply,
         }
     }
@@ -166,50 +110,26 @@ impl<R: Wait + Drop> Unserved<R> {
 /// What both sides of a request have of it, which is made at once.
 #[derive(Drop)]
 struct Ends<R: Wait + Drop> {
+    served: Arc<Request>,
     asked: Arc<Request>,
-    request: Arc<Request>,
     reply: oneshot::Sender<OwnAnswer<R>>,
     answer: oneshot::Receiver<OwnAnswer<R>>,
 }
 
 impl<R: Wait + Drop> Ends<R> {
     fn new(alloc: Global, request: Request) -> Mem<Ends<R>>
-        ensures { IfOk result (λ ends. ends.request.value ≡ request) }
+        ensures served { IfOk result (λ ends. ends.served.value ≡ request) }
+        ensures asked { IfOk result (λ ends. ends.asked.value ≡ request) }
     {
-        let request = Arc::new(alloc, request)?;
-        let asked = Arc::try_clone(&request)?;
+        let served = Arc::new(alloc, request)?;
+        let asked = Arc::try_clone(&served)?;
         let (reply, answer) = oneshot::channel(alloc)?;
         Ok(Ends {
+            served,
             asked,
-            request,
             reply,
             answer,
         })
-    }
-}
-
-/// The answer of a request that was handed in, with the request.
-#[derive(Drop)]
-struct OwnAnswer<R: Wait + Drop> {
-    request: Arc<Request>,
-    answer: Answer<R>,
-    ghost is: { ∥ IsAnswerOf request.value answer ∥₁ },
-}
-
-impl<R: Wait + Drop> OwnAnswer<R> {
-    /// What this request is told, if the answer is its own.
-    #[tactic(auto, using(crate::proofs::RequestLemmas::of_the_same))]
-    fn of(self, asked: &Request) -> Option<Told<R>>
-        ensures answers { IfSome result (λ told. ∥ IsAnswerOf asked.now told.answer ∥₁) }
-        ensures answer { IfSome result (λ told. told.answer ≡ self.answer) }
-        ensures same { IfSome result (λ _. AsksTheSame self.request.value asked.now) }
-    {
-        let OwnAnswer { request, answer } = self;
-        if request.is_same(asked) {
-            Some(Told { answer })
-        } else {
-            None
-        }
     }
 }
 
@@ -222,11 +142,11 @@ pub(crate) struct JobAnswer<R: Wait + Drop> {
 
 impl<R: Wait + Drop> JobAnswer<R> {
     pub(crate) fn request(&self) -> &Request {
-        &*self.own.request
+        self.own.request()
     }
 
     pub(crate) fn answer(&self) -> &Answer<R> {
-        &self.own.answer
+        self.own.answer()
     }
 
     /// Counts its call, as answered so.

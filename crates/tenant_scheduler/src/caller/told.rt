@@ -1,0 +1,123 @@
+//! What a request is told, and that it is told once.
+//!
+//! Each request has one `Unanswered`, made where it comes in, which can't be copied. The answer of the call that was made for it
+//! uses it up, or a refusal; and of nothing else comes what the request is told. So a request is answered once, and one that was
+//! handed in is not refused beside.
+ghost use Rattle.std.specs.Prelude.{◌≡◌, IfSome};
+ghost use Rattle.fair_turns.specs.Answers.{Refuses};
+ghost use Rattle.tenant_scheduler.specs.Requests.{AsksTheSame, IsAnswerOf};
+
+use crate::request::Request;
+use etcd_types::Refusal;
+use fair_turns::Answer;
+use std::alloc::Global;
+use std::sync::{Arc, Wait};
+
+/// A request that was not answered yet.
+#[derive(Drop)]
+pub struct Unanswered {
+    /// It is made here alone.
+    sealed: (),
+}
+
+impl Unanswered {
+    /// That of a request which comes in.
+    pub fn new() -> Unanswered {
+        Unanswered { sealed: () }
+    }
+
+    /// The request is refused, and was not handed in.
+    pub fn refused<R: Wait + Drop>(self, alloc: Global, refusal: Refusal) -> Told<R>
+        ensures { Refuses refusal result.answer }
+    {
+        Told {
+            answer: refusal_of(alloc, refusal),
+        }
+    }
+}
+
+/// The answer of a refusal; want of memory takes none.
+pub(super) fn refusal_of<R: Wait + Drop>(alloc: Global, refusal: Refusal) -> Answer<R>
+    ensures { Refuses refusal result }
+{
+    match refusal {
+        Refusal::Memory => Answer::no_memory(),
+        refusal => Answer::refused(alloc, refusal),
+    }
+}
+
+/// What a request is told, for its response.
+pub struct Told<R: Wait + Drop> {
+    answer: Answer<R>,
+}
+
+impl<R: Wait + Drop> Drop for Told<R> {
+    fn drop(self) {
+        let Told { answer: _ } = self;
+    }
+}
+
+impl<R: Wait + Drop> Told<R> {
+    pub fn answer(&self) -> &Answer<R>
+        ensures { result.now ≡ self.now.answer }
+    {
+        &self.answer
+    }
+
+    pub fn into_answer(self) -> Answer<R>
+        ensures { result ≡ self.answer }
+    {
+        let Told { answer } = self;
+        answer
+    }
+}
+
+/// The answer of a request that was handed in, with the request.
+#[derive(Drop)]
+pub(crate) struct OwnAnswer<R: Wait + Drop> {
+    request: Arc<Request>,
+    answer: Answer<R>,
+    ghost is: { ∥ IsAnswerOf request.value answer ∥₁ },
+}
+
+impl<R: Wait + Drop> OwnAnswer<R> {
+    /// A request is answered.
+    pub(super) fn new(
+        _unanswered: Unanswered,
+        request: Arc<Request>,
+        answer: Answer<R>,
+    ) -> OwnAnswer<R>
+        requires { ∥ IsAnswerOf request.value answer ∥₁ }
+        ensures request { result.request ≡ request }
+        ensures answer { result.answer ≡ answer }
+    {
+        OwnAnswer { request, answer }
+    }
+
+    pub(super) fn request(&self) -> &Request
+        ensures { result.now ≡ self.now.request.value }
+    {
+        &*self.request
+    }
+
+    pub(super) fn answer(&self) -> &Answer<R>
+        ensures { result.now ≡ self.now.answer }
+    {
+        &self.answer
+    }
+
+    /// What this request is told, if the answer is its own.
+    #[tactic(auto, using(crate::proofs::RequestLemmas::of_the_same))]
+    pub(super) fn of(self, asked: &Request) -> Option<Told<R>>
+        ensures answers { IfSome result (λ told. ∥ IsAnswerOf asked.now told.answer ∥₁) }
+        ensures answer { IfSome result (λ told. told.answer ≡ self.answer) }
+        ensures same { IfSome result (λ _. AsksTheSame self.request.value asked.now) }
+    {
+        let OwnAnswer { request, answer } = self;
+        if request.is_same(asked) {
+            Some(Told { answer })
+        } else {
+            None
+        }
+    }
+}
