@@ -92,7 +92,7 @@ def draw_threads(drawing):
         ("fair_turns", "scheduler", "Scheduler::try_begin"),
         ("tenant_scheduler", "inline_calls", "InlineCalls::serve")])
     scheduler.stop((64, 458, 322, 52), "2a", "Else it is a job in the tenant's queue", [
-        ("tenant_scheduler", "jobs", "Jobs::offer")])
+        ("tenant_scheduler", "job_queue", "JobQueue::push")])
     scheduler.stop((64, 560, 322, 66), "2b", "A worker takes the turn, and the job", [
         ("tenant_scheduler", "worker", "work")], ["and reads the step of a long body"])
     ends = code_of("fair_turns", "scheduler", "Scheduler::finish")
