@@ -1,6 +1,6 @@
 -- What a contract sees of a region.
 use Rattle.std.specs.Prelude.{◌≡◌, ℕ, zero, suc, ◌+◌, ◌-◌, ◌*◌, ◌/◌, List, [], ◌∷◌, ◌++◌, take, length}
-use Rattle.std.specs.Prelude.{sum_by, Option, Some, None, ℤ, refl}
+use Rattle.std.specs.Prelude.{sum_by, Bool, Option, Some, None, IfSome, IsSome, is_some, ℤ, refl}
 use Rattle.std.specs.Ordering.{nat_cmp}
 use Rattle.std.specs.FinMap.{FinMap, from_entries}
 use Rattle.std.specs.Coded.{Coded, code_by, coded×, coded_ℕ, coded_ℤ, coded_list, coded_option}
@@ -67,9 +67,50 @@ region_code =
     (λ p. record { records = p.0; free = p.1.0; share = p.1.1 })
     (λ _. refl)
 
--- how many cells a record takes
+-- how many cells a record of a key and a value takes
+abbrev pub cells_for : List ℕ → List ℕ → ℕ
+cells_for key value = 1 + pieces (length key + length value)
+
 abbrev pub record_cost : Record → ℕ
-record_cost r = 1 + pieces (length r.key + length r.value)
+record_cost r = cells_for r.key r.value
+
+-- how many cells a delete of a record's key takes
+abbrev pub delete_cost : Record → ℕ
+delete_cost r = 1 + pieces (length r.key)
+
+-- a record with no older one
+abbrev pub unlinked : Kind → Fields → List ℕ → List ℕ → Record
+unlinked kind fields key value = record {
+  kind = kind;
+  fields = fields;
+  key = key;
+  value = value;
+  older = None;
+}
+
+-- whether a record begins at a cell
+abbrev pub is_head : RegionState → ℕ → Bool
+is_head held cell = is_some (map.get held.records cell)
+
+-- a record begins at the cell
+abbrev pub IsHead : RegionState → ℕ → Type 0
+IsHead held cell = IsSome (map.get held.records cell)
+
+-- no record begins at the cell
+abbrev pub IsNoHead : RegionState → ℕ → Type 0
+IsNoHead held cell = map.get held.records cell ≡ None
+
+-- this holds of the record that begins at the cell, if one does
+abbrev pub OfRecord : RegionState → ℕ → (Record → Type 0) → Type 0
+OfRecord held cell P = IfSome (map.get held.records cell) P
+
+-- this record begins at the cell then, and all others stay
+abbrev pub SetsRecord : RegionState → RegionState → ℕ → Record → Type 0
+SetsRecord old new cell r = new.records ≡ map.insert old.records cell r
+
+-- no record begins at the cell then, and all others stay
+abbrev pub DropsRecord : RegionState → RegionState → ℕ → Type 0
+DropsRecord old new cell = new.records ≡ map.remove old.records cell
 
 abbrev pub entry_before : ℕ → Option Record → List (ℕ × Record) → List (ℕ × Record)
 entry_before n None es = es

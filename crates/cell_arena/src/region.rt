@@ -1,14 +1,14 @@
 //! A store of records.
-ghost use Rattle.std.specs.Prelude.{◌≡◌, ◌+◌, ◌*◌, ◌/◌, ◌%◌, ◌≤◌, ◌^◌, ◌++◌, max, length, take, OnOk, OnErr};
-ghost use Rattle.std.specs.Prelude.{IfOk, None, IsSome, is_some, IfSome, []};
+ghost use Rattle.std.specs.Prelude.{◌≡◌, ◌+◌, ◌*◌, ◌/◌, ◌%◌, ◌≤◌, ◌^◌, ◌++◌, [], length, take};
+ghost use Rattle.std.specs.Prelude.{OnOk, OnErr, IfOk};
 ghost use Rattle.std.specs.Ordering.{nat_cmp};
 ghost use Rattle.std.specs.Cmp.Lexicographic.{slice_cmp};
-ghost use Rattle.std.specs.FinMap as map;
 ghost use Rattle.cell_arena.specs.declared.cell.Kind.{Kind};
-ghost use Rattle.cell_arena.specs.Chain.{pieces as cells_for};
 ghost use Rattle.cell_arena.specs.Loan.{IsLent, Settles, KeepsShare, DrawsFor, DrawsNone, IsBusy};
 ghost use Rattle.cell_arena.specs.Loan.{CanReserve, returned};
-ghost use Rattle.cell_arena.specs.Region.{record_cost, no_records, roomier, used_cells, with_cells, IsFrontOf};
+ghost use Rattle.cell_arena.specs.Region.{IsHead, IsNoHead, OfRecord, SetsRecord, DropsRecord, is_head};
+ghost use Rattle.cell_arena.specs.Region.{cells_for, delete_cost, record_cost, used_cells, unlinked};
+ghost use Rattle.cell_arena.specs.Region.{IsFrontOf, no_records, roomier, with_cells};
 
 use crate::cell::{Fields, Kind};
 use crate::link::Link;
@@ -82,13 +82,11 @@ impl Region {
         key: &[u8],
         value: &[u8],
     ) -> CellNo
-        requires space { 1 + cells_for (length key.now + length value.now) ≤ self.old.free }
+        requires space { cells_for key.now value.now ≤ self.old.free }
         requires lent { IsLent self.old.share (S.loan segments.old) }
-        ensures fresh { map.get self.old.records result ≡ None }
-        ensures placed { self.new.records
-            ≡ map.insert self.old.records result
-            (record { kind = kind; fields = fields; key = key.now; value = value.now; older = None }) }
-        ensures free { self.new.free + (1 + cells_for (length key.now + length value.now)) ≡ self.old.free }
+        ensures fresh { IsNoHead self.old result }
+        ensures placed { SetsRecord self.old self.new result (unlinked kind fields key.now value.now) }
+        ensures free { self.new.free + cells_for key.now value.now ≡ self.old.free }
         ensures settles { Settles self.old.share (S.loan segments.old) self.new.share (S.loan segments.new) }
         ensures draws { DrawsFor (used_cells self.new) self.old.share self.new.share }
     {
@@ -104,17 +102,13 @@ impl Region {
         of: CellNo,
         fields: Fields,
     ) -> CellNo
-        requires head { IsSome (map.get self.old.records of) }
-        requires space { IfSome (map.get self.old.records of)
-            (λ r. 1 + cells_for (length r.key) ≤ self.old.free) }
+        requires head { IsHead self.old of }
+        requires space { OfRecord self.old of (λ r. delete_cost r ≤ self.old.free) }
         requires lent { IsLent self.old.share (S.loan segments.old) }
-        ensures fresh { map.get self.old.records result ≡ None }
-        ensures placed { IfSome (map.get self.old.records of)
-            (λ r. self.new.records
-            ≡ map.insert self.old.records result
-            (record { kind = Kind.Delete; fields = fields; key = r.key; value = []; older = None })) }
-        ensures free { IfSome (map.get self.old.records of)
-            (λ r. self.new.free + (1 + cells_for (length r.key)) ≡ self.old.free) }
+        ensures fresh { IsNoHead self.old result }
+        ensures placed { OfRecord self.old of
+            (λ r. SetsRecord self.old self.new result (unlinked Kind.Delete fields r.key [])) }
+        ensures free { OfRecord self.old of (λ r. self.new.free + delete_cost r ≡ self.old.free) }
         ensures settles { Settles self.old.share (S.loan segments.old) self.new.share (S.loan segments.new) }
         ensures draws { DrawsFor (used_cells self.new) self.old.share self.new.share }
     {
@@ -124,11 +118,10 @@ impl Region {
     /// Takes a record away. A segment is given back as soon as none of its cells is in use, with
     /// all that they hold.
     pub fn release<S: Segments>(&mut self, segments: &mut S, cell: CellNo)
-        requires head { IsSome (map.get self.old.records cell) }
+        requires head { IsHead self.old cell }
         requires lent { IsLent self.old.share (S.loan segments.old) }
-        ensures gone { self.new.records ≡ map.remove self.old.records cell }
-        ensures free { IfSome (map.get self.old.records cell)
-            (λ r. self.new.free ≡ self.old.free + record_cost r) }
+        ensures gone { DropsRecord self.old self.new cell }
+        ensures free { OfRecord self.old cell (λ r. self.new.free ≡ self.old.free + record_cost r) }
         ensures settles { Settles self.old.share (S.loan segments.old) self.new.share (S.loan segments.new) }
         ensures none_drawn { DrawsNone self.old.share self.new.share }
         ensures busy { IsBusy (used_cells self.new) self.new.share }
@@ -174,23 +167,23 @@ impl Region {
 
     /// Whether a record begins at the cell.
     pub fn has(&self, cell: CellNo) -> bool
-        ensures { result ≡ is_some (map.get self.now.records cell) }
+        ensures { result ≡ is_head self.now cell }
     {
         chain::begins_at(&self.table, cell)
     }
 
     /// What the record is.
     pub fn kind(&self, cell: CellNo) -> Kind
-        requires { IsSome (map.get self.now.records cell) }
-        ensures { IfSome (map.get self.now.records cell) (λ r. result ≡ r.kind) }
+        requires { IsHead self.now cell }
+        ensures { OfRecord self.now cell (λ r. result ≡ r.kind) }
     {
         chain::head_at(&self.table, cell).0
     }
 
     /// The record's numbers.
     pub fn fields(&self, cell: CellNo) -> Fields
-        requires { IsSome (map.get self.now.records cell) }
-        ensures { IfSome (map.get self.now.records cell) (λ r. result ≡ r.fields) }
+        requires { IsHead self.now cell }
+        ensures { OfRecord self.now cell (λ r. result ≡ r.fields) }
     {
         let (_kind, head) = chain::head_at(&self.table, cell);
         head.fields
@@ -198,8 +191,8 @@ impl Region {
 
     /// How many bytes the record's key has.
     pub fn key_len(&self, cell: CellNo) -> u32
-        requires { IsSome (map.get self.now.records cell) }
-        ensures { IfSome (map.get self.now.records cell) (λ r. result ≡ length r.key) }
+        requires { IsHead self.now cell }
+        ensures { OfRecord self.now cell (λ r. result ≡ length r.key) }
     {
         let (_kind, head) = chain::head_at(&self.table, cell);
         head.key_len
@@ -207,8 +200,8 @@ impl Region {
 
     /// How many bytes the record's value has.
     pub fn value_len(&self, cell: CellNo) -> u32
-        requires { IsSome (map.get self.now.records cell) }
-        ensures { IfSome (map.get self.now.records cell) (λ r. result ≡ length r.value) }
+        requires { IsHead self.now cell }
+        ensures { OfRecord self.now cell (λ r. result ≡ length r.value) }
     {
         let (_kind, head) = chain::head_at(&self.table, cell);
         head.value_len
@@ -216,8 +209,8 @@ impl Region {
 
     /// The next older record of its key, as it was set.
     pub fn older(&self, cell: CellNo) -> Option<CellNo>
-        requires { IsSome (map.get self.now.records cell) }
-        ensures { IfSome (map.get self.now.records cell) (λ r. result ≡ r.older) }
+        requires { IsHead self.now cell }
+        ensures { OfRecord self.now cell (λ r. result ≡ r.older) }
     {
         let (_kind, head) = chain::head_at(&self.table, cell);
         head.older.cell()
@@ -225,9 +218,9 @@ impl Region {
 
     /// Sets the next older record of its key, and nothing else.
     pub fn set_older(&mut self, cell: CellNo, older: Option<CellNo>)
-        requires { IsSome (map.get self.old.records cell) }
-        ensures set { IfSome (map.get self.old.records cell)
-            (λ r. self.new.records ≡ map.insert self.old.records cell (record r { older = older })) }
+        requires { IsHead self.old cell }
+        ensures set { OfRecord self.old cell
+            (λ r. SetsRecord self.old self.new cell (record r { older = older })) }
         ensures free { self.new.free ≡ self.old.free }
         ensures share { KeepsShare self.old.share self.new.share }
     {
@@ -238,12 +231,11 @@ impl Region {
     ///
     /// Where the sink finds no memory, it was given some bytes from the key's first on.
     pub fn read_key<S: Sink>(&self, cell: CellNo, sink: &mut S) -> Mem<()>
-        requires { IsSome (map.get self.now.records cell) }
+        requires { IsHead self.now cell }
         ensures ok { OnOk result
-            (IfSome (map.get self.now.records cell) (λ r. S.taken sink.new ≡ S.taken sink.old ++ r.key)) }
+            (OfRecord self.now cell (λ r. S.taken sink.new ≡ S.taken sink.old ++ r.key)) }
         ensures err { OnErr result
-            (IfSome (map.get self.now.records cell)
-            (λ r. IsFrontOf r.key (S.taken sink.old) (S.taken sink.new))) }
+            (OfRecord self.now cell (λ r. IsFrontOf r.key (S.taken sink.old) (S.taken sink.new))) }
     {
         let part = chain::key_part(&self.table, cell);
         reading::read_part(&self.table, part, sink)
@@ -253,12 +245,11 @@ impl Region {
     ///
     /// Where the sink finds no memory, it was given some bytes from the value's first on.
     pub fn read_value<S: Sink>(&self, cell: CellNo, sink: &mut S) -> Mem<()>
-        requires { IsSome (map.get self.now.records cell) }
+        requires { IsHead self.now cell }
         ensures ok { OnOk result
-            (IfSome (map.get self.now.records cell) (λ r. S.taken sink.new ≡ S.taken sink.old ++ r.value)) }
+            (OfRecord self.now cell (λ r. S.taken sink.new ≡ S.taken sink.old ++ r.value)) }
         ensures err { OnErr result
-            (IfSome (map.get self.now.records cell)
-            (λ r. IsFrontOf r.value (S.taken sink.old) (S.taken sink.new))) }
+            (OfRecord self.now cell (λ r. IsFrontOf r.value (S.taken sink.old) (S.taken sink.new))) }
     {
         let part = chain::value_part(&self.table, cell);
         reading::read_part(&self.table, part, sink)
@@ -266,8 +257,8 @@ impl Region {
 
     /// The first bytes of the record's key, as many as lie in one cell.
     pub fn key_front(&self, cell: CellNo) -> &[u8]
-        requires { IsSome (map.get self.now.records cell) }
-        ensures { IfSome (map.get self.now.records cell) (λ r. result.now ≡ take 48 r.key) }
+        requires { IsHead self.now cell }
+        ensures { OfRecord self.now cell (λ r. result.now ≡ take 48 r.key) }
     {
         let part = chain::key_part(&self.table, cell);
         reading::front(&self.table, part)
@@ -275,8 +266,8 @@ impl Region {
 
     /// How the record's key stands to a text, in byte order.
     pub fn key_cmp(&self, cell: CellNo, key: &[u8]) -> Ordering
-        requires { IsSome (map.get self.now.records cell) }
-        ensures { IfSome (map.get self.now.records cell) (λ r. result ≡ slice_cmp nat_cmp r.key key.now) }
+        requires { IsHead self.now cell }
+        ensures { OfRecord self.now cell (λ r. result ≡ slice_cmp nat_cmp r.key key.now) }
     {
         let part = chain::key_part(&self.table, cell);
         reading::compare_part(&self.table, part, key)
@@ -284,10 +275,10 @@ impl Region {
 
     /// How the key of one record stands to that of another, in byte order.
     pub fn keys_cmp(&self, cell: CellNo, other: CellNo) -> Ordering
-        requires cell { IsSome (map.get self.now.records cell) }
-        requires other { IsSome (map.get self.now.records other) }
-        ensures { IfSome (map.get self.now.records cell)
-            (λ r. IfSome (map.get self.now.records other) (λ s. result ≡ slice_cmp nat_cmp r.key s.key)) }
+        requires cell { IsHead self.now cell }
+        requires other { IsHead self.now other }
+        ensures { OfRecord self.now cell
+            (λ r. OfRecord self.now other (λ s. result ≡ slice_cmp nat_cmp r.key s.key)) }
     {
         let one_part = chain::key_part(&self.table, cell);
         let other_part = chain::key_part(&self.table, other);
@@ -296,8 +287,8 @@ impl Region {
 
     /// How the record's value stands to a text, in byte order.
     pub fn value_cmp(&self, cell: CellNo, value: &[u8]) -> Ordering
-        requires { IsSome (map.get self.now.records cell) }
-        ensures { IfSome (map.get self.now.records cell) (λ r. result ≡ slice_cmp nat_cmp r.value value.now) }
+        requires { IsHead self.now cell }
+        ensures { OfRecord self.now cell (λ r. result ≡ slice_cmp nat_cmp r.value value.now) }
     {
         let part = chain::value_part(&self.table, cell);
         reading::compare_part(&self.table, part, value)

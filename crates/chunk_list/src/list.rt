@@ -87,12 +87,7 @@ impl<T: Copy> ChunkList<T> {
     pub fn start(&self) -> Place
         ensures { IsPlaceAt self.now result 0 }
     {
-        // What always holds of a list is known here once a field is read.
-        let _count = self.count;
-        Place {
-            chunk: 0,
-            offset: 0,
-        }
+        self.shelf.start()
     }
 
     /// The place after the last item.

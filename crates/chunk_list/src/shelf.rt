@@ -5,6 +5,7 @@ ghost use Rattle.std.specs.List.{insert, remove};
 ghost use Rattle.chunk_list.specs.Chunks.{IsChanged, IsDense, IsLast, chunk_at, chunk_items, size_of_two};
 ghost use Rattle.chunk_list.specs.Shelves.{TakesSlot};
 
+use crate::place::Place;
 use crate::span::{MOST, Span};
 use crate::stretch::{copy_items, fill, put_before};
 use crate::walk::Walk;
@@ -75,6 +76,16 @@ impl<T: Copy> Shelf<T> {
             self.most = most;
         }
         Ok(())
+    }
+
+    /// The place of the first item, or where it would go.
+    pub(crate) fn start(&self) -> Place
+        ensures { result ≡ record { chunk = 0; offset = 0 } }
+    {
+        Place {
+            chunk: 0,
+            offset: 0,
+        }
     }
 
     /// How many chunks there are.

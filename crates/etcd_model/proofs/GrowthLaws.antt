@@ -15,6 +15,7 @@ use Rattle.etcd_types.specs.declared.alarm.AlarmKind.TheVariants.{Any, NoSpace a
 use Rattle.etcd_types.specs.declared.key_value.Event.{Event}
 use Rattle.etcd_types.specs.declared.reply.Reply.TheVariants.{Canceled}
 use Rattle.etcd_types.specs.Limits.{last_moment}
+use Rattle.etcd_types.specs.Steps.{may_add}
 use Rattle.etcd_model.specs.declared.state.Lease.{Lease}
 use Rattle.etcd_model.specs.declared.state.Watch.{Watch as Watching}
 use Rattle.etcd_model.specs.History.{History, Change, Del, Entry, current, history_after}
@@ -23,7 +24,7 @@ use Rattle.etcd_model.specs.Operations.{branch, first_refusal}
 use Rattle.etcd_model.specs.Tenant.{Outcome, reads, header, used}
 use Rattle.etcd_model.specs.Leases.{attached, finish, run_out, lease_at}
 use Rattle.etcd_model.specs.Watches.{with_slot, created, events_given, taken, free_slot, first_of, event_of}
-use Rattle.etcd_model.specs.Stepping.{adds, may_add, look_up, early, decided, outcome, pending, within_quota, unless_alarmed, kept_alive, alarm_of}
+use Rattle.etcd_model.specs.Stepping.{adds, look_up, early, decided, outcome, pending, within_quota, unless_alarmed, kept_alive, alarm_of}
 use Rattle.etcd_model.specs.Machine.{State, history, machine, before_space}
 use Rattle.etcd_model.proofs.HistoryLaws.{current-after}
 

@@ -1,6 +1,6 @@
 -- Operations one after another: each reads the store with what is pending as one more revision.
 -- etcd: API reference, Transaction: operations run in order, and all changes share one revision.
-use Rattle.std.specs.Prelude.{ℕ, ◌+◌, Bool, true, false, not, ◌&&◌, ◌||◌, List, [], ◌∷◌, ◌++◌, length, map, ℤ}
+use Rattle.std.specs.Prelude.{ℕ, ◌+◌, Bool, not, ◌&&◌, ◌||◌, List, [], ◌∷◌, ◌++◌, length, map, ℤ}
 use Rattle.std.specs.Prelude.{pos, Option, Some, None, is_none, if◌then◌else◌}
 use Rattle.std.specs.List.{list_any}
 use Rattle.std.specs.Ordering.{int_eq}
@@ -114,13 +114,3 @@ replies look pending (op ∷ ops) =
 -- the branch that is taken
 abbrev pub branch : Reads → TxnReq → List Op
 branch R t = if all_hold R t.compare then t.success else t.failure
-
-abbrev pub is_put_op : Op → Bool
-is_put_op (Range q) = false
-is_put_op (Put p) = true
-is_put_op (Delete d) = false
-is_put_op Nested = false
-
--- some operation is a put
-abbrev pub adds_any : List Op → Bool
-adds_any ops = list_any is_put_op ops

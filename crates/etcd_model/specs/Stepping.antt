@@ -1,10 +1,9 @@
 -- One step of a tenant, over any store.
 -- etcd: API reference; maintenance, "space quota": past the quota an alarm is raised, and only deletes and
 -- reads go on until it is taken off.
-use Rattle.std.specs.Prelude.{ℕ, ◌+◌, ◌-◌, ◌*◌, Bool, true, false, not, ◌&&◌, ◌||◌, List, [], ◌∷◌, ◌++◌, map}
+use Rattle.std.specs.Prelude.{ℕ, ◌+◌, ◌-◌, ◌*◌, Bool, true, false, not, ◌&&◌, ◌||◌, List, [], ◌∷◌, map}
 use Rattle.std.specs.Prelude.{ℤ, pos, negsuc, nat_lt, nat_le, int_le, int_lt, Option, Some, None, is_some}
 use Rattle.std.specs.Prelude.{slice_get, if◌then◌else◌}
-use Rattle.std.specs.List.{list_any}
 use Rattle.std.specs.Ordering.{int_eq}
 use Rattle.etcd_types.specs.declared.txn.TxnReq.{TxnReq}
 use Rattle.etcd_types.specs.declared.lease.GrantReq.{GrantReq}
@@ -14,7 +13,6 @@ use Rattle.etcd_types.specs.declared.alarm.AlarmKind.{AlarmKind}
 use Rattle.etcd_types.specs.declared.alarm.AlarmKind.TheVariants.{Any, NoSpace as SpaceAlarm}
 use Rattle.etcd_types.specs.declared.txn.Op.{Op}
 use Rattle.etcd_types.specs.declared.txn.Op.TheVariants.{Range as RangeOp, Put as PutOp, Delete as DeleteOp}
-use Rattle.etcd_types.specs.declared.txn.Op.TheVariants.{Nested}
 use Rattle.etcd_types.specs.declared.step.Step.{Step}
 use Rattle.etcd_types.specs.declared.step.Step.TheVariants.{Range, Put, Delete, Txn, Compact, Watch, Take}
 use Rattle.etcd_types.specs.declared.step.Step.TheVariants.{DropWatch, Grant, Revoke, KeepAlive, TimeToLive}
@@ -35,12 +33,13 @@ use Rattle.etcd_types.specs.declared.reply.Reply.TheVariants.{TimeToLive as Time
 use Rattle.etcd_types.specs.declared.reply.Reply.TheVariants.{Alarms as AlarmsReply, Status as StatusReply}
 use Rattle.etcd_types.specs.declared.reply.Reply.TheVariants.{Defragmented, Quiet, Refused}
 use Rattle.etcd_types.specs.Limits.{last_revision, last_lease_id, cell_bytes}
+use Rattle.etcd_types.specs.Steps.{adds_any, chooses_id, may_add, writes}
 use Rattle.etcd_model.specs.declared.state.Lease.{Lease}
 use Rattle.etcd_model.specs.History.{Change, Del}
 use Rattle.etcd_model.specs.Reads.{Reads}
 use Rattle.etcd_model.specs.Compares.{all_hold}
 use Rattle.etcd_model.specs.Operations.{op_refusal, ops_refusal, op_reply, pending_after, replies, branch}
-use Rattle.etcd_model.specs.Operations.{first_refusal, has_lease, adds_any}
+use Rattle.etcd_model.specs.Operations.{first_refusal, has_lease}
 use Rattle.etcd_model.specs.Tenant.{State, Asks, Outcome, reads, current, header, header_over, used, stays}
 use Rattle.etcd_model.specs.Leases.{lease_at, attached, finish, tick, put_lease, free_id, granted_ttl}
 use Rattle.etcd_model.specs.Watches.{created, taken, with_slot, free_slot}
@@ -48,32 +47,7 @@ use Rattle.etcd_model.specs.Fields.{fields, refused_if}
 
 -- ---- what a step may do
 
-abbrev pub writes_op : Op → Bool
-writes_op (RangeOp q) = false
-writes_op (PutOp p) = true
-writes_op (DeleteOp d) = true
-writes_op Nested = false
-
--- a put, a deleterange, or a transaction with either in any branch
-abbrev pub writes : Step → Bool
-writes (Put p) = true
-writes (Delete d) = true
-writes (Txn t) = list_any writes_op (t.success ++ t.failure)
-writes step = false
-
--- a grant whose ID is chosen for it
-abbrev pub chooses_id : Step → Bool
-chooses_id (Grant g) = int_eq g.id (pos 0)
-chooses_id step = false
-
--- a put, a transaction with a put in either branch, or a grant
-abbrev pub may_add : Step → Bool
-may_add (Put p) = true
-may_add (Txn t) = adds_any (t.success ++ t.failure)
-may_add (Grant g) = true
-may_add step = false
-
--- the same, with the branch that is taken
+-- a put, a transaction with a put in the branch that is taken, or a grant
 abbrev pub adds : Reads → Step → Bool
 adds R (Put p) = true
 adds R (Txn t) = adds_any (branch R t)

@@ -1,2 +1,3 @@
 pub mod Refusals
 pub mod Limits
+pub mod Steps

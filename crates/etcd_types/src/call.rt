@@ -1,4 +1,6 @@
 //! The calls of the gateway, and the names of their members.
+ghost use Rattle.std.specs.Prelude.{◌≡◌};
+ghost use Rattle.etcd_types.specs.Steps.{may_give};
 
 /// A call. The aliases of a path are one call.
 #[derive(Clone, Copy, Debug, PartialEq, Eq)]
@@ -17,6 +19,30 @@ pub enum Call {
     Alarm,
     Status,
     Defragment,
+}
+
+impl Call {
+    /// Whether a watch may have something to give after it.
+    pub fn may_give(self) -> bool
+        ensures { result ≡ may_give self }
+    {
+        match self {
+            Call::Put
+            | Call::DeleteRange
+            | Call::Txn
+            | Call::Compaction
+            | Call::Watch
+            | Call::Revoke => true,
+            Call::Range
+            | Call::Grant
+            | Call::KeepAlive
+            | Call::TimeToLive
+            | Call::Leases
+            | Call::Alarm
+            | Call::Status
+            | Call::Defragment => false,
+        }
+    }
 }
 
 /// A member of a request, of a compare or of an operation.

@@ -1,11 +1,12 @@
 //! What a client, a clock or a watch's reader may ask of one tenant.
 ghost use Rattle.std.specs.Prelude.{◌≡◌, ◌↔◌, IsTrue};
+ghost use Rattle.etcd_types.specs.Steps.{chooses_id, is_brief, may_add, may_be_long, writes};
 
 use crate::alarm::AlarmReq;
 use crate::copy::{CopyOf, Mem};
 use crate::kv::{DeleteReq, PutReq, RangeReq};
 use crate::lease::GrantReq;
-use crate::txn::TxnReq;
+use crate::txn::{Op, TxnReq};
 use crate::watch::WatchReq;
 use std::alloc::Global;
 
@@ -44,6 +45,71 @@ impl Step {
         ensures { IsTrue result ↔ (self.now ≡ other.now) }
     {
         self == other
+    }
+
+    /// Whether it may write a revision: a put, a delete, or a transaction with either in any branch.
+    pub fn writes(&self) -> bool
+        ensures { result ≡ writes self.now }
+    {
+        match self {
+            Step::Put(_) | Step::Delete(_) => true,
+            Step::Txn(request) => {
+                Op::any_writes(request.success.as_slice())
+                    || Op::any_writes(request.failure.as_slice())
+            }
+            _ => false,
+        }
+    }
+
+    /// Whether it is a grant whose ID is to be chosen.
+    pub fn chooses_id(&self) -> bool
+        ensures { result ≡ chooses_id self.now }
+    {
+        match self {
+            Step::Grant(request) => request.id == 0,
+            _ => false,
+        }
+    }
+
+    /// Whether it may take space: a put, a transaction with one in any branch, or a grant.
+    pub fn may_add(&self) -> bool
+        ensures { result ≡ may_add self.now }
+    {
+        match self {
+            Step::Put(_) | Step::Grant(_) => true,
+            Step::Txn(request) => {
+                Op::any_adds(request.success.as_slice()) || Op::any_adds(request.failure.as_slice())
+            }
+            _ => false,
+        }
+    }
+
+    /// Whether it looks at one key at most, and at its present row.
+    pub fn is_brief(&self) -> bool
+        ensures { result ≡ is_brief self.now }
+    {
+        match self {
+            Step::Range(request) => {
+                request.range_end.as_slice().is_empty() && request.revision <= 0
+            }
+            Step::Delete(request) => request.range_end.as_slice().is_empty(),
+            Step::Put(_) | Step::KeepAlive(_) | Step::Status => true,
+            _ => false,
+        }
+    }
+
+    /// Whether its answer may be long: one with rows, the keys of a lease or all leases.
+    pub fn may_be_long(&self) -> bool
+        ensures { result ≡ may_be_long self.now }
+    {
+        match self {
+            Step::Range(request) => !request.count_only,
+            Step::Put(request) => request.prev_kv,
+            Step::Delete(request) => request.prev_kv,
+            Step::TimeToLive { keys, .. } => *keys,
+            Step::Txn(_) | Step::Leases => true,
+            _ => false,
+        }
     }
 }
 

@@ -1,4 +1,7 @@
 //! Transactions.
+ghost use Rattle.std.specs.Prelude.{◌≡◌};
+ghost use Rattle.etcd_types.specs.Steps.{adds_any, writes_any};
+
 use crate::copy::{CopyOf, Mem};
 use crate::kv::{DeleteReq, PutReq, RangeReq};
 use crate::list::List;
@@ -73,6 +76,23 @@ pub enum Op {
     Delete(DeleteReq),
     /// A transaction inside one, which is not offered. What it holds is not looked at.
     Nested,
+}
+
+impl Op {
+    /// Whether one of some operations is a put.
+    pub fn any_adds(ops: &[Op]) -> bool
+        ensures { result ≡ adds_any ops.now }
+    {
+        ops.iter().any(|op| matches!(op, Op::Put(_)))
+    }
+
+    /// Whether one of some operations is a put or a delete.
+    pub fn any_writes(ops: &[Op]) -> bool
+        ensures { result ≡ writes_any ops.now }
+    {
+        ops.iter()
+            .any(|op| matches!(op, Op::Put(_) | Op::Delete(_)))
+    }
 }
 
 impl CopyOf for Op {

@@ -11,7 +11,7 @@ ghost use Rattle.futures.specs.Task.{IsArmed, Keeps};
 ghost use Rattle.futures.specs.Poll.{OnPending};
 ghost use Rattle.tokio.specs.Locks.{CanAcquire};
 
-use etcd_types::{Mem, Step};
+use etcd_types::Mem;
 use futures::Future;
 use futures::task::{Context, Poll};
 use std::alloc::Global;
@@ -271,16 +271,4 @@ pub fn tree_weight(body: &[u8]) -> u64 {
         weight = weight.saturating_add(value);
     }
     weight
-}
-
-/// The answer of a step may have more bytes than take no share.
-pub fn may_be_long(step: &Step) -> bool {
-    match step {
-        Step::Range(request) => !request.count_only,
-        Step::Put(request) => request.prev_kv,
-        Step::Delete(request) => request.prev_kv,
-        Step::TimeToLive { keys, .. } => *keys,
-        Step::Txn(_) | Step::Leases => true,
-        _ => false,
-    }
 }

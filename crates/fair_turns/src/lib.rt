@@ -29,7 +29,7 @@ pub use answered::{AnsweredCalls, CALLS, LAST_REFUSAL, STATUSES};
 pub use beats::Beats;
 pub use budget::{
     AwaitedShare, BodyShare, Budget, DEFAULT_BUDGET, LONGEST_ROW, MadeText, SHORT, SMALL_TREE,
-    Share, may_be_long, tree_weight,
+    Share, tree_weight,
 };
 pub use counts::TenantCounts;
 pub use durations::{Durations, ENDS};

@@ -130,3 +130,7 @@ EachOnce cells cs = (c : ℕ) (e : Linked) → cells c ≡ Some e → times c cs
 abbrev pub GivesBack : (Recorded → ℕ) → Cells → Cells → ℕ → ℕ → Type 0
 GivesBack cost old new free_old free_new =
     (cs : List ℕ) → EachOnce old cs → free_new + held cost new cs ≡ free_old + held cost old cs
+
+-- the same of what has records, and cells that are free
+abbrev pub Frees : {X : Type 0} → (Recorded → ℕ) → (X → Cells) → (X → ℕ) → X → X → Type 0
+Frees cost cells free old new = GivesBack cost (cells old) (cells new) (free old) (free new)

@@ -4,7 +4,7 @@ ghost use Rattle.std.specs.Prelude.{Option, Some, None, IsSome, is_some, true, f
 ghost use Rattle.chunk_list.specs.Chunked.{HasItem, IsPlace, position_of};
 ghost use Rattle.key_index.specs.Links.{Linked, IsChained, IsNewest, IsOfKey, with_link, without};
 ghost use Rattle.key_index.specs.Index.{AreNewest, StayParted};
-ghost use Rattle.key_index.specs.Compaction.{AreDone, CutsAt, DropsUpTo, GivesBack, IsCompactedAt};
+ghost use Rattle.key_index.specs.Compaction.{AreDone, CutsAt, DropsUpTo, Frees, IsCompactedAt};
 ghost use Rattle.key_index.specs.Compaction.{KeptAsDefined, Remains};
 
 use crate::records::{Records, RecordsMut};
@@ -41,8 +41,7 @@ pub(crate) fn cut_head<R: RecordsMut>(
     ensures compacted { (key : List ℕ)
         → IsOfKey (R.cells records.old) key (slice_index heads.old.items (position_of heads.old.sizes place))
         → IsCompactedAt (R.cells records.old) (R.cells records.new) revision key }
-    ensures free { GivesBack R.cost (R.cells records.old) (R.cells records.new)
-        (R.free records.old) (R.free records.new) }
+    ensures free { Frees R.cost R.cells R.free records.old records.new }
     ensures rest { R.same_rest records.old records.new }
 {
     let head = heads.get(place);
@@ -66,8 +65,7 @@ pub(crate) fn cut_heads<R: RecordsMut>(
     ensures chained { IsChained (R.cells records.new) }
     ensures done { AreDone (R.cells records.old) (R.cells records.new)
         heads.old.items revision (length heads.old.items) }
-    ensures free { GivesBack R.cost (R.cells records.old) (R.cells records.new)
-        (R.free records.old) (R.free records.new) }
+    ensures free { Frees R.cost R.cells R.free records.old records.new }
     ensures rest { R.same_rest records.old records.new }
 {
     let left = cut_chains(heads, records, revision);
@@ -86,8 +84,7 @@ fn cut_chains<R: RecordsMut>(heads: &mut ChunkList<CellNo>, records: &mut R, rev
     ensures chained { IsChained (R.cells records.new) }
     ensures done { AreDone (R.cells records.old) (R.cells records.new)
         heads.old.items revision (length heads.old.items) }
-    ensures free { GivesBack R.cost (R.cells records.old) (R.cells records.new)
-        (R.free records.old) (R.free records.new) }
+    ensures free { Frees R.cost R.cells R.free records.old records.new }
     ensures rest { R.same_rest records.old records.new }
 {
     let mut read = heads.start();
@@ -113,8 +110,7 @@ pub(crate) fn cut_chain<R: RecordsMut>(head: CellNo, records: &mut R, revision: 
         → IsCompactedAt (R.cells records.old) (R.cells records.new) revision e.change.key }
     ensures remains { (e : Linked) → R.cells records.old head ≡ Some e
         → Remains (R.cells records.new) e.change.key head result }
-    ensures free { GivesBack R.cost (R.cells records.old) (R.cells records.new)
-        (R.free records.old) (R.free records.new) }
+    ensures free { Frees R.cost R.cells R.free records.old records.new }
     ensures rest { R.same_rest records.old records.new }
 {
     let place = cut_place(head, records, revision);
@@ -140,8 +136,7 @@ fn drop_chain<R: RecordsMut>(first: CellNo, records: &mut R)
     requires first { IsSome (R.cells records.old first) }
     ensures drops { (e : Linked) → R.cells records.old first ≡ Some e
         → DropsUpTo (R.cells records.old) (R.cells records.new) e.change.key e.change.revision }
-    ensures free { GivesBack R.cost (R.cells records.old) (R.cells records.new)
-        (R.free records.old) (R.free records.new) }
+    ensures free { Frees R.cost R.cells R.free records.old records.new }
     ensures rest { R.same_rest records.old records.new }
 {
     let mut next = Some(first);

@@ -2,7 +2,7 @@
 ghost use Rattle.std.specs.Prelude.{◌≡◌, ◌+◌, ◌<◌, ◌≤◌, length, [], max};
 ghost use Rattle.std.specs.Prelude.{MatchOption, IfOk, IfSome, IsOk, IsSome, OnOk, OnErr};
 ghost use Rattle.key_index.specs.Links.{IsChained, IsLast, IsPlaced, NoneUpTo, SameChanges, without};
-ghost use Rattle.key_index.specs.Compaction.{GivesBack, IsCompacted, IsCompactedAt};
+ghost use Rattle.key_index.specs.Compaction.{Frees, IsCompacted, IsCompactedAt};
 ghost use Rattle.key_index.specs.Index.{AreHeadsIn, AreParted, IsHeadOf, IsIndexOf, IsSpread};
 ghost use Rattle.key_index.specs.Index.{NoneOfKey, is_put_of, key_count};
 ghost use Rattle.key_index.specs.Moving.{IsMoved};
@@ -139,8 +139,7 @@ impl KeyIndex {
         ensures compacted { IfSome (R.cells records.old cell)
             (λ e. IsCompactedAt (R.cells records.old) (R.cells records.new) revision e.change.key) }
         ensures capacity { self.new.capacity ≡ self.old.capacity }
-        ensures free { GivesBack R.cost (R.cells records.old) (R.cells records.new)
-            (R.free records.old) (R.free records.new) }
+        ensures free { Frees R.cost R.cells R.free records.old records.new }
         ensures rest { R.same_rest records.old records.new }
     {
         let sought = Sought::KeyOf(cell);
@@ -162,8 +161,7 @@ impl KeyIndex {
         ensures chained { IsChained (R.cells records.new) }
         ensures compacted { IsCompacted (R.cells records.old) (R.cells records.new) revision }
         ensures capacity { self.new.capacity ≡ self.old.capacity }
-        ensures free { GivesBack R.cost (R.cells records.old) (R.cells records.new)
-            (R.free records.old) (R.free records.new) }
+        ensures free { Frees R.cost R.cells R.free records.old records.new }
         ensures rest { R.same_rest records.old records.new }
     {
         cut_heads(&mut self.live, records, revision);

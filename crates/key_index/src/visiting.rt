@@ -13,15 +13,13 @@
 //! |---|---|---|---|---|
 //! | 4 | 2, 3, 4 | 2 | 3 | 4, 5, 6 |
 //! | 6 | 4, 5, 6 | 3, 5 | 4 | 6 |
-ghost use Rattle.std.specs.Prelude.{◌≡◌, ◌+◌, ◌≤◌, ◌++◌, ℕ, length, take, drop, IsSome, IfSome};
-ghost use Rattle.std.specs.List.{All};
+ghost use Rattle.std.specs.Prelude.{◌≡◌, ◌+◌, ◌≤◌, ◌++◌, length, take, drop, IfSome};
 ghost use Rattle.chunk_list.specs.Chunked.{TurnsAt};
-ghost use Rattle.key_index.specs.Links.{IsChained};
-ghost use Rattle.key_index.specs.Index.{IsIndexOf};
-ghost use Rattle.key_index.specs.Compaction.{GivesBack, IsCompacted, times};
-ghost use Rattle.key_index.specs.Order.{AreAll, AreSettled, IsInOrder, with_records};
+ghost use Rattle.key_index.specs.Compaction.{Frees, IsCompacted, times};
+ghost use Rattle.key_index.specs.Order.{with_records};
 ghost use Rattle.key_index.specs.declared.visiting.Until.TheVariants.{Through};
-ghost use Rattle.key_index.specs.Visiting.{Visits, has_within, is_within, without_cell};
+ghost use Rattle.key_index.specs.Visiting.{AreLeft, AreOrders, IsIndexed, IsLeft, IsOrdered, Visits};
+ghost use Rattle.key_index.specs.Visiting.{has_within, is_within, without_cell};
 
 use crate::index::KeyIndex;
 use crate::records::{Records, RecordsMut};
@@ -47,24 +45,15 @@ pub fn cut_changes<R: RecordsMut>(
     records: &mut R,
     revision: u64,
 )
-    requires index { IsIndexOf (R.cells records.old) index.old.live index.old.dead }
-    requires chained { IsChained (R.cells records.old) }
-    requires all { AreAll (R.cells records.old) (settled.old.items ++ recent.old.items) }
-    requires rises { IsInOrder (R.cells records.old) (settled.old.items ++ recent.old.items) }
-    requires settled { AreSettled (R.cells records.old) settled.old.items }
+    requires indexed { IsIndexed (R.cells records.old) index.old }
+    requires orders { AreOrders (R.cells records.old) settled.old.items recent.old.items }
     requires room { length settled.old.items + length recent.old.items ≤ settled.old.room }
 
-    ensures index { IsIndexOf (R.cells records.new) index.new.live index.new.dead }
-    ensures chained { IsChained (R.cells records.new) }
+    ensures indexed { IsIndexed (R.cells records.new) index.new }
     ensures compacted { IsCompacted (R.cells records.old) (R.cells records.new) revision }
-    ensures order { settled.new.items ++ recent.new.items
-        ≡ with_records (R.cells records.new) (settled.old.items ++ recent.old.items) }
-    ensures settled { AreSettled (R.cells records.new) settled.new.items }
+    ensures left { AreLeft (R.cells records.new) settled.old recent.old settled.new recent.new }
     ensures capacity { index.new.capacity ≡ index.old.capacity }
-    ensures settled_room { settled.new.room ≡ settled.old.room }
-    ensures recent_room { recent.new.room ≡ recent.old.room }
-    ensures free { GivesBack R.cost (R.cells records.old) (R.cells records.new)
-        (R.free records.old) (R.free records.new) }
+    ensures free { Frees R.cost R.cells R.free records.old records.new }
     ensures rest { R.same_rest records.old records.new }
 {
     let passed = count_until(recent, records, Until::Through(revision));
@@ -83,21 +72,15 @@ fn drop_all<R: RecordsMut>(
     count: usize,
     revision: u64,
 )
-    requires index { IsIndexOf (R.cells records.old) index.old.live index.old.dead }
-    requires chained { IsChained (R.cells records.old) }
-    requires all { AreAll (R.cells records.old) (settled.old.items ++ recent.now.items) }
-    requires rises { IsInOrder (R.cells records.old) (settled.old.items ++ recent.now.items) }
-    requires settled { AreSettled (R.cells records.old) settled.old.items }
+    requires indexed { IsIndexed (R.cells records.old) index.old }
+    requires orders { AreOrders (R.cells records.old) settled.old.items recent.now.items }
     requires turns { TurnsAt (has_within (R.cells records.old) (Through revision)) recent.now.items count }
 
-    ensures index { IsIndexOf (R.cells records.new) index.new.live index.new.dead }
-    ensures chained { IsChained (R.cells records.new) }
+    ensures indexed { IsIndexed (R.cells records.new) index.new }
     ensures compacted { IsCompacted (R.cells records.old) (R.cells records.new) revision }
-    ensures order { settled.new.items ≡ with_records (R.cells records.new) settled.old.items }
+    ensures left { IsLeft (R.cells records.new) settled.old settled.new }
     ensures capacity { index.new.capacity ≡ index.old.capacity }
-    ensures room { settled.new.room ≡ settled.old.room }
-    ensures free { GivesBack R.cost (R.cells records.old) (R.cells records.new)
-        (R.free records.old) (R.free records.new) }
+    ensures free { Frees R.cost R.cells R.free records.old records.new }
     ensures rest { R.same_rest records.old records.new }
 {
     if count < settled.len() / VISIT + recent.len() / VISIT {
@@ -110,8 +93,7 @@ fn drop_all<R: RecordsMut>(
 
 /// Leaves the cells of an order that have a record.
 fn keep_recorded<R: Records>(order: &mut ChunkList<CellNo>, records: &R)
-    ensures items { order.new.items ≡ with_records (R.cells records.now) order.old.items }
-    ensures room { order.new.room ≡ order.old.room }
+    ensures { IsLeft (R.cells records.now) order.old order.new }
 {
     order.retain(&HasRecord { records });
 }
@@ -125,21 +107,15 @@ fn visit_all<R: RecordsMut>(
     count: usize,
     revision: u64,
 )
-    requires index { IsIndexOf (R.cells records.old) index.old.live index.old.dead }
-    requires chained { IsChained (R.cells records.old) }
-    requires all { AreAll (R.cells records.old) (settled.old.items ++ recent.now.items) }
-    requires rises { IsInOrder (R.cells records.old) (settled.old.items ++ recent.now.items) }
-    requires settled { AreSettled (R.cells records.old) settled.old.items }
+    requires indexed { IsIndexed (R.cells records.old) index.old }
+    requires orders { AreOrders (R.cells records.old) settled.old.items recent.now.items }
     requires turns { TurnsAt (has_within (R.cells records.old) (Through revision)) recent.now.items count }
 
-    ensures index { IsIndexOf (R.cells records.new) index.new.live index.new.dead }
-    ensures chained { IsChained (R.cells records.new) }
+    ensures indexed { IsIndexed (R.cells records.new) index.new }
     ensures compacted { IsCompacted (R.cells records.old) (R.cells records.new) revision }
-    ensures order { settled.new.items ≡ with_records (R.cells records.new) settled.old.items }
+    ensures left { IsLeft (R.cells records.new) settled.old settled.new }
     ensures capacity { index.new.capacity ≡ index.old.capacity }
-    ensures room { settled.new.room ≡ settled.old.room }
-    ensures free { GivesBack R.cost (R.cells records.old) (R.cells records.new)
-        (R.free records.old) (R.free records.new) }
+    ensures free { Frees R.cost R.cells R.free records.old records.new }
     ensures rest { R.same_rest records.old records.new }
 {
     let mut place = recent.start();
@@ -158,21 +134,17 @@ fn visit<R: RecordsMut>(
     cell: CellNo,
     revision: u64,
 )
-    requires index { IsIndexOf (R.cells records.old) index.old.live index.old.dead }
-    requires chained { IsChained (R.cells records.old) }
-    requires some { All (λ c. IsSome (R.cells records.old c)) settled.old.items }
-    requires rises { IsInOrder (R.cells records.old) settled.old.items }
+    requires indexed { IsIndexed (R.cells records.old) index.old }
+    requires ordered { IsOrdered (R.cells records.old) settled.old.items }
     requires once { IfSome (R.cells records.old cell)
         (λ e. IfSome e.older (λ d. times d settled.old.items ≡ 1)) }
 
-    ensures index { IsIndexOf (R.cells records.new) index.new.live index.new.dead }
-    ensures chained { IsChained (R.cells records.new) }
+    ensures indexed { IsIndexed (R.cells records.new) index.new }
     ensures visits { Visits (R.cells records.old cell) (R.cells records.old) (R.cells records.new) revision
         settled.old.items settled.new.items }
     ensures capacity { index.new.capacity ≡ index.old.capacity }
     ensures room { settled.new.room ≡ settled.old.room }
-    ensures free { GivesBack R.cost (R.cells records.old) (R.cells records.new)
-        (R.free records.old) (R.free records.new) }
+    ensures free { Frees R.cost R.cells R.free records.old records.new }
     ensures rest { R.same_rest records.old records.new }
 {
     if records.has(cell) {
@@ -186,8 +158,7 @@ fn visit<R: RecordsMut>(
 
 /// Takes a cell out of an order in which it stands.
 fn take_out<R: Records>(order: &mut ChunkList<CellNo>, records: &R, cell: CellNo)
-    requires some { All (λ c. IsSome (R.cells records.now c)) order.old.items }
-    requires rises { IsInOrder (R.cells records.now) order.old.items }
+    requires ordered { IsOrdered (R.cells records.now) order.old.items }
     requires once { times cell order.old.items ≡ 1 }
     ensures items { order.new.items ≡ without_cell (Some cell) order.old.items }
     ensures room { order.new.room ≡ order.old.room }
@@ -226,8 +197,7 @@ fn settle<R: Records>(
 
 /// How many changes of an order are at revisions that count.
 fn count_until<R: Records>(order: &ChunkList<CellNo>, records: &R, until: Until) -> usize
-    requires some { All (λ c. IsSome (R.cells records.now c)) order.now.items }
-    requires rises { IsInOrder (R.cells records.now) order.now.items }
+    requires { IsOrdered (R.cells records.now) order.now.items }
     ensures { TurnsAt (has_within (R.cells records.now) until) order.now.items result }
 {
     let end = order.search(&HasWithin { records, until });

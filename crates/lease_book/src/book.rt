@@ -110,12 +110,18 @@ impl LeaseBook {
         Ok(())
     }
 
+    /// What always holds of a book: its leases ascend. Nothing is done: a caller knows it from here on.
+    pub fn use_invariant(&self)
+        ensures { IsStrictlySortedBy by_id self.now.leases }
+    {
+        let _ = &self.list;
+    }
+
     /// How many leases there are.
     pub fn len(&self) -> usize
         ensures leases { result ≡ length self.now.leases }
         ensures cells { result ≡ length self.now.cells }
         ensures within { result ≤ self.now.room }
-        ensures ascend { IsStrictlySortedBy by_id self.now.leases }
     {
         self.list.len()
     }

@@ -27,6 +27,7 @@ use Rattle.etcd_types.specs.declared.reply.Header.{Header}
 use Rattle.etcd_types.specs.declared.reply.Reply.{Reply}
 use Rattle.etcd_types.specs.declared.reply.Reply.TheVariants.{Txn as TxnReply, Compacted, Created, Canceled, Granted, Revoked, KeptAlive, TimeToLive as TimeReply, Leases as LeasesReply, Alarms as AlarmsReply, Status as StatusReply, Defragmented, Quiet, Refused}
 use Rattle.etcd_types.specs.Limits.{last_revision, last_lease_id, last_moment, cell_bytes}
+use Rattle.etcd_types.specs.Steps.{chooses_id, may_add, writes}
 use Rattle.etcd_model.specs.declared.state.Lease.{Lease}
 use Rattle.etcd_model.specs.declared.state.Watch.{Watch as Watching}
 use Rattle.etcd_model.specs.declared.state.Change.{Change}
@@ -41,7 +42,7 @@ use Rattle.etcd_model.specs.Tenant.{Asks, Outcome, reads, header, used, stays}
 use Rattle.etcd_model.specs.Leases.{lease_at, attached, finish, tick, run_out, put_lease, granted_ttl}
 use Rattle.etcd_model.specs.Watches.{created, events_given, is_due, last_told, response, taken, watch_told, watch_of, with_slot, free_slot, first_of, event_of, bare}
 use Rattle.etcd_model.specs.Fields.{fields, refused_if}
-use Rattle.etcd_model.specs.Stepping.{writes, chooses_id, may_add, adds, with_header, compact_refusal, compacted_at, grant_id, counter_after, look_up, pending, single, transaction, compaction, grant, revoke, kept_alive, time_left, alarm_of, outcome, decided, early, before_space, within_quota, unless_alarmed, machine}
+use Rattle.etcd_model.specs.Stepping.{adds, with_header, compact_refusal, compacted_at, grant_id, counter_after, look_up, pending, single, transaction, compaction, grant, revoke, kept_alive, time_left, alarm_of, outcome, decided, early, before_space, within_quota, unless_alarmed, machine}
 use Rattle.etcd_model.specs.Held.{over, outcome_over}
 use Rattle.etcd_model.proofs.GrowthLaws.{first_none}
 

@@ -13,6 +13,7 @@ use Rattle.etcd_types.specs.declared.txn.Op.TheVariants.{Put as PutOp, Delete as
 use Rattle.etcd_types.specs.declared.refusal.Refusal.{Refusal}
 use Rattle.etcd_types.specs.declared.refusal.Refusal.TheVariants.{UsedUp}
 use Rattle.etcd_types.specs.Limits.{last_moment, last_revision, last_lease_id}
+use Rattle.etcd_types.specs.Steps.{chooses_id, writes}
 use Rattle.etcd_model.specs.declared.state.Lease.{Lease}
 use Rattle.etcd_model.specs.declared.state.Watch.{Watch as Watching}
 use Rattle.etcd_model.specs.History as history
@@ -31,7 +32,7 @@ use Rattle.etcd_model.specs.Operations.{branch, first_refusal}
 use Rattle.etcd_model.specs.Leases.{attached, finish, run_out}
 use Rattle.etcd_model.specs.Fields.{fields}
 use Rattle.etcd_model.specs.Stepping as stepping
-use Rattle.etcd_model.specs.Stepping.{early, look_up, used_up, writes, chooses_id, outcome, pending, decided}
+use Rattle.etcd_model.specs.Stepping.{early, look_up, used_up, outcome, pending, decided}
 use Rattle.etcd_model.specs.Machine as machine
 use Rattle.etcd_model.specs.Machine.{opening}
 use Rattle.etcd_model.specs.Changes.{Recorded, ChangesOnce, entry_at, entry_of, change_of, recorded_changes, recorded, record_revision, live, rows, keeps, kept, Rises}

@@ -16,6 +16,7 @@ use Rattle.etcd_types.specs.declared.refusal.Refusal.{Refusal}
 use Rattle.etcd_types.specs.declared.refusal.Refusal.TheVariants.{NoSpace}
 use Rattle.etcd_types.specs.declared.reply.Reply.TheVariants.{Refused}
 use Rattle.etcd_types.specs.Limits.{last_moment}
+use Rattle.etcd_types.specs.Steps.{adds_any, may_add}
 use Rattle.etcd_model.specs.declared.state.Lease.{Lease}
 use Rattle.etcd_model.specs.declared.state.History.{History}
 use Rattle.etcd_model.specs.declared.state.Change.{Change}
@@ -25,12 +26,12 @@ use Rattle.etcd_model.specs.Order.{beside, put_in}
 use Rattle.etcd_model.specs.History.{history_after}
 use Rattle.etcd_model.specs.Reads.{Look}
 use Rattle.etcd_model.specs.Kept.{history_cells}
-use Rattle.etcd_model.specs.Operations.{branch, pending_after, adds_any, first_refusal}
+use Rattle.etcd_model.specs.Operations.{branch, pending_after, first_refusal}
 use Rattle.etcd_model.specs.Tenant.{Outcome, reads, used}
 use Rattle.etcd_model.specs.Leases.{lease_at, attached, finish, run_out}
 use Rattle.etcd_model.specs.Fields.{fields}
 use Rattle.etcd_model.specs.Stepping as stepping
-use Rattle.etcd_model.specs.Stepping.{adds, may_add, early, look_up, outcome, pending, kept_alive, compacted_at}
+use Rattle.etcd_model.specs.Stepping.{adds, early, look_up, outcome, pending, kept_alive, compacted_at}
 use Rattle.etcd_model.specs.Machine as machine
 use Rattle.etcd_model.specs.Machine.{state_after}
 use Rattle.etcd_model.specs.Store as store

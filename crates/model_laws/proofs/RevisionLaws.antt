@@ -12,6 +12,7 @@ use Rattle.etcd_types.specs.declared.txn.Op.TheVariants.{Range as RangeOp, Put a
 use Rattle.etcd_types.specs.declared.step.Step.{Step}
 use Rattle.etcd_types.specs.declared.step.Step.TheVariants.{Put, Delete, Txn, Compact, Grant, Revoke, KeepAlive, Tick}
 use Rattle.etcd_types.specs.Limits.{last_moment, last_revision}
+use Rattle.etcd_types.specs.Steps.{writes, writes_op}
 use Rattle.etcd_model.specs.declared.state.Lease.{Lease}
 use Rattle.etcd_model.specs.declared.state.History.{History}
 use Rattle.etcd_model.specs.declared.state.Change.{Change}
@@ -24,7 +25,7 @@ use Rattle.etcd_model.specs.Compares.{all_hold}
 use Rattle.etcd_model.specs.Operations.{branch, pending_after}
 use Rattle.etcd_model.specs.Tenant.{reads, used}
 use Rattle.etcd_model.specs.Leases.{lease_at, attached, finish, run_out}
-use Rattle.etcd_model.specs.Stepping.{writes, writes_op, early, outcome, pending, kept_alive}
+use Rattle.etcd_model.specs.Stepping.{early, outcome, pending, kept_alive}
 use Rattle.etcd_model.specs.Machine as machine
 use Rattle.etcd_model.specs.Changes as changes
 use Rattle.etcd_model.specs.Store as store

@@ -16,6 +16,7 @@ use Rattle.etcd_types.specs.declared.kv.DeleteReq.{DeleteReq}
 use Rattle.etcd_types.specs.declared.key_value.KeyValue.{KeyValue}
 use Rattle.etcd_types.specs.declared.txn.Op.{Op}
 use Rattle.etcd_types.specs.declared.txn.Op.TheVariants.{Range as RangeOp, Put as PutOp, Delete as DeleteOp, Nested}
+use Rattle.etcd_types.specs.Steps.{adds_any}
 use Rattle.etcd_model.specs.declared.state.Change.{Change}
 use Rattle.etcd_model.specs.declared.state.State.{State}
 use Rattle.etcd_model.specs.declared.state.History.{History}
@@ -25,7 +26,7 @@ use Rattle.etcd_model.specs.History.{key_of, current}
 use Rattle.etcd_model.specs.Order.{key_cmp, by_key}
 use Rattle.etcd_model.specs.Interval.{is_in, every_key}
 use Rattle.etcd_model.specs.Kept.{cost, cost_delete, cost_put}
-use Rattle.etcd_model.specs.Operations.{kept_value, kept_lease, and_changes, pending_after, adds_any}
+use Rattle.etcd_model.specs.Operations.{kept_value, kept_lease, and_changes, pending_after}
 use Rattle.etcd_model.specs.Leases.{attached}
 use Rattle.etcd_model.specs.Changes.{Recorded, OwnRow, keys, Rises, entry_at, change_by, change_of, recorded_changes, next_row, live, rows, recorded, record_change, record_revision, kept, keeps}
 use Rattle.etcd_model.specs.Store.{Store, IsStore, after, reads_of, record_cells, reserved_cells, counted_cells, kept_store, compact}

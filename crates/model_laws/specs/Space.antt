@@ -6,12 +6,13 @@ use Rattle.etcd_types.specs.declared.key_value.KeyValue.{KeyValue}
 use Rattle.etcd_types.specs.declared.kv.DeleteReq.{DeleteReq}
 use Rattle.etcd_types.specs.declared.txn.Op.{Op}
 use Rattle.etcd_types.specs.declared.txn.Op.TheVariants.{Put as PutOp, Delete as DeleteOp}
+use Rattle.etcd_types.specs.Steps.{adds_any}
 use Rattle.etcd_model.specs.declared.state.History.{History}
 use Rattle.etcd_model.specs.declared.state.Change.{Change}
 use Rattle.etcd_model.specs.declared.state.Change.TheVariants.{Put as Set, Delete as Del}
 use Rattle.etcd_model.specs.Reads.{Reads}
 use Rattle.etcd_model.specs.Kept.{cost_put, cost_delete}
-use Rattle.etcd_model.specs.Operations.{kept_value, and_changes, pending_after, adds_any, has_lease}
+use Rattle.etcd_model.specs.Operations.{kept_value, and_changes, pending_after, has_lease}
 use Rattle.etcd_model.specs.declared.state.State.{State}
 use Rattle.etcd_model.specs.Tenant.{used}
 use Rattle.etcd_model.specs.Leases.{attached, finish}

@@ -1,11 +1,9 @@
 //! Dropping what a compaction does not keep.
-ghost use Rattle.std.specs.Prelude.{◌≡◌, ◌+◌, ◌≤◌, ◌++◌, length};
+ghost use Rattle.std.specs.Prelude.{◌≡◌, ◌+◌, ◌≤◌, length};
 ghost use Rattle.etcd_model.specs.Changes.{change_of};
 ghost use Rattle.etcd_model.specs.Kept.{cost};
 ghost use Rattle.key_index.specs.Compaction.{GivesBack, IsCompacted};
-ghost use Rattle.key_index.specs.Links.{IsChained};
-ghost use Rattle.key_index.specs.Index.{IsIndexOf};
-ghost use Rattle.key_index.specs.Order.{AreAll, AreSettled, IsInOrder, with_records};
+ghost use Rattle.key_index.specs.Visiting.{AreLeft, AreOrders, IsIndexed};
 ghost use Rattle.revision_store.specs.Loans.{KeepsRest};
 ghost use Rattle.cell_arena.specs.Loan.{IsLent};
 ghost use Rattle.revision_store.specs.Recorded.{ArePlain, cells_of};
@@ -25,24 +23,16 @@ pub(crate) fn cut<S: Segments>(
     recent: &mut ChunkList<CellNo>,
     revision: u64,
 )
-    requires index { IsIndexOf (cells_of region.old.records) index.old.live index.old.dead }
-    requires chained { IsChained (cells_of region.old.records) }
-    requires all { AreAll (cells_of region.old.records) (settled.old.items ++ recent.old.items) }
-    requires rises { IsInOrder (cells_of region.old.records) (settled.old.items ++ recent.old.items) }
-    requires settled { AreSettled (cells_of region.old.records) settled.old.items }
+    requires indexed { IsIndexed (cells_of region.old.records) index.old }
+    requires orders { AreOrders (cells_of region.old.records) settled.old.items recent.old.items }
     requires room { length settled.old.items + length recent.old.items ≤ settled.old.room }
     requires plain { ArePlain region.old.records }
     requires lent { IsLent region.old.share (S.loan segments.old) }
 
-    ensures index { IsIndexOf (cells_of region.new.records) index.new.live index.new.dead }
-    ensures chained { IsChained (cells_of region.new.records) }
+    ensures indexed { IsIndexed (cells_of region.new.records) index.new }
     ensures compacted { IsCompacted (cells_of region.old.records) (cells_of region.new.records) revision }
-    ensures order { settled.new.items ++ recent.new.items
-        ≡ with_records (cells_of region.new.records) (settled.old.items ++ recent.old.items) }
-    ensures settled { AreSettled (cells_of region.new.records) settled.new.items }
+    ensures left { AreLeft (cells_of region.new.records) settled.old recent.old settled.new recent.new }
     ensures capacity { index.new.capacity ≡ index.old.capacity }
-    ensures settled_room { settled.new.room ≡ settled.old.room }
-    ensures recent_room { recent.new.room ≡ recent.old.room }
     ensures free { GivesBack
         (λ x. cost (change_of x)) (cells_of region.old.records) (cells_of region.new.records)
         region.old.free region.new.free }

@@ -191,8 +191,9 @@ impl Log {
         self.leases -= 1;
     }
 
-    /// Its changes are in order, each row is of its key, and each cell is free or of a change or a lease.
-    pub(crate) fn keep_in_order(&self)
+    /// What always holds of a log: its changes are in order, each row is of its key, and each cell is free or of a
+    /// change or a lease. Nothing is done: a caller knows it from here on.
+    pub(crate) fn use_invariant(&self)
         ensures rises { Rises self.now.changes }
         ensures own { AllByRecursion OwnRow self.now.changes }
         ensures space { self.now.free + record_cells self.now.changes + self.now.lease_cells

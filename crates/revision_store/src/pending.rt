@@ -52,7 +52,7 @@ impl<'a> Pending<'a> {
     pub fn new(alloc: Global, store: &'a Store) -> Pending<'a>
         ensures { result ≡ record { store = store.now; changes = [] } }
     {
-        store.keep_sound();
+        store.use_invariant();
         Pending {
             store,
             writes: Vec::new(alloc),

@@ -4,7 +4,7 @@ ghost use Rattle.std.specs.Prelude.{is_some, option_and_then};
 ghost use Rattle.etcd_types.specs.declared.txn.Op.TheVariants.{Put as PutOp, Delete as DeleteOp};
 ghost use Rattle.etcd_model.specs.Operations.{changes, op_reply, put_refusal};
 ghost use Rattle.revision_store.specs.Stored.{cells, look, reads, row_at};
-ghost use Rattle.revision_store.specs.Pending.{IsPlanOf, IsSound};
+ghost use Rattle.revision_store.specs.Pending.{IsPlanOf};
 
 use crate::pending::Pending;
 use crate::plan::{Plan, Write};
@@ -85,7 +85,7 @@ impl Store {
         ensures row { option_and_then (row_at (cells self.now)) result ≡ (reads self.now).row key.now }
         ensures there { IfSome result (λ c. IsSome (row_at (cells self.now) c)) }
     {
-        self.keep_sound();
+        self.use_invariant();
         self.log.newest_cells(key, &[]).next()
     }
 
@@ -94,12 +94,5 @@ impl Store {
         ensures { result ≡ is_some ((reads self.now).row key.now) }
     {
         self.live(key).is_some()
-    }
-
-    /// It is one that appends and compactions make. Nothing is done: a caller knows it from here on.
-    pub(crate) fn keep_sound(&self)
-        ensures { IsSound self.now }
-    {
-        self.log.keep_in_order();
     }
 }

@@ -55,7 +55,7 @@ impl Store {
         requires current { current < 2 ^ 63 }
         ensures { IfOk result (λ reply. reply ≡ op_reply (reads self.now) current (RangeOp request.now)) }
     {
-        self.keep_sound();
+        self.use_invariant();
         let key = request.key.as_slice();
         let range_end = request.range_end.as_slice();
         let revision = self.revision_read(request.revision);

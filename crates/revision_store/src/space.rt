@@ -54,7 +54,7 @@ impl Store {
             ≤ counted_cells (after self.now.kept (changes_of self.now plan.now)) }
         ensures sound { IsSound self.now }
     {
-        self.keep_sound();
+        self.use_invariant();
         let mut growth: u64 = 0;
         for write in plan.writes() {
             growth = growth.saturating_add(growth_of(write));

@@ -54,13 +54,20 @@ impl Store {
         })
     }
 
+    /// What always holds of a store. Nothing is done: a caller knows it from here on.
+    pub fn use_invariant(&self)
+        ensures { IsSound self.now }
+    {
+        self.log.use_invariant();
+    }
+
     /// The current revision.
     pub fn current(&self) -> u64
         ensures current { result ≡ self.now.kept.current }
         ensures short { result < 2 ^ 63 }
         ensures sound { IsSound self.now }
     {
-        self.keep_sound();
+        self.use_invariant();
         self.current
     }
 

@@ -1,4 +1,4 @@
--- Made by scripts/make-row-theorems: a file for each row that makes theorems.
+-- Made by tools/make-row-theorems: a file for each row that makes theorems.
 mod first_put
 mod put_then_range
 mod revisions_used_up

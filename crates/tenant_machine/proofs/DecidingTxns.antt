@@ -12,13 +12,14 @@ use Rattle.etcd_types.specs.declared.step.Step.TheVariants.{Txn}
 use Rattle.etcd_types.specs.declared.refusal.Refusal.{Refusal}
 use Rattle.etcd_types.specs.declared.refusal.Refusal.TheVariants.{NoSpace}
 use Rattle.etcd_types.specs.declared.reply.Reply.TheVariants.{Refused, Txn as TxnReply}
+use Rattle.etcd_types.specs.Steps.{adds_any, writes, writes_op}
 use Rattle.etcd_model.specs.declared.state.Change.{Change}
 use Rattle.etcd_model.specs.declared.state.Lease.{Lease}
 use Rattle.etcd_model.specs.Compares.{all_hold}
 use Rattle.etcd_model.specs.Fields.{is_empty}
-use Rattle.etcd_model.specs.Operations.{adds_any, branch}
+use Rattle.etcd_model.specs.Operations.{branch}
 use Rattle.etcd_model.specs.Reads.{Reads}
-use Rattle.etcd_model.specs.Stepping.{transaction, within_quota, writes, writes_op}
+use Rattle.etcd_model.specs.Stepping.{transaction, within_quota}
 use Rattle.etcd_model.specs.Store.{IsStore, after, counted_cells, kept_store}
 use Rattle.etcd_model.specs.Tenant.{used}
 use Rattle.model_laws.proofs.RevisionLaws.{nothing_pending}

@@ -7,10 +7,11 @@ use Rattle.etcd_types.specs.declared.step.Step.{Step}
 use Rattle.etcd_types.specs.declared.refusal.Refusal.{Refusal}
 use Rattle.etcd_types.specs.declared.refusal.Refusal.TheVariants.{NoSpace}
 use Rattle.etcd_types.specs.declared.reply.Reply.TheVariants.{Refused}
+use Rattle.etcd_types.specs.Steps.{may_add}
 use Rattle.etcd_model.specs.declared.state.State.{State}
 use Rattle.etcd_model.specs.Fields.{refused_if}
 use Rattle.etcd_model.specs.Operations.{first_refusal}
-use Rattle.etcd_model.specs.Stepping.{adds, decided, early, look_up, machine, may_add, outcome, unless_alarmed, within_quota}
+use Rattle.etcd_model.specs.Stepping.{adds, decided, early, look_up, machine, outcome, unless_alarmed, within_quota}
 use Rattle.etcd_model.specs.Store.{Store, kept_store}
 use Rattle.etcd_model.specs.Tenant.{Outcome, reads, stays, used}
 use Rattle.tenant_machine.specs.Deciding.{Does, gate, past_gate}

@@ -9,11 +9,12 @@ use Rattle.etcd_types.specs.declared.reply.OpReply.{OpReply}
 use Rattle.etcd_types.specs.declared.reply.OpReply.TheVariants.{Range, Put, Delete}
 use Rattle.etcd_types.specs.declared.reply.Reply.{Reply}
 use Rattle.etcd_types.specs.declared.reply.Reply.TheVariants.{Created, Granted, Refused, Txn}
+use Rattle.etcd_types.specs.Steps.{may_add}
 use Rattle.etcd_model.specs.declared.state.Lease.{Lease}
 use Rattle.etcd_model.specs.declared.state.State.{State}
 use Rattle.etcd_model.specs.Fields.{refused_if}
 use Rattle.etcd_model.specs.Operations.{first_refusal}
-use Rattle.etcd_model.specs.Stepping.{early, look_up, may_add, decided, within_quota, with_header}
+use Rattle.etcd_model.specs.Stepping.{early, look_up, decided, within_quota, with_header}
 use Rattle.etcd_model.specs.Store.{Store, kept_store}
 use Rattle.etcd_model.specs.Tenant.{Outcome, used}
 use Rattle.txn_plan.specs.declared.transaction.PlannedTxn.{PlannedTxn}

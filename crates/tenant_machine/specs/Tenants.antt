@@ -1,6 +1,7 @@
 -- What a machine keeps of its tenant.
 use Rattle.std.specs.Prelude.{◌≡◌, ℕ, ◌+◌, ◌*◌, ◌≤◌, ◌^◌, Bool, List, Option, length, refl}
 use Rattle.std.specs.Coded.{Coded, code_by, coded×, coded_ℕ, coded_bool}
+use Rattle.cell_arena.specs.Loan.{IsLent, Loan, Settles}
 use Rattle.etcd_types.specs.Limits.{last_moment}
 use Rattle.etcd_model.specs.declared.state.Lease.{Lease}
 use Rattle.etcd_model.specs.declared.state.State.{State}
@@ -41,6 +42,14 @@ machine_code =
       alarm = p.1.1.1.1;
     })
     (λ _. refl)
+
+-- what a call on a machine asks of the segments that it is lent
+abbrev pub IsLentTo : MachineState → Loan → Type 0
+IsLentTo m loan = IsLent m.store.share loan
+
+-- what it leaves of them
+abbrev pub SettlesWith : MachineState → Loan → MachineState → Loan → Type 0
+SettlesWith old from new to = Settles old.store.share from new.store.share to
 
 -- a book as it is told: for how many leases it has room is left out
 abbrev pub told_book : Book → Book

@@ -10,7 +10,7 @@ ghost use Rattle.etcd_model.specs.Store.{kept_store};
 ghost use Rattle.lease_book.specs.Attached.{heads_of};
 ghost use Rattle.revision_store.specs.Plans.{head_deletes};
 ghost use Rattle.revision_store.specs.Stored.{CanCommit, Commits};
-ghost use Rattle.tenant_machine.specs.Tenants.{at_moment, tenant, with_due};
+ghost use Rattle.tenant_machine.specs.Tenants.{IsLentTo, SettlesWith, at_moment, tenant, with_due};
 
 use crate::machine::Machine;
 use cell_arena::Segments;
@@ -22,15 +22,13 @@ impl Machine {
     /// Ends a lease that is there. Its keys are deleted in one revision, and its record goes.
     pub(crate) fn end_lease<S: Segments>(&mut self, segments: &mut S, id: i64)
         requires has { has_lease self.old.leases.leases id ≡ true }
-        requires lent { IsLent self.old.store.share (S.loan segments.old) }
+        requires lent { IsLentTo self.old (S.loan segments.old) }
         ensures tenant { tenant self.new ≡ finish kept_store (tenant self.old) id }
         ensures due { self.new.leases.due ≡ self.old.leases.due }
-        ensures settles { Settles self.old.store.share (S.loan segments.old)
-            self.new.store.share (S.loan segments.new) }
+        ensures settles { SettlesWith self.old (S.loan segments.old) self.new (S.loan segments.new) }
     {
-        // The store tells with its revision that it is sound, and the book with its count that it ascends.
-        self.store.current();
-        self.leases.len();
+        self.store.use_invariant();
+        self.leases.use_invariant();
         delete_keys(&mut self.store, segments, &self.leases, id);
         self.watchers.note(&self.store);
         let cell = self.leases.end(id);
@@ -41,10 +39,9 @@ impl Machine {
     /// The clock comes to a moment, or stays at a later one, and the leases that have run out end, in the
     /// order of their ends.
     pub(crate) fn tick<S: Segments>(&mut self, segments: &mut S, moment: u64)
-        requires lent { IsLent self.old.store.share (S.loan segments.old) }
+        requires lent { IsLentTo self.old (S.loan segments.old) }
         ensures tenant { tenant self.new ≡ tick kept_store (tenant self.old) moment }
-        ensures settles { Settles self.old.store.share (S.loan segments.old)
-            self.new.store.share (S.loan segments.new) }
+        ensures settles { SettlesWith self.old (S.loan segments.old) self.new (S.loan segments.new) }
     {
         self.set_clock(moment);
         let mut some_ended = false;
@@ -71,8 +68,7 @@ impl Machine {
         ensures after { self.new ≡ with_due self.old (drop 1 self.old.leases.due) }
         ensures ascend { IsStrictlySortedBy by_id self.old.leases.leases }
     {
-        // The book tells with its count that it ascends.
-        self.leases.len();
+        self.leases.use_invariant();
         self.leases.next_due()
     }
 }

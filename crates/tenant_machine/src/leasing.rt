@@ -112,7 +112,6 @@ impl Machine {
         requires { has_lease self.now.leases.leases id ≡ true }
         ensures { result ≡ pos (finished self.now.store.kept id).current }
     {
-        // The store tells with its revision that it is sound.
         let current = self.store.current();
         if self.leases.keys_of(id).is_empty() {
             current as i64
@@ -164,8 +163,7 @@ impl Machine {
         requires { has_lease self.now.leases.leases id ≡ true }
         ensures { IfOk result (λ keys. keys ≡ attached (reads self.now.store) id) }
     {
-        // The store tells with its revision that it is sound.
-        self.store.current();
+        self.store.use_invariant();
         keys_under(alloc, &self.store, self.leases.keys_of(id))
     }
 

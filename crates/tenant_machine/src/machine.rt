@@ -3,13 +3,13 @@ ghost use Rattle.std.specs.Prelude.{◌≡◌, ◌≢◌, ◌+◌, ◌-◌, ◌�
 ghost use Rattle.etcd_types.specs.Limits.{last_revision, max_quota, min_quota};
 ghost use Rattle.etcd_types.specs.declared.reply.Reply.TheVariants.{Refused};
 ghost use Rattle.etcd_types.specs.declared.refusal.Refusal.TheVariants.{Memory};
-ghost use Rattle.cell_arena.specs.Loan.{IsLent, Settles, segments_for, undrawn};
+ghost use Rattle.cell_arena.specs.Loan.{segments_for, undrawn};
 ghost use Rattle.etcd_model.specs.Machine.{opening};
 ghost use Rattle.etcd_model.specs.Held.{Holds};
 ghost use Rattle.etcd_model.specs.Store.{kept_store, reserved_cells};
 ghost use Rattle.etcd_model.specs.Tenant.{used};
 ghost use Rattle.tenant_machine.specs.Deciding.{is_sure};
-ghost use Rattle.tenant_machine.specs.Tenants.{tenant};
+ghost use Rattle.tenant_machine.specs.Tenants.{IsLentTo, SettlesWith, tenant};
 ghost use Rattle.tenant_machine.specs.Plans.{Fits, FitsCompaction, FitsGrant, FitsWrite, IsAfter, Steps};
 ghost use Rattle.tenant_machine.specs.Plans.{with_lease, with_new_end, written};
 ghost use Rattle.etcd_model.specs.Operations.{has_lease};
@@ -85,11 +85,10 @@ impl Machine {
     /// store may draw and give back. It takes no memory and cannot fail.
     pub fn commit<S: Segments>(&mut self, segments: &mut S, planned: Planned) -> Reply
         requires fits { Fits self.old planned }
-        requires lent { IsLent self.old.store.share (S.loan segments.old) }
+        requires lent { IsLentTo self.old (S.loan segments.old) }
         ensures reply { result ≡ planned.reply }
         ensures after { IsAfter self.old planned self.new }
-        ensures settles { Settles self.old.store.share (S.loan segments.old)
-            self.new.store.share (S.loan segments.new) }
+        ensures settles { SettlesWith self.old (S.loan segments.old) self.new (S.loan segments.new) }
     {
         let Planned { effect, reply } = planned;
         match effect {
@@ -112,11 +111,10 @@ impl Machine {
 
     /// One step: planned and committed, or for want of memory neither.
     pub fn step<S: Segments>(&mut self, alloc: Global, segments: &mut S, step: &Step) -> Reply
-        requires lent { IsLent self.old.store.share (S.loan segments.old) }
+        requires lent { IsLentTo self.old (S.loan segments.old) }
         ensures steps { Steps self.old step.now result self.new }
         ensures sure { is_sure (tenant self.old) step.now ≡ true → result ≢ Refused Memory }
-        ensures settles { Settles self.old.store.share (S.loan segments.old)
-            self.new.store.share (S.loan segments.new) }
+        ensures settles { SettlesWith self.old (S.loan segments.old) self.new (S.loan segments.new) }
     {
         match self.plan(alloc, step) {
             Ok(planned) => self.commit(segments, planned),
@@ -151,10 +149,9 @@ impl Machine {
     /// Makes changes one more revision, after which so many cells are in use.
     fn write<S: Segments>(&mut self, segments: &mut S, plan: Plan, used: u64)
         requires fits { FitsWrite self.old plan used }
-        requires lent { IsLent self.old.store.share (S.loan segments.old) }
+        requires lent { IsLentTo self.old (S.loan segments.old) }
         ensures tenant { tenant self.new ≡ record (tenant self.old) { store = written self.old.store plan } }
-        ensures settles { Settles self.old.store.share (S.loan segments.old)
-            self.new.store.share (S.loan segments.new) }
+        ensures settles { SettlesWith self.old (S.loan segments.old) self.new (S.loan segments.new) }
     {
         let revision = self.store.current() + 1;
         self.store.commit(segments, plan);
@@ -166,14 +163,12 @@ impl Machine {
     /// Forgets what reads below a revision need. The cells that this frees are in use no more.
     fn compact<S: Segments>(&mut self, segments: &mut S, revision: u64)
         requires fits { FitsCompaction self.old.store revision }
-        requires lent { IsLent self.old.store.share (S.loan segments.old) }
+        requires lent { IsLentTo self.old (S.loan segments.old) }
         ensures tenant { tenant self.new
             ≡ record (tenant self.old) { store = kept_store.compact self.old.store.kept revision } }
-        ensures settles { Settles self.old.store.share (S.loan segments.old)
-            self.new.store.share (S.loan segments.new) }
+        ensures settles { SettlesWith self.old (S.loan segments.old) self.new (S.loan segments.new) }
     {
-        // The store tells with its revision that it is sound.
-        self.store.current();
+        self.store.use_invariant();
         let before = self.store.used_cells();
         self.store.compact(segments, revision);
         self.watchers.cut(&self.store);
@@ -184,14 +179,12 @@ impl Machine {
     /// Takes up a lease, with a record of it in a cell, which is in use then.
     fn grant<S: Segments>(&mut self, segments: &mut S, new: NewLease)
         requires fits { FitsGrant self.old new }
-        requires lent { IsLent self.old.store.share (S.loan segments.old) }
+        requires lent { IsLentTo self.old (S.loan segments.old) }
         ensures tenant { tenant self.new ≡ with_lease self.old new }
-        ensures settles { Settles self.old.store.share (S.loan segments.old)
-            self.new.store.share (S.loan segments.new) }
+        ensures settles { SettlesWith self.old (S.loan segments.old) self.new (S.loan segments.new) }
     {
-        // The store tells with its revision that it is sound, and the book with its count that it ascends.
-        self.store.current();
-        self.leases.len();
+        self.store.use_invariant();
+        self.leases.use_invariant();
         let cell = self
             .store
             .place_lease(segments, new.lease.id, new.lease.ttl);
@@ -205,8 +198,7 @@ impl Machine {
         ensures tenant { tenant self.new ≡ with_new_end self.old id }
         ensures store { self.new.store ≡ self.old.store }
     {
-        // The book tells with its count that its leases ascend.
-        self.leases.len();
+        self.leases.use_invariant();
         self.leases.renew(id, self.moment);
     }
 }

@@ -4,8 +4,9 @@ ghost use Rattle.etcd_types.specs.Limits.{last_revision};
 ghost use Rattle.etcd_types.specs.declared.step.Step.TheVariants.{Range, Put, Delete, Txn, Compact};
 ghost use Rattle.etcd_types.specs.declared.refusal.Refusal.TheVariants.{NoSpace};
 ghost use Rattle.etcd_types.specs.declared.reply.Reply.TheVariants.{Refused};
+ghost use Rattle.etcd_types.specs.Steps.{writes};
 ghost use Rattle.etcd_model.specs.Fields.{is_empty, txn_fields};
-ghost use Rattle.etcd_model.specs.Stepping.{look_up, writes};
+ghost use Rattle.etcd_model.specs.Stepping.{look_up};
 ghost use Rattle.etcd_model.specs.Store as kept;
 ghost use Rattle.revision_store.specs.Stored.{IsPlanFor};
 ghost use Rattle.tenant_machine.specs.Deciding.{Does, answer, header_at, past_gate, txn_outcome};
@@ -56,8 +57,7 @@ impl Machine {
         ensures does { IfOk result (λ p. Does self.now p (past_gate (tenant self.now) (Delete request.now))) }
         ensures fits { IfOk result (λ p. Fits self.now p) }
     {
-        // The store tells with its revision that it is sound.
-        self.store.current();
+        self.store.use_invariant();
         let PlannedOp { plan, reply } = self.store.plan_delete(alloc, request)?;
         Ok(self.writing(plan, self.answer(reply), self.quota.used))
     }
@@ -84,8 +84,7 @@ impl Machine {
             → IsOk result }
         ensures fits { IfOk result (λ p. Fits self.now p) }
     {
-        // The store tells with its revision that it is sound.
-        self.store.current();
+        self.store.use_invariant();
         Ok(
             match txn_plan::plan(alloc, &self.store, &self.leases, request)? {
                 Ok(planned) => self.transaction(planned),
@@ -155,8 +154,7 @@ impl Machine {
         ensures planned { result ≡ record { effect = Effect.Write plan used; reply = reply } }
         ensures fits { Fits self.now result }
     {
-        // The store tells with its revision that it is sound.
-        self.store.current();
+        self.store.use_invariant();
         Planned {
             effect: Effect::Write { plan, used },
             reply,

@@ -1,8 +1,9 @@
 //! Another quota, and the end of a machine.
 ghost use Rattle.std.specs.Prelude.{max, ◌≡◌, ◌≤◌, OnOk, OnErr};
 ghost use Rattle.etcd_types.specs.Limits.{max_quota};
-ghost use Rattle.cell_arena.specs.Loan.{IsLent, Settles, returned, segments_for};
+ghost use Rattle.cell_arena.specs.Loan.{Settles, returned, segments_for};
 ghost use Rattle.tenant_machine.specs.Reserving.{reservation, roomier, with_quota};
+ghost use Rattle.tenant_machine.specs.Tenants.{IsLentTo};
 
 use crate::machine::{Machine, segments_for};
 use cell_arena::Segments;
@@ -47,7 +48,7 @@ impl Machine {
 
     /// Gives all segments back, with whatever they hold. It takes no memory and cannot fail.
     pub fn give_up<S: Segments>(self, segments: &mut S)
-        requires lent { IsLent self.store.share (S.loan segments.old) }
+        requires lent { IsLentTo self (S.loan segments.old) }
         ensures settles { Settles self.store.share (S.loan segments.old)
             (returned self.store.share) (S.loan segments.new) }
     {

@@ -1,6 +1,6 @@
 //! Some of the rows of `tests/rows`, line by line, for tests.
 //!
-//! The text above a row is its name there. `scripts/check-rows` asks that the two are the same.
+//! The text above a row is its name there. `tools/check-rows` asks that the two are the same.
 #![tactic(auto)]
 
 mod calls;

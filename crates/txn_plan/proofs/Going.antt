@@ -5,12 +5,12 @@ use Rattle.std.proofs.lemmas.Bool.{or_parts, or_right}
 use Rattle.etcd_types.specs.declared.txn.Op.{Op}
 use Rattle.etcd_types.specs.declared.txn.Op.TheVariants.{Range as RangeOp, Put as PutOp, Delete as DeleteOp, Nested}
 use Rattle.etcd_types.specs.declared.reply.OpReply.{OpReply}
+use Rattle.etcd_types.specs.Steps.{writes_op}
 use Rattle.etcd_model.specs.declared.state.Change.{Change}
 use Rattle.etcd_model.specs.declared.state.Lease.{Lease}
 use Rattle.etcd_model.specs.Fields.{is_nested}
 use Rattle.etcd_model.specs.Operations.{and_changes, op_refusal, op_reply, ops_refusal, replies}
 use Rattle.etcd_model.specs.Reads.{Reads}
-use Rattle.etcd_model.specs.Stepping.{writes_op}
 use Rattle.etcd_model.specs.Store.{IsStore}
 use Rattle.etcd_model.proofs.GrowthLaws.{first_none}
 use Rattle.revision_store.specs.Stored.{StoreState, look}

@@ -5,8 +5,9 @@ use Rattle.std.proofs.lemmas.Int.{to_z_pos}
 use Rattle.etcd_types.specs.declared.txn.Op.{Op}
 use Rattle.etcd_types.specs.declared.txn.TxnReq.{TxnReq}
 use Rattle.etcd_types.specs.declared.reply.OpReply.{OpReply}
+use Rattle.etcd_types.specs.Steps.{adds_any}
 use Rattle.etcd_model.specs.Compares.{all_hold}
-use Rattle.etcd_model.specs.Operations.{adds_any, branch, pending_after, replies}
+use Rattle.etcd_model.specs.Operations.{branch, pending_after, replies}
 use Rattle.revision_store.specs.Stored.{StoreState, IsPlanFor, changes_of, look, reads}
 use Rattle.revision_store.specs.Pending.{PendingState, pending_reads}
 use Rattle.revision_store.specs.declared.plan.Write.{Write}

@@ -3,10 +3,10 @@ use Rattle.std.specs.Prelude.{◌≡◌, ◌+◌, ◌<◌, ◌^◌, ◌++◌, []
 use Rattle.std.specs.List.{AllByRecursion, list_any}
 use Rattle.etcd_types.specs.declared.txn.Op.{Op}
 use Rattle.etcd_types.specs.declared.reply.OpReply.{OpReply}
+use Rattle.etcd_types.specs.Steps.{writes_any}
 use Rattle.etcd_model.specs.declared.state.Change.{Change}
 use Rattle.etcd_model.specs.Fields.{has_duplicate, is_nested}
 use Rattle.etcd_model.specs.Operations.{pending_after, replies}
-use Rattle.etcd_model.specs.Stepping.{writes_op}
 use Rattle.revision_store.specs.Stored.{StoreState, look, reads}
 use Rattle.txn_plan.specs.Planned.{IsApart, IsReadable}
 
@@ -24,4 +24,4 @@ pub record GoesOn
   pub distinct : has_duplicate left ≡ false
   pub offered : list_any is_nested left ≡ false
   pub readable : AllByRecursion (IsReadable (reads store)) left
-  pub revisions : list_any writes_op left ≡ true → store.kept.current + 1 < 2 ^ 63
+  pub revisions : writes_any left ≡ true → store.kept.current + 1 < 2 ^ 63

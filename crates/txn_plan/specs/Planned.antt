@@ -6,11 +6,12 @@ use Rattle.etcd_types.specs.declared.refusal.Refusal.TheVariants.{LeaseNotFound}
 use Rattle.etcd_types.specs.declared.txn.Op.{Op}
 use Rattle.etcd_types.specs.declared.txn.Op.TheVariants.{Range, Put, Delete}
 use Rattle.etcd_types.specs.declared.txn.TxnReq.{TxnReq}
+use Rattle.etcd_types.specs.Steps.{adds_any}
 use Rattle.etcd_model.specs.declared.state.Change.{Change}
 use Rattle.etcd_model.specs.declared.state.Lease.{Lease}
 use Rattle.etcd_model.specs.Compares.{all_hold}
 use Rattle.etcd_model.specs.Fields.{refused_if}
-use Rattle.etcd_model.specs.Operations.{adds_any, branch, has_lease, ops_refusal, pending_after, replies}
+use Rattle.etcd_model.specs.Operations.{branch, has_lease, ops_refusal, pending_after, replies}
 use Rattle.etcd_model.specs.Reads.{Reads, revision_read, unreadable}
 use Rattle.revision_store.specs.Pending.{changes_key, puts_inside}
 use Rattle.revision_store.specs.Stored.{StoreState, IsPlanFor, changes_of, look, reads}

@@ -3,7 +3,7 @@ ghost use Rattle.std.specs.Prelude.{◌≡◌, ◌+◌, ◌<◌, ◌^◌, [], tr
 ghost use Rattle.std.specs.List.{AllByRecursion, list_any};
 ghost use Rattle.etcd_model.specs.Fields.{has_duplicate, is_nested};
 ghost use Rattle.etcd_model.specs.Operations.{and_changes, op_reply, pending_after, replies};
-ghost use Rattle.etcd_model.specs.Stepping.{writes_op};
+ghost use Rattle.etcd_types.specs.Steps.{writes_any, writes_op};
 ghost use Rattle.revision_store.specs.Stored.{look, reads};
 ghost use Rattle.txn_plan.specs.Planned.{IsApart, IsReadable};
 
@@ -23,13 +23,12 @@ pub(crate) fn fold<'a>(alloc: Global, store: &'a Store, ops: &'a [Op]) -> Mem<Fo
     requires distinct { has_duplicate ops.now ≡ false }
     requires offered { list_any is_nested ops.now ≡ false }
     requires readable { AllByRecursion (IsReadable (reads store.now)) ops.now }
-    requires revisions { list_any writes_op ops.now ≡ true → store.now.kept.current + 1 < 2 ^ 63 }
+    requires revisions { writes_any ops.now ≡ true → store.now.kept.current + 1 < 2 ^ 63 }
     ensures changes { IfOk result (λ folded. folded.pending ≡
         record { store = store.now; changes = pending_after (look store.now) [] ops.now }) }
     ensures replies { IfOk result (λ folded. folded.replies ≡ replies (look store.now) [] ops.now) }
 {
-    // The store tells with its revision that it is sound.
-    store.current();
+    store.use_invariant();
     let mut pending = Pending::new(alloc, store);
     let mut replies = List::new(alloc);
     for op in ops {

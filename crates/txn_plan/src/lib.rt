@@ -7,7 +7,6 @@ mod folding;
 mod refusal;
 mod transaction;
 
-pub use branch::{adds_any, writes_any};
 pub use refusal::lease_refusal;
 pub use request_checks::check_txn as check;
 pub use revision_store::holds;

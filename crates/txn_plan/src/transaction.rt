@@ -1,15 +1,14 @@
 //! Plans of transactions.
 ghost use Rattle.std.specs.Prelude.{◌≡◌, ◌+◌, ◌<◌, ◌^◌, ◌++◌, true, None, Some, is_some, IfOk, IsOk};
 ghost use Rattle.std.specs.Prelude.{MatchResult};
-ghost use Rattle.std.specs.List.{list_any};
 ghost use Rattle.etcd_model.specs.Fields.{txn_fields};
-ghost use Rattle.etcd_model.specs.Stepping.{writes_op};
+ghost use Rattle.etcd_types.specs.Steps.{writes_any};
 ghost use Rattle.txn_plan.specs.Planned.{IsTxn, txn_refusal};
 
-use crate::branch::{adds_any, all_hold, branch};
+use crate::branch::{all_hold, branch};
 use crate::folding::{Folded, fold};
 use crate::refusal::ops_refusal;
-use etcd_types::{List, Mem, OpReply, Refusal, TxnReq};
+use etcd_types::{List, Mem, Op, OpReply, Refusal, TxnReq};
 use lease_book::LeaseBook;
 use revision_store::{Plan, Store};
 use std::alloc::Global;
@@ -39,7 +38,7 @@ pub fn plan(
     request: &TxnReq,
 ) -> Mem<Result<PlannedTxn, Refusal>>
     requires fields { txn_fields request.now ≡ None }
-    requires revisions { list_any writes_op (request.now.success ++ request.now.failure) ≡ true
+    requires revisions { writes_any (request.now.success ++ request.now.failure) ≡ true
         → store.now.kept.current + 1 < 2 ^ 63 }
     ensures refusal { IfOk result (λ answer. MatchResult answer
         (λ planned. txn_refusal leases.now.leases store.now request.now ≡ None)
@@ -55,7 +54,7 @@ pub fn plan(
     let Folded { pending, replies } = fold(alloc, store, ops)?;
     Ok(Ok(PlannedTxn {
         succeeded,
-        adds: adds_any(ops),
+        adds: Op::any_adds(ops),
         revision: pending.current() as i64,
         plan: pending.finish(),
         responses: replies,

@@ -59,8 +59,7 @@ impl OpenWatch {
 
     /// Whether the ring has room for the changes of the next revision that has some, so that a catch-up can go on.
     fn has_room_for_next(&self, store: &Store) -> bool {
-        // The store tells with its revision that its revisions don't fall.
-        store.current();
+        store.use_invariant();
         let changes = store.since(self.position());
         let later = store.since(reached(store, &changes));
         let count = changes.len().saturating_sub(later.len());
@@ -112,8 +111,7 @@ impl OpenWatch {
         ensures watch { self.new.watch ≡ self.old.watch }
         ensures moved { IsTrue result → self.new.position ≡ to }
     {
-        // The store tells with its revision that its revisions don't fall.
-        store.current();
+        store.use_invariant();
         if !self.take_up(store, changes) {
             return false;
         }
@@ -153,8 +151,7 @@ impl OpenWatch {
         ensures watch { self.new.watch ≡ self.old.watch }
         ensures further { IfSome result (λ n. (n ≤ budget) × (self.old.position < self.new.position)) }
     {
-        // The store tells with its revision that its revisions don't fall.
-        store.current();
+        store.use_invariant();
         let changes = store.since(self.position());
         let to = reached(store, &changes);
         let later = store.since(to);

@@ -28,8 +28,7 @@ impl OpenWatch {
             ≤ next_after store.now.kept.current self.now.watch.next g) }
         ensures last { IfOk result (λ g. g.last ≤ store.now.kept.current) }
     {
-        // The store tells with its revision that its revisions don't fall.
-        store.current();
+        store.use_invariant();
         let mut found = Gathered::new(alloc);
         let mut place = 0;
         while place < self.ring_len() {

@@ -26,8 +26,7 @@ impl OpenWatch {
     fn cancel(&self, store: &Store, header: Header) -> Reply
         ensures { result ≡ Canceled header self.now.watch.id (pos store.now.kept.compacted) }
     {
-        // The store tells with its revision that this and the compaction's are less than 2^63.
-        store.current();
+        store.use_invariant();
         Reply::Canceled {
             header,
             watch_id: self.watch.id,

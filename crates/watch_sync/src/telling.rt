@@ -54,8 +54,7 @@ fn put_event(alloc: Global, store: &Store, watch: &Watch, cell: CellNo) -> Mem<E
     ensures { IfOk result (λ event. IfSome (change_at (cells store.now) cell)
         (λ x. event ≡ event_of store.now.kept watch.now x)) }
 {
-    // The store tells with its revision that no revision changes a key twice.
-    store.current();
+    store.use_invariant();
     let prev_kv = row_before(alloc, store, watch, cell)?;
     let kv = store.row(alloc, cell)?;
     Ok(Event {

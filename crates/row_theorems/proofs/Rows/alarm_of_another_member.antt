@@ -1,4 +1,4 @@
--- Made by scripts/make-row-theorems of the row alarm_of_another_member.
+-- Made by tools/make-row-theorems of the row alarm_of_another_member.
 use Rattle.std.proofs.Common.{List, [], ◌∷◌, refl}
 use Rattle.etcd_model.specs.Machine.{opening}
 use Rattle.etcd_model.specs.Alone.{Turn}

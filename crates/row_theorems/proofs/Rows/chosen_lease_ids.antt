@@ -1,4 +1,4 @@
--- Made by scripts/make-row-theorems of the row chosen_lease_ids.
+-- Made by tools/make-row-theorems of the row chosen_lease_ids.
 use Rattle.std.proofs.Common.{List, [], ◌∷◌, refl}
 use Rattle.etcd_model.specs.Machine.{opening}
 use Rattle.etcd_model.specs.Alone.{Turn}

@@ -1,4 +1,4 @@
--- Made by scripts/make-row-theorems of the row progress.
+-- Made by tools/make-row-theorems of the row progress.
 use Rattle.std.proofs.Common.{List, [], ◌∷◌, refl}
 use Rattle.etcd_model.specs.Machine.{opening}
 use Rattle.etcd_model.specs.Alone.{Turn}

@@ -1,4 +1,4 @@
--- Made by scripts/make-row-theorems of the row unknown_lease.
+-- Made by tools/make-row-theorems of the row unknown_lease.
 use Rattle.std.proofs.Common.{List, [], ◌∷◌, refl}
 use Rattle.etcd_model.specs.Machine.{opening}
 use Rattle.etcd_model.specs.Alone.{Turn}

@@ -17,7 +17,7 @@ use Rattle.key_index.proofs.visiting.take_out.Goals as goal
 pub revision-requires : goal.revision-requires
 revision-requires g c =
     let p = place_of c.args.cell c.args.order.now.items (omega (arith, c.requires.once)) in
-    subst (λ (x : ℕ). IsSome (g.R.Records.cells c.args.records.now x)) p.2 (c.requires.some p.0 0 p.1)
+    subst (λ (x : ℕ). IsSome (g.R.Records.cells c.args.records.now x)) p.2 (c.requires.ordered.some p.0 0 p.1)
 
 not_before_itself : (r : ℕ) → is_within (Before r) r ≡ false
 not_before_itself r = grind (arith, nat_tests)
@@ -28,10 +28,10 @@ loop-cell-init g c =
     let items = c.args.order.now.items in
     let test = has_within cells (Before c.revision.result) in
     let n = prefix_len test items in
-    let turns = turn test items (counts_end cells (Before c.revision.result) items c.requires.some c.requires.rises) in
+    let turns = turn test items (counts_end cells (Before c.revision.result) items c.requires.ordered.some c.requires.ordered.rises) in
     let at = c.search-place.ensures.turn n turns in
     let p = place_of c.args.cell items (omega (arith, c.requires.once)) in
-    let e = which (cells c.args.cell) (subst (λ (x : ℕ). IsSome (cells x)) p.2 (c.requires.some p.0 0 p.1)) in
+    let e = which (cells c.args.cell) (subst (λ (x : ℕ). IsSome (cells x)) p.2 (c.requires.ordered.some p.0 0 p.1)) in
     let revision : c.revision.result ≡ e.0.change.revision = at_linked _ (λ (x : Linked). c.revision.result ≡ x.change.revision) e.0 e.1 c.revision.ensures in
     let off : test (get_or items p.0 0) ≡ false = ap test p.2 ∙ within_is cells (Before c.revision.result) c.args.cell e.0 e.1 ∙ ap (is_within (Before c.revision.result)) (sym revision) ∙ not_before_itself c.revision.result in
     let from : n ≤ p.0 = elim (cases_lt p.0 n) [

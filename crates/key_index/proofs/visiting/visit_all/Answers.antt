@@ -8,9 +8,8 @@ use Rattle.key_index.proofs.visiting.visit_all.Goals as goal
 
 pub visiting-init : goal.visiting-init
 visiting-init g c = record {
-  index = c.requires.index;
-  chained = c.requires.chained;
-  visiting = visiting_none (g.R.Records.cells c.args.records.now) c.args.settled.now.items c.args.recent.now.items c.args.revision c.requires.all;
+  indexed = c.requires.indexed;
+  visiting = visiting_none (g.R.Records.cells c.args.records.now) c.args.settled.now.items c.args.recent.now.items c.args.revision c.requires.orders.all;
   place = c.start-place.ensures.position_is;
   place_is = c.start-place.ensures.item_is;
   capacity = refl;
@@ -19,13 +18,11 @@ visiting-init g c = record {
   rest = g.met.R.RecordsMut.stays _;
 }
 
-pub visit-requires-clause-some : goal.visit-requires-clause-some
-visit-requires-clause-some g c =
-    left_some _ _ _ _ _ _ _ c.requires.chained c.visiting.invariant.chained c.requires.all c.requires.rises c.requires.settled c.visiting.invariant.visiting
-
-pub visit-requires-clause-rises : goal.visit-requires-clause-rises
-visit-requires-clause-rises g c =
-    left_rises _ _ _ _ _ _ _ c.requires.chained c.visiting.invariant.chained c.requires.all c.requires.rises c.requires.settled c.visiting.invariant.visiting
+pub visit-requires-clause-ordered : goal.visit-requires-clause-ordered
+visit-requires-clause-ordered g c = record {
+  some = left_some _ _ _ _ _ _ _ c.requires.indexed.chained c.visiting.invariant.indexed.chained c.requires.orders.all c.requires.orders.rises c.requires.orders.settled c.visiting.invariant.visiting;
+  rises = left_rises _ _ _ _ _ _ _ c.requires.indexed.chained c.visiting.invariant.indexed.chained c.requires.orders.all c.requires.orders.rises c.requires.orders.settled c.visiting.invariant.visiting;
+}
 
 pub visit-requires-clause-once : goal.visit-requires-clause-once
 visit-requires-clause-once g c =
@@ -33,7 +30,7 @@ visit-requires-clause-once g c =
     let i = c.visiting._visited in
     let lt : i < length xs = omega (arith, c.visiting-test.true, c.requires.turns.in_range) in
     let is : get_or xs i 0 ≡ c.get-cell.result = sym (c.get-cell.ensures ∙ ap (λ (n : ℕ). get_or xs n c.get-cell.result) c.visiting.invariant.place ∙ get_or_default xs i c.get-cell.result 0 lt) in
-    linked_once _ _ _ _ _ _ _ c.requires.chained c.visiting.invariant.chained c.requires.all c.requires.rises c.requires.settled c.visiting.invariant.visiting lt c.get-cell.result is
+    linked_once _ _ _ _ _ _ _ c.requires.indexed.chained c.visiting.invariant.indexed.chained c.requires.orders.all c.requires.orders.rises c.requires.orders.settled c.visiting.invariant.visiting lt c.get-cell.result is
     (λ e at. low_through (g.R.Records.cells c.args.records.now) xs c.args.revision c.args.count c.requires.turns i e c.visiting-test.true at)
 
 pub visiting-preserved : goal.visiting-preserved
@@ -46,9 +43,8 @@ visiting-preserved g c =
     let lt : i < length xs = omega (arith, c.visiting-test.true, c.requires.turns.in_range) in
     let is : get_or xs i 0 ≡ c.get-cell.result = sym (c.get-cell.ensures ∙ ap (λ (n : ℕ). get_or xs n c.get-cell.result) c.visiting.invariant.place ∙ get_or_default xs i c.get-cell.result 0 lt) in
     record {
-      index = c.visit.ensures.index;
-      chained = c.visit.ensures.chained;
-      visiting = visited m now c.args.settled.now.items xs c.visiting.settled.items c.args.revision i c.requires.chained c.visiting.invariant.chained c.requires.all c.requires.rises c.requires.settled c.visiting.invariant.visiting lt c.get-cell.result is
+      indexed = c.visit.ensures.indexed;
+      visiting = visited m now c.args.settled.now.items xs c.visiting.settled.items c.args.revision i c.requires.indexed.chained c.visiting.invariant.indexed.chained c.requires.orders.all c.requires.orders.rises c.requires.orders.settled c.visiting.invariant.visiting lt c.get-cell.result is
           (λ e at. low_through m xs c.args.revision c.args.count c.requires.turns i e c.visiting-test.true at) new c.visit.new.settled.items c.visit.ensures.visits;
       place = omega (arith, c.next-place.ensures.position_is, c.visiting.invariant.place);
       place_is = λ more. c.next-place.ensures.item_is (omega (arith, more, c.visiting.invariant.place));
@@ -66,4 +62,4 @@ returns-clause-compacted g c =
     let cs = c.args.recent.now.items in
     let all : c.visiting._visited ≡ c.args.count = search rules in
     let done = subst (AreDone m now cs c.args.revision) all c.visiting.invariant.visiting.done in
-    all_passed m now st cs c.args.revision c.args.count c.requires.all c.requires.settled done (later_through m cs c.args.revision c.args.count c.requires.turns)
+    all_passed m now st cs c.args.revision c.args.count c.requires.orders.all c.requires.orders.settled done (later_through m cs c.args.revision c.args.count c.requires.turns)

@@ -1,8 +1,7 @@
 use Rattle.std.proofs.Common.{◌≡◌, ◌<◌, length}
 use Rattle.chunk_list.specs.Chunked.{HasItem, position_of}
-use Rattle.key_index.specs.Links.{IsChained}
-use Rattle.key_index.specs.Index.{IsIndexOf}
 use Rattle.key_index.specs.Compaction.{GivesBack}
+use Rattle.key_index.specs.Visiting.{IsIndexed}
 use Rattle.key_index.proofs.Visits.{IsVisiting}
 use Rattle.key_index.proofs.visiting.visit_all.Given as goal
 
@@ -10,8 +9,7 @@ abbrev pub invariant-visiting : goal.invariant-visiting
 invariant-visiting g l =
     let cells = g.R.Records.cells in
     record {
-      index : IsIndexOf (cells l.records) l.index.live l.index.dead;
-      chained : IsChained (cells l.records);
+      indexed : IsIndexed (cells l.records) l.index;
       visiting : IsVisiting (cells l.fn.records) (cells l.records) l.fn.settled.items l.recent.items l.settled.items l.revision l._visited;
       place : position_of l.recent.sizes l.place ≡ l._visited;
       place_is : l._visited < length l.recent.items → HasItem l.recent.sizes l.place;

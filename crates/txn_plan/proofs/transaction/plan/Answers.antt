@@ -14,4 +14,4 @@ returns-clause-planned c =
     let hold = c.all_hold-succeeded.ensures ∙ ap (all_hold (reads c.args.store.now)) c.as_slice.ensures in
     let revision : c.current.result ≡ (pending_reads c.in_ok-pending.field-0.pending).current = cc in
     let short : c.current.result < 2 ^ 63 = omega arith in
-    rw c.adds_any.ensures (is_planned c.args.store.now c.args.request.now c.all_hold-succeeded.result hold c.branch-ops.result.now c.branch-ops.ensures c.finish.result c.in_ok-pending.field-0.pending c.in_ok-pending.field-0.replies c.current.result c.finish.ensures.plan c.finish.ensures.changes c.in_ok-pending.ensures.changes c.in_ok-pending.ensures.replies revision short)
+    rw c.any_adds.ensures (is_planned c.args.store.now c.args.request.now c.all_hold-succeeded.result hold c.branch-ops.result.now c.branch-ops.ensures c.finish.result c.in_ok-pending.field-0.pending c.in_ok-pending.field-0.replies c.current.result c.finish.ensures.plan c.finish.ensures.changes c.in_ok-pending.ensures.changes c.in_ok-pending.ensures.replies revision short)

@@ -10,4 +10,4 @@ pub row-requires : goal.row-requires
 row-requires c = has_row c.args.store.now c.args.cell c.requires.kept c.requires.put
 
 pub returns : goal.returns
-returns c = told_put c.args.store.now c.args.watch.now c.args.cell _ _ c.current.ensures.sound.kept.rises c.current.ensures.sound.apart c.requires.kept c.in_ok-kv.ensures c.in_ok-prev_kv.ensures
+returns c = told_put c.args.store.now c.args.watch.now c.args.cell _ _ c.use_invariant.ensures.kept.rises c.use_invariant.ensures.apart c.requires.kept c.in_ok-kv.ensures c.in_ok-prev_kv.ensures

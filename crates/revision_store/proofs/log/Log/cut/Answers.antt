@@ -20,7 +20,7 @@ cut-requires-clause-room g c =
 
 pub returns-clause-changes : goal.returns-clause-changes
 returns-clause-changes g c =
-    rw (← c.self.view_is) (ap (changes_in (cells_of c.cut.new.region.records)) c.cut.ensures.order ∙ kept_in_order (cells_of c.self.inside.region.records) (cells_of c.cut.new.region.records) c.args.revision c.self.invariant.chained c.cut.ensures.compacted (c.self.inside.settled.items ++ c.self.inside.recent.items) c.self.invariant.all c.self.invariant.rises)
+    rw (← c.self.view_is) (ap (changes_in (cells_of c.cut.new.region.records)) c.cut.ensures.left.order ∙ kept_in_order (cells_of c.self.inside.region.records) (cells_of c.cut.new.region.records) c.args.revision c.self.invariant.chained c.cut.ensures.compacted (c.self.inside.settled.items ++ c.self.inside.recent.items) c.self.invariant.all c.self.invariant.rises)
 
 pub returns-clause-cells : goal.returns-clause-cells
 returns-clause-cells g c = rw (← c.self.view_is) c.cut.ensures.compacted
@@ -31,30 +31,30 @@ returns-clause-rows g c =
 
 pub returns-clause-free : goal.returns-clause-free
 returns-clause-free g c =
-    let seen = ap (λ (xs : List ℕ). record_cells (changes_in (cells_of c.cut.new.region.records) xs)) c.cut.ensures.order in
+    let seen = ap (λ (xs : List ℕ). record_cells (changes_in (cells_of c.cut.new.region.records) xs)) c.cut.ensures.left.order in
     let free = free_left (λ x. cost (change_of x)) (cells_of c.self.inside.region.records) (cells_of c.cut.new.region.records) _ _ (c.self.inside.settled.items ++ c.self.inside.recent.items) c.cut.ensures.free c.self.invariant.all in
     rw (← c.self.view_is) (omega (arith, free, seen))
 
 pub invariant_of-self : goal.invariant_of-self
 invariant_of-self g c =
     let order = c.self.inside.settled.items ++ c.self.inside.recent.items in
-    let left = c.cut.ensures.order in
+    let left = c.cut.ensures.left.order in
     let old = cells_of c.self.inside.region.records in
     let new = cells_of c.cut.new.region.records in
     let free = free_left (λ x. cost (change_of x)) old new c.self.inside.region.free c.cut.new.region.free order c.cut.ensures.free c.self.invariant.all in
     let seen = ap (λ (xs : List ℕ). record_cells (changes_in new xs)) left in
     record {
-      index = c.cut.ensures.index;
-      chained = c.cut.ensures.chained;
+      index = c.cut.ensures.indexed.index;
+      chained = c.cut.ensures.indexed.chained;
       plain = c.cut.ensures.plain;
       all = subst (AreAll new) (sym left) (all_left old new c.args.revision c.cut.ensures.compacted order c.self.invariant.all);
       rises = subst (IsInOrder new) (sym left) (in_order_left old new c.args.revision c.self.invariant.chained c.cut.ensures.compacted order c.self.invariant.all c.self.invariant.rises);
-      settled = c.cut.ensures.settled;
+      settled = c.cut.ensures.left.settled;
       leases = counted_alike _ _ _ c.cut.ensures.rest.leases c.self.invariant.leases;
       space = omega (arith, free, seen, c.self.invariant.space, c.cut.ensures.rest.settles.reserved);
       most = omega (arith, c.self.invariant.most, c.cut.ensures.rest.settles.rooms);
       reserved = omega (arith, c.self.invariant.reserved, c.cut.ensures.rest.settles.reserved, c.cut.ensures.rest.settles.rooms);
       index_capacity = omega (arith, c.self.invariant.index_capacity, c.cut.ensures.rest.settles.rooms, c.cut.ensures.capacity);
-      settled_capacity = omega (arith, c.self.invariant.settled_capacity, c.cut.ensures.rest.settles.rooms, c.cut.ensures.settled_room);
-      recent_capacity = omega (arith, c.self.invariant.recent_capacity, c.cut.ensures.rest.settles.rooms, c.cut.ensures.recent_room);
+      settled_capacity = omega (arith, c.self.invariant.settled_capacity, c.cut.ensures.rest.settles.rooms, c.cut.ensures.left.settled_room);
+      recent_capacity = omega (arith, c.self.invariant.recent_capacity, c.cut.ensures.rest.settles.rooms, c.cut.ensures.left.recent_room);
     }

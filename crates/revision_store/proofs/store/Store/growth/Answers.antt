@@ -10,7 +10,7 @@ loop-write-preserved c =
 pub returns-clause-exact : goal.returns-clause-exact
 returns-clause-exact c =
     let all = grown_at_end c.writes-write-items.result.now c.args.plan.now c.loop-write.write-index c.writes-write-items.ensures c.loop-write-test.false in
-    omega (arith, all, c.loop-write.invariant, grown c.args.self.now c.args.plan.now c.keep_sound.ensures c.requires)
+    omega (arith, all, c.loop-write.invariant, grown c.args.self.now c.args.plan.now c.use_invariant.ensures c.requires)
 
 pub returns-clause-grows : goal.returns-clause-grows
-returns-clause-grows c = omega (arith, grown c.args.self.now c.args.plan.now c.keep_sound.ensures c.requires)
+returns-clause-grows c = omega (arith, grown c.args.self.now c.args.plan.now c.use_invariant.ensures c.requires)

@@ -27,7 +27,7 @@ range_reply-requires-clause-ascend c =
     let changes = ap (λ (s : StoreState). s.kept.changes) c.self.view_is in
     let found = filter_map-is (row_at cells) c.in_ok-cells.cells.items _ (sym c.in_ok-cells.ensures) in
     subst (IsStrictlySortedBy by_key) (ap (rows (is_in c.as_slice-key.result.now c.as_slice-range_end.result.now) c.revision_read-revision.result) (sym changes) ∙ found)
-    (rows_rise c.args.self.now.kept.changes c.keep_sound.ensures.kept.own c.revision_read-revision.result (is_in c.as_slice-key.result.now c.as_slice-range_end.result.now))
+    (rows_rise c.args.self.now.kept.changes c.use_invariant.ensures.kept.own c.revision_read-revision.result (is_in c.as_slice-key.result.now c.as_slice-range_end.result.now))
 
 pub returns : goal.returns
 returns c =
@@ -58,7 +58,7 @@ walked_reply-requires-clause-ascend c =
     let changes = ap (λ (s : StoreState). s.kept.changes) c.self.view_is in
     let found = filter_map-is (row_at cells) c.newest_cells-cells.result _ (sym (c.newest_cells-cells.ensures c.self.inside.current c.self.invariant.up)) in
     subst (IsStrictlySortedBy by_key) (ap (rows (is_in c.as_slice-key.result.now c.as_slice-range_end.result.now) c.self.inside.current) (sym changes) ∙ found)
-    (rows_rise c.args.self.now.kept.changes c.keep_sound.ensures.kept.own c.self.inside.current (is_in c.as_slice-key.result.now c.as_slice-range_end.result.now))
+    (rows_rise c.args.self.now.kept.changes c.use_invariant.ensures.kept.own c.self.inside.current (is_in c.as_slice-key.result.now c.as_slice-range_end.result.now))
 
 pub returns-then-revision-current : goal.returns-then-revision-current
 returns-then-revision-current c =

@@ -19,7 +19,7 @@ delete_keys-requires-clause-fits g c =
     let has = subst (λ (m : MachineState). has_lease m.leases.leases c.args.id ≡ true) (sym c.self.view_is) c.requires.has in
     let book = c.self.inside.leases in
     subst (λ (id : ℤ). CanCommit c.self.inside.store (head_deletes (heads_of book.attachments id))) (sym bits)
-    (ends_can_commit c.self.inside.store book c.self.inside.moment c.self.inside.quota c.args.id c.self.invariant.0 c.current.ensures.sound c.len.ensures.ascend has)
+    (ends_can_commit c.self.inside.store book c.self.inside.moment c.self.inside.quota c.args.id c.self.invariant.0 c.use_invariant.ensures c.use_invariant-2.ensures has)
 
 pub release_lease-requires-clause-lease : goal.release_lease-requires-clause-lease
 release_lease-requires-clause-lease g c =
@@ -27,7 +27,7 @@ release_lease-requires-clause-lease g c =
     let bits : id ≡ c.args.id = search rules in
     let book = c.self.inside.leases in
     let has = subst (λ (z : ℤ). has_lease book.leases z ≡ true) (sym bits) (subst (λ (m : MachineState). has_lease m.leases.leases c.args.id ≡ true) (sym c.self.view_is) c.requires.has) in
-    its_record c.self.inside.store book c.self.inside.moment c.self.inside.quota id c.self.invariant.0 c.current.ensures.sound c.len.ensures.ascend has c.delete_keys.new.store c.delete_keys.ensures.commits c.end-cell.result c.end-cell.ensures.value
+    its_record c.self.inside.store book c.self.inside.moment c.self.inside.quota id c.self.invariant.0 c.use_invariant.ensures c.use_invariant-2.ensures has c.delete_keys.new.store c.delete_keys.ensures.commits c.end-cell.result c.end-cell.ensures.value
 
 pub invariant_of-self : goal.invariant_of-self
 invariant_of-self g c =
@@ -37,7 +37,7 @@ invariant_of-self g c =
     let has = subst (λ (z : ℤ). has_lease book.leases z ≡ true) (sym bits) (subst (λ (m : MachineState). has_lease m.leases.leases c.args.id ≡ true) (sym c.self.view_is) c.requires.has) in
     let released = c.release_lease.ensures in
     let ended = c.end-cell.ensures in (
-      ended_machine c.self.inside.store book c.self.inside.moment c.self.inside.quota id c.self.invariant.0 c.current.ensures.sound c.len.ensures.ascend has c.delete_keys.new.store c.delete_keys.ensures.commits c.end-cell.result ended.value
+      ended_machine c.self.inside.store book c.self.inside.moment c.self.inside.quota id c.self.invariant.0 c.use_invariant.ensures c.use_invariant-2.ensures has c.delete_keys.new.store c.delete_keys.ensures.commits c.end-cell.result ended.value
           c.release_lease.new.self c.end-cell.new.self released.kept released.cells released.leases released.lease_cells (released.settles.reserved ∙ c.delete_keys.ensures.settles.reserved) (released.settles.rooms ∙ c.delete_keys.ensures.settles.rooms)
           ended.leases ended.cells ended.counter ended.room ended.attachments,
       all_as_before c.delete_keys.new.store c.release_lease.new.self c.note.new.self released.kept released.cells
@@ -52,7 +52,7 @@ returns-clause-tenant g c =
     let m = machine_of c.self.inside.cluster c.self.inside.store book c.self.inside.watchers c.self.inside.moment c.self.inside.quota in
     let has = subst (λ (z : ℤ). has_lease book.leases z ≡ true) (sym bits) (subst (λ (m : MachineState). has_lease m.leases.leases c.args.id ≡ true) (sym c.self.view_is) c.requires.has) in
     let kept = c.release_lease.ensures.kept
-    ∙ kept_finished c.self.inside.store book c.self.inside.moment c.self.inside.quota id c.self.invariant.0 c.current.ensures.sound c.len.ensures.ascend has c.delete_keys.new.store c.delete_keys.ensures.commits in
+    ∙ kept_finished c.self.inside.store book c.self.inside.moment c.self.inside.quota id c.self.invariant.0 c.use_invariant.ensures c.use_invariant-2.ensures has c.delete_keys.new.store c.delete_keys.ensures.commits in
     let done : record {
       cluster = c.self.inside.cluster;
       quota = c.self.inside.quota.cells;

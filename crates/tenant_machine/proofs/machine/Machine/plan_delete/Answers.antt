@@ -5,7 +5,7 @@ use Rattle.tenant_machine.proofs.machine.Machine.plan_delete.Goals as goal
 
 pub writing-requires-clause-used : goal.writing-requires-clause-used
 writing-requires-clause-used c =
-    rw (← c.self.view_is) (c.self.invariant.0.used ∙ ap (λ n. n + length c.self.inside.leases.leases) (delete_keeps c.self.inside.store c.args.request.now c.in_ok-plan.field-0.plan c.current.ensures.sound.kept c.in_ok-plan.ensures.plan))
+    rw (← c.self.view_is) (c.self.invariant.0.used ∙ ap (λ n. n + length c.self.inside.leases.leases) (delete_keeps c.self.inside.store c.args.request.now c.in_ok-plan.field-0.plan c.use_invariant.ensures.kept c.in_ok-plan.ensures.plan))
 
 pub returns-clause-does : goal.returns-clause-does
 returns-clause-does c =

@@ -21,7 +21,7 @@ transaction-requires-clause-writes c = λ some. c.requires.revisions (changing_w
 
 pub transaction-requires-clause-keeps : goal.transaction-requires-clause-keeps
 transaction-requires-clause-keeps c = λ none.
-    let sound : IsStore c.args.self.now.store.kept = subst (λ (m : MachineState). IsStore m.store.kept) c.self.view_is c.current.ensures.sound.kept in
+    let sound : IsStore c.args.self.now.store.kept = subst (λ (m : MachineState). IsStore m.store.kept) c.self.view_is c.use_invariant.ensures.kept in
     without_put_keeps c.args.self.now.store c.args.request.now c.in-Ok.planned (planned_here c) sound none
 
 pub returns-clause-does : goal.returns-clause-does

@@ -16,25 +16,25 @@ loop-place-preserved c = record {
 
 pub returns-clause-notes : goal.returns-clause-notes
 returns-clause-notes c =
-    gathered_notes c.args.self.now c.args.store.now c.behind.result c.scan.new.found c.current.ensures.sound.kept c.requires.whole c.requires.agrees
+    gathered_notes c.args.self.now c.args.store.now c.behind.result c.scan.new.found c.use_invariant.ensures.kept c.requires.whole c.requires.agrees
     c.behind.ensures
     (gathers_on c.args.self.now.ring (notes_at (cells c.args.store.now) c.args.self.now.watch c.behind.result) c.loop-place.found c.scan.new.found (ring_end c.args.self.now.ring c.loop-place.place c.loop-place.found _ (omega arith) c.loop-place.invariant.rest) c.in_ok-scan.ensures)
 
 pub returns-clause-next : goal.returns-clause-next
 returns-clause-next c =
-    gathered_next c.args.self.now c.args.store.now c.behind.result c.scan.new.found c.current.ensures.sound.kept c.requires.whole c.requires.agrees
+    gathered_next c.args.self.now c.args.store.now c.behind.result c.scan.new.found c.use_invariant.ensures.kept c.requires.whole c.requires.agrees
     c.behind.ensures
     (gathers_on c.args.self.now.ring (notes_at (cells c.args.store.now) c.args.self.now.watch c.behind.result) c.loop-place.found c.scan.new.found (ring_end c.args.self.now.ring c.loop-place.place c.loop-place.found _ (omega arith) c.loop-place.invariant.rest) c.in_ok-scan.ensures)
 
 pub returns-clause-later : goal.returns-clause-later
 returns-clause-later c =
-    gathered_later c.args.self.now c.args.store.now c.behind.result c.scan.new.found c.current.ensures.sound.kept c.requires.whole c.requires.agrees
+    gathered_later c.args.self.now c.args.store.now c.behind.result c.scan.new.found c.use_invariant.ensures.kept c.requires.whole c.requires.agrees
     c.behind.ensures
     (gathers_on c.args.self.now.ring (notes_at (cells c.args.store.now) c.args.self.now.watch c.behind.result) c.loop-place.found c.scan.new.found (ring_end c.args.self.now.ring c.loop-place.place c.loop-place.found _ (omega arith) c.loop-place.invariant.rest) c.in_ok-scan.ensures)
 
 pub returns-clause-last : goal.returns-clause-last
 returns-clause-last c =
-    gathered_last c.args.self.now c.args.store.now c.behind.result c.scan.new.found c.current.ensures.sound.kept c.requires.whole c.requires.agrees
+    gathered_last c.args.self.now c.args.store.now c.behind.result c.scan.new.found c.use_invariant.ensures.kept c.requires.whole c.requires.agrees
     c.behind.ensures
     (gathers_on c.args.self.now.ring (notes_at (cells c.args.store.now) c.args.self.now.watch c.behind.result) c.loop-place.found c.scan.new.found (ring_end c.args.self.now.ring c.loop-place.place c.loop-place.found _ (omega arith) c.loop-place.invariant.rest) c.in_ok-scan.ensures)
 

@@ -12,7 +12,7 @@ overflow_sub-count c =
     let all = c.since-changes.ensures ∙ ap (λ r. map Some (since r s.kept.changes)) c.position.ensures in
     let later = c.since-later.ensures ∙ ap (λ r. map Some (since r s.kept.changes)) c.reached-to.ensures in
     let to = reached_within s c.args.self.now.position c.since-changes.result c.requires.behind all in
-    omega (arith, no_fewer s c.args.self.now.position (reached s c.since-changes.result) c.since-changes.result c.since-later.result c.current.ensures.sound.kept (omega (arith, to.0)) all later, c.len.ensures, c.len-2.ensures)
+    omega (arith, no_fewer s c.args.self.now.position (reached s c.since-changes.result) c.since-changes.result c.since-later.result c.use_invariant.ensures.kept (omega (arith, to.0)) all later, c.len.ensures, c.len-2.ensures)
 
 pub pass-requires-clause-stretch : goal.pass-requires-clause-stretch
 pass-requires-clause-stretch c =
@@ -23,7 +23,7 @@ pass-requires-clause-stretch c =
     let count = c.len.result - c.len-2.result in
     subst (λ (r : ℕ). IsStretch s c.args.self.now.position r c.first.result) (sym c.reached-to.ensures)
     (subst (IsStretch s c.args.self.now.position (reached s c.since-changes.result)) (sym c.first.ensures)
-    (first_stretch s c.args.self.now.position (reached s c.since-changes.result) count c.since-changes.result c.since-later.result c.current.ensures.sound.kept (omega (arith, to.0)) to.1 all later (omega (arith, c.len.ensures, c.len-2.ensures))))
+    (first_stretch s c.args.self.now.position (reached s c.since-changes.result) count c.since-changes.result c.since-later.result c.use_invariant.ensures.kept (omega (arith, to.0)) to.1 all later (omega (arith, c.len.ensures, c.len-2.ensures))))
 
 pub reached-to-requires : goal.reached-to-requires
 reached-to-requires c =

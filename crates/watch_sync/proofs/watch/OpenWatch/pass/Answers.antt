@@ -11,5 +11,5 @@ returns-then-not-take_up-clause-agrees c = λ agrees. subst (λ (w : WatchState)
 
 pub returns-clause-agrees : goal.returns-clause-agrees
 returns-clause-agrees c = λ agrees.
-    passes_on c.args.self.now c.take_up.new.self c.move_to.new.self c.args.store.now c.args.changes.now c.args.to c.current.ensures.sound.kept c.requires.whole c.requires.stretch
+    passes_on c.args.self.now c.take_up.new.self c.move_to.new.self c.args.store.now c.args.changes.now c.args.to c.use_invariant.ensures.kept c.requires.whole c.requires.stretch
     (c.take_up.ensures.all c.if-not-take_up.false) c.move_to.ensures agrees
