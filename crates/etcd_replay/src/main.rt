@@ -4,17 +4,19 @@
 //! and 4 where a line or the pool can't be held; the reason stands on standard error.
 #![tactic(auto)]
 
-use script_replay::{ReplayFault, run};
-use std::io::{self, BufReader, BufWriter, Write};
+use script_replay::{AnswerWriter, ReplayFault, ScriptReader, run};
+use std::io::{self, BufReader, BufWriter};
 use std::process::ExitCode;
 
 fn main(rt: HostRuntime) -> ExitCode {
-    let Ok(mut reader) = BufReader::new(rt.alloc(), rt.reader()) else {
+    let Ok(reader) = BufReader::new(rt.alloc(), rt.reader()) else {
         return report(&rt, ReplayFault::Memory);
     };
-    let Ok(mut writer) = BufWriter::new(rt.alloc(), io::writer(&rt)) else {
+    let Ok(writer) = BufWriter::new(rt.alloc(), io::writer(&rt)) else {
         return report(&rt, ReplayFault::Memory);
     };
+    let mut reader = ScriptReader::new(reader);
+    let mut writer = AnswerWriter::new(writer);
     let result = run(rt.alloc(), &mut reader, &mut writer);
     // What was answered is written, also before a fault.
     if writer.flush().is_err() {

@@ -7,3 +7,4 @@ pub mod Fronts
 pub mod Written
 pub mod Going
 pub mod Faults
+pub mod Failing

@@ -1,12 +1,14 @@
 //! Answers a script's lines in turn.
-ghost use Rattle.std.specs.Prelude.{◌≡◌, None};
+ghost use Rattle.std.specs.Prelude.{◌≡◌, IfErr, None};
+ghost use Rattle.script_replay.specs.Failing.{MarksNone, TellsWhy};
 ghost use Rattle.script_replay.specs.Written.{Replays};
 
 use crate::answer::write_answer;
 use crate::fault::ReplayFault;
-use crate::lines::{Lines, TakenLine, without_newline};
+use crate::lines::{ScriptReader, TakenLine, without_newline};
 use crate::replay::Replay;
 use crate::script::read_line;
+use crate::writer::AnswerWriter;
 use std::alloc::Global;
 use std::io::{BufRead, Write};
 
@@ -17,33 +19,43 @@ use std::io::{BufRead, Write};
 /// to the caller. Where the reader or the writer failed, what was written is a front of the answers.
 ///
 /// It ends early at the first line that can't be read, at a fault of the reader or the writer, after
-/// 4,294,967,295 lines, and where a line or the pool can't be held.
+/// 4,294,967,295 lines, and where a line or the pool can't be held. Input or output is told only if the reader or the
+/// writer has failed by then, or after so many lines.
 pub fn run<R: BufRead, W: Write>(
     alloc: Global,
-    reader: &mut R,
-    writer: &mut W,
+    reader: &mut ScriptReader<R>,
+    writer: &mut AnswerWriter<W>,
 ) -> Result<(), ReplayFault>
-    ensures { Replays (R.remaining reader.old) (W.contents writer.old) (W.contents writer.new) result }
+    ensures answers { Replays (R.remaining reader.old.stream) (W.contents writer.old.stream)
+        (W.contents writer.new.stream) result }
+    ensures failed { IfErr result (λ fault. fault ≡ ReplayFault.Io
+        → TellsWhy (R.remaining reader.old.stream) reader.new.failed writer.new.failed reader.new.lines) }
+    ensures reader { MarksNone reader.old.failed reader.new.failed result }
+    ensures writer { MarksNone writer.old.failed writer.new.failed result }
 {
     let mut replay = Replay::new();
-    let mut lines = Lines::new(reader);
     let mut text = Vec::new(alloc);
-    run_lines(alloc, &mut lines, writer, &mut replay, &mut text)
+    run_lines(alloc, reader, writer, &mut replay, &mut text)
 }
 
 /// The same with a replay that has no host yet, and with the memory for a line.
 fn run_lines<R: BufRead, W: Write>(
     alloc: Global,
-    lines: &mut Lines<R>,
-    writer: &mut W,
+    reader: &mut ScriptReader<R>,
+    writer: &mut AnswerWriter<W>,
     replay: &mut Replay,
     text: &mut Vec<u8>,
 ) -> Result<(), ReplayFault>
     requires { replay.old.front ≡ None }
-    ensures { Replays (R.remaining lines.old.reader) (W.contents writer.old) (W.contents writer.new) result }
+    ensures answers { Replays (R.remaining reader.old.stream) (W.contents writer.old.stream)
+        (W.contents writer.new.stream) result }
+    ensures failed { IfErr result (λ fault. fault ≡ ReplayFault.Io
+        → TellsWhy (R.remaining reader.old.stream) reader.new.failed writer.new.failed reader.new.lines) }
+    ensures reader { MarksNone reader.old.failed reader.new.failed result }
+    ensures writer { MarksNone writer.old.failed writer.new.failed result }
 {
     for n in 0..u32::MAX {
-        if let TakenLine::TooLong = lines.take_line(writer, text)? {
+        if let TakenLine::TooLong = reader.take_line(writer, text)? {
             return Err(ReplayFault::Line(n + 1));
         }
         if text.is_empty() {

@@ -2,3 +2,4 @@
 mod host;
 mod machine;
 mod replay;
+mod streams;

@@ -1,4 +1,4 @@
-//! The rows, over each source of segments. Over the host's pool they are asked of the program, by `scripts/check-rows`,
+//! The rows, over each source of segments. Over the host's pool they are asked of the program, by `tools/check-rows`,
 //! and so are scripts by chance.
 mod single;
 

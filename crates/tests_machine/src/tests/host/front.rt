@@ -2,7 +2,7 @@
 use etcd_types::Mem;
 use etcd_types::limits::{DEFAULT_SEGMENTS, MAX_SEGMENTS};
 use host_front::{Answer, Front, HostEvent, HostLine, LentEvent, LentLine, LineAnswer};
-use script_replay::{Asked, read_line, write_answer};
+use script_replay::{AnswerWriter, Asked, read_line, write_answer};
 use std::alloc::Global;
 use std::mem;
 use std::process::Abort;
@@ -115,7 +115,7 @@ fn call_of(alloc: Global, method: &[u8], target: &[u8], body: &[u8]) -> Mem<Host
 
 /// Adds the line of an answer.
 fn tell(rt: &impl Abort, told: &mut Vec<u8>, answer: &LineAnswer) {
-    let written = write_answer(told, answer);
+    let written = write_answer(&mut AnswerWriter::new(told), answer);
     assert!(rt; written.is_ok());
 }
 

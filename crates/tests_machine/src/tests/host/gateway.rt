@@ -1,5 +1,5 @@
 //! Each letter of base64, the refusal for want of memory, and the room that the widest replies are given.
-//! The bodies of requests, and the texts of the other replies, are asked by `scripts/check-steps` and by the rows.
+//! The bodies of requests, and the texts of the other replies, are asked by `tools/check-steps` and by the rows.
 //!
 //! A reply is moved into the function that asserts its text: a way out of a test that drops replies is long to prove.
 use etcd_types::{Event, EventKind, Header, KeyValue, List, Mem, OpReply, Refusal, Reply};

@@ -1,5 +1,5 @@
 //! What is asked of a new tenant, with the watches that are hinted at after each step. They are plain values: a
-//! function that holds many steps is long to prove. What steps are answered is asked by `scripts/check-steps`.
+//! function that holds many steps is long to prove. What steps are answered is asked by `tools/check-steps`.
 
 /// What is asked, and the slots whose takes may not be quiet after it, each with a space behind it.
 pub(super) type Line = (Ask, &'static str);

@@ -1,7 +1,7 @@
-use Rattle.std.proofs.Common.{ap, arith, Ok}
+use Rattle.std.proofs.Common.{◌∙◌, ap, arith, Ok}
 use Rattle.std.proofs.KnownBytes.{Keeps-trans}
 use Rattle.script_replay.proofs.LineLemmas.{front_more, line_whole, rest_whole, too_long}
-use Rattle.script_replay.proofs.lines.Lines.take_line.Goals as goal
+use Rattle.script_replay.proofs.lines.ScriptReader.take_line.Goals as goal
 
 pub returns-then-len-gt-MAX_SCRIPT_LINE-clause-long : goal.returns-then-len-gt-MAX_SCRIPT_LINE-clause-long
 returns-then-len-gt-MAX_SCRIPT_LINE-clause-long g c = λ _.
@@ -13,6 +13,9 @@ loop-preserved g c =
       front = front_more _ _ _ _ _ c.loop.invariant.front some.appends (some.plain (ap Ok c.if-branch.false)) some.bytes;
       kept = Keeps-trans _ _ _ c.loop.invariant.kept some.written;
       held = omega (arith, some.most, c.len.ensures, c.if-len-gt-MAX_SCRIPT_LINE.false);
+      unmarked = some.unmarked ∙ c.loop.invariant.unmarked;
+      count = some.count ∙ c.loop.invariant.count;
+      answers_unmarked = some.answers_unmarked ∙ c.loop.invariant.answers_unmarked;
     }
 
 pub returns-then-branch-clause-line : goal.returns-then-branch-clause-line
