@@ -26,8 +26,9 @@ MayGo (Revisions n) notes moment current at = at +ℤ pos n ≡ current
 abbrev pub max_notes : ℕ
 max_notes = 7201
 
--- an order that was not carried out yet, with room for its notes
-pub record IsNew (retention : Retention) (order : StandingOrder) : Type 0 where
+-- an order of a tenant that was not carried out yet, with room for its notes
+pub record IsNew (tenant : ℕ) (retention : Retention) (order : StandingOrder) : Type 0 where
+  pub whose : order.tenant ≡ tenant
   pub told : order.retention ≡ retention
   pub notes : order.notes.items ≡ []
   pub room : deque_capacity order.notes ≤ max_notes

@@ -44,16 +44,24 @@ impl Note {
     }
 }
 
-/// A revision that a tenant's standing order lets go. Orders alone tell one.
-#[derive(Clone, Copy, Drop)]
+/// A revision that a tenant's standing order lets go. Orders alone tell one, of their own tenants, and it is used once.
+#[derive(Drop)]
 pub struct DueRevision {
+    tenant: u64,
     revision: i64,
 }
 
 impl DueRevision {
+    /// The number of the tenant.
+    pub fn tenant(&self) -> u64
+        ensures { result ≡ self.now.tenant }
+    {
+        self.tenant
+    }
+
     /// The revision before which the history goes.
-    pub fn revision(self) -> i64
-        ensures { result ≡ self.revision }
+    pub fn revision(&self) -> i64
+        ensures { result ≡ self.now.revision }
     {
         self.revision
     }
@@ -61,6 +69,8 @@ impl DueRevision {
 
 /// A tenant's standing order, and how far it was carried out.
 pub struct StandingOrder {
+    /// The number of the tenant.
+    tenant: u64,
     retention: Retention,
     /// The moment from which on the revision is to be looked at again.
     next: u64,
@@ -75,6 +85,7 @@ pub struct StandingOrder {
 impl Drop for StandingOrder {
     fn drop(self) {
         let StandingOrder {
+            tenant: _,
             retention: _,
             next: _,
             compacts: _,
@@ -85,11 +96,12 @@ impl Drop for StandingOrder {
 }
 
 impl StandingOrder {
-    /// An order that is carried out from when a tenant has it. It is an error where there is no memory.
-    pub fn new(alloc: Global, retention: Retention) -> Mem<StandingOrder>
-        ensures { IfOk result (IsNew retention) }
+    /// An order that is carried out from when the tenant of that number has it. It is an error where there is no memory.
+    pub fn new(alloc: Global, tenant: u64, retention: Retention) -> Mem<StandingOrder>
+        ensures { IfOk result (IsNew tenant retention) }
     {
         Ok(StandingOrder {
+            tenant,
             retention,
             next: 0,
             compacts: 0,
@@ -110,7 +122,9 @@ impl StandingOrder {
     pub fn look(&mut self, moment: u64, revision: i64) -> Option<DueRevision>
         ensures spares { IfSome result
             (λ due. MayGo self.new.retention self.new.notes.items moment revision due.revision) }
+        ensures whose { IfSome result (λ due. due.tenant ≡ self.old.tenant) }
         ensures stays { self.new.retention ≡ self.old.retention }
+        ensures tenant { self.new.tenant ≡ self.old.tenant }
     {
         let due = match self.retention {
             Retention::All => None,
@@ -118,7 +132,10 @@ impl StandingOrder {
             Retention::Revisions(count) => self.look_at_count(moment, revision, count),
         };
         match due {
-            Some(revision) => Some(DueRevision { revision }),
+            Some(revision) => Some(DueRevision {
+                tenant: self.tenant,
+                revision,
+            }),
             None => None,
         }
     }
@@ -126,6 +143,7 @@ impl StandingOrder {
     fn look_at_time(&mut self, moment: u64, revision: i64, seconds: u64) -> Option<i64>
         ensures oldest { IfSome result (λ at. HoldsAt (IsNotedAs seconds moment at) self.new.notes.items 0) }
         ensures order { self.new.retention ≡ self.old.retention }
+        ensures whose { self.new.tenant ≡ self.old.tenant }
     {
         self.next = moment.saturating_add(step_of(seconds));
         keep(&mut self.notes, Note { moment, revision }, seconds);
@@ -152,6 +170,7 @@ impl StandingOrder {
     fn look_at_count(&mut self, moment: u64, revision: i64, count: u64) -> Option<i64>
         ensures counted { IfSome result (λ at. at +ℤ pos count ≡ revision) }
         ensures order { self.new.retention ≡ self.old.retention }
+        ensures whose { self.new.tenant ≡ self.old.tenant }
     {
         self.next = moment.saturating_add(SECONDS_A_COUNT);
         let count = i64::try_from(count).ok()?;
@@ -165,6 +184,7 @@ impl StandingOrder {
     fn changed(&mut self, revision: i64) -> Option<i64>
         ensures told { IfSome result (λ at. at ≡ revision) }
         ensures order { self.new.retention ≡ self.old.retention }
+        ensures whose { self.new.tenant ≡ self.old.tenant }
         ensures notes { self.new.notes ≡ self.old.notes }
     {
         if revision <= 0 || revision == self.last {
@@ -177,6 +197,7 @@ impl StandingOrder {
     /// The compaction that was due could not be made: it is due again the next time.
     pub fn put_off(&mut self)
         ensures stays { self.new.retention ≡ self.old.retention }
+        ensures tenant { self.new.tenant ≡ self.old.tenant }
         ensures notes { self.new.notes ≡ self.old.notes }
     {
         self.compacts = 0;

@@ -74,13 +74,13 @@ module _ {A : Type 0} (number : ℕ) (t : List ℕ) (es : List (Vec ℕ A × Tal
       }
 
   pub missed_set : (s : SeatState) (fs : List (Vec ℕ A × TallyState)) (v w : TallyState) → seat_of number es ≡ s → Some v ≡ lookup (test t) es → fs ≡ set_value (test t) es w
-      → w.calls ≡ v.calls → w.missed ≡ min (v.missed + 1) (2 ^ 32 - 1) → AddsMissed t s (seat_of number fs)
+      → w.calls ≡ v.calls → w.missed ≡ min (v.missed + 1) (2 ^ 64 - 1) → AddsMissed t s (seat_of number fs)
   missed_set s fs v w view at set calls missed =
       let now : tally_on t (seat_of number fs) ≡ Some w = ap (λ xs. tally_on t (seat_of number xs)) set ∙ own v w (sym at) in
       let was : tally_on t s ≡ Some v = found s (Some v) view at in
       record {
         calls = ap calls_in now ∙ calls ∙ sym (ap calls_in was);
-        missed = ap missed_in now ∙ missed ∙ ap (λ n. min (n + 1) (2 ^ 32 - 1)) (sym (ap missed_in was));
+        missed = ap missed_in now ∙ missed ∙ ap (λ n. min (n + 1) (2 ^ 64 - 1)) (sym (ap missed_in was));
         others = others s (seat_of number fs) w view (sym (ap (seat_of number) set));
       }
 
@@ -139,7 +139,7 @@ added_after t c old mid new keeps adds = record {
 pub missed_after : (t : List ℕ) (old mid new : SeatState) → KeepsLists old mid → AddsMissed t mid new → AddsMissed t old new
 missed_after t old mid new keeps adds = record {
   calls = adds.calls ∙ keeps.calls t;
-  missed = adds.missed ∙ ap (λ n. min (n + 1) (2 ^ 32 - 1)) (keeps.missed t);
+  missed = adds.missed ∙ ap (λ n. min (n + 1) (2 ^ 64 - 1)) (keeps.missed t);
   others = record {
     number = adds.others.number ∙ keeps.number;
     calls = λ u differ. adds.others.calls u differ ∙ keeps.calls u;

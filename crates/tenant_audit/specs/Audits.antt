@@ -131,6 +131,15 @@ abbrev pub with_entry_at : Option ℕ → Log → Entry → Log
 with_entry_at None a e = a
 with_entry_at (Some turn) a e = with_entry a e
 
+-- what an entry needs of a step: none where the audit is full
+abbrev pub step_at : Option ℕ → Step → Option Step
+step_at None step = None
+step_at (Some turn) step = Some step
+
+-- a step that is handed over so is kept with its reply, unless the audit is full
+abbrev pub KeepsStep : Option Step → ℕ → Reply → Log → Log → Type 0
+KeepsStep kept seat reply old new = (step : Step) → kept ≡ step_at (turn_of old) step → new ≡ with_entry_at (turn_of old) old (entry seat step reply)
+
 -- the audit with another quota, if there is a turn
 abbrev pub with_change_at : Option ℕ → ℕ → Log → Log
 with_change_at None quota a = a

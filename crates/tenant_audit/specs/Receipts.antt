@@ -1,5 +1,6 @@
--- What a receipt shows: the text of a reply, and its place in the audit.
+-- What a receipt shows: what was asked, the text of the reply, and its place in the audit.
 use Rattle.std.specs.Prelude.{ℕ, List, Bool, true, false, Option, Some, None}
+use Rattle.etcd_types.specs.declared.step.Step.{Step}
 use Rattle.etcd_types.specs.declared.reply.Reply.{Reply}
 use Rattle.etcd_types.specs.declared.refusal.Refusal.{Refusal}
 use Rattle.etcd_types.specs.declared.reply.Reply.TheVariants.{Created, Canceled, Refused}
@@ -12,6 +13,8 @@ pub record Slip : Type 0 where
   pub seat : ℕ
   -- its place in the audit, unless that was full
   pub turn : Option ℕ
+  -- what was asked
+  pub step : Step
   pub status : ℕ
   pub body : List ℕ
   -- the slot of the watch that was created
@@ -32,12 +35,13 @@ abbrev pub refusal_of : Reply → Option Refusal
 refusal_of (Refused refusal) = Some refusal
 refusal_of reply = None
 
--- the receipt of a tenant's reply to a seat, with the reply's text
-abbrev pub slip_of : ℕ → ℕ → Option ℕ → Reply → Slip
-slip_of number seat turn reply = record {
+-- the receipt of a tenant's reply to a seat's step, with the reply's text
+abbrev pub slip_of : ℕ → ℕ → Option ℕ → Step → Reply → Slip
+slip_of number seat turn step reply = record {
   number = number;
   seat = seat;
   turn = turn;
+  step = step;
   status = reply_status reply;
   body = reply_body reply;
   slot = slot_of reply;

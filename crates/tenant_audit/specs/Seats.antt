@@ -85,16 +85,16 @@ pub record AddsCall (tenant : List ℕ) (c : MadeCall) (old new : SeatState) : T
   pub missed : missed_on tenant new ≡ missed_on tenant old
   pub others : KeepsOthers tenant old new
 
--- one call more is missed, up to 2^32 - 1
+-- one call more is missed, up to 2^64 - 1
 pub record AddsMissed (tenant : List ℕ) (old new : SeatState) : Type 0 where
   pub calls : calls_on tenant new ≡ calls_on tenant old
-  pub missed : missed_on tenant new ≡ min (missed_on tenant old + 1) (2 ^ 32 - 1)
+  pub missed : missed_on tenant new ≡ min (missed_on tenant old + 1) (2 ^ 64 - 1)
   pub others : KeepsOthers tenant old new
 
 -- What a seat keeps of a call with this receipt: with a turn, the step and a reply whose text the receipt
 -- has; without one, that it was missed.
 abbrev pub Keeps : Option ℕ → List ℕ → Step → Slip → SeatState → SeatState → Type 0
 Keeps (Some turn) tenant step receipt old new =
-    (reply : Reply) × (receipt ≡ slip_of receipt.number receipt.seat (Some turn) reply)
+    (reply : Reply) × (receipt ≡ slip_of receipt.number receipt.seat (Some turn) step reply)
     × AddsCall tenant (call turn step reply) old new
 Keeps None tenant step receipt old new = AddsMissed tenant old new

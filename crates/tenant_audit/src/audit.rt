@@ -1,8 +1,8 @@
 //! What was served on a tenant, in order, from its opening on, with the quotas that it was given.
 ghost use Rattle.std.specs.Prelude.{◌≡◌, length, IfOk, OnErr, OnOk};
-ghost use Rattle.tenant_audit.specs.Audits.{opened_log, turn_of, with_change_at, with_entry_at};
+ghost use Rattle.tenant_audit.specs.Audits.{KeepsStep, opened_log, step_at, turn_of, with_change_at};
 
-use etcd_types::{Mem, Reply, Step};
+use etcd_types::{CopyOf, Mem, Reply, Step};
 use std::alloc::Global;
 use std::marker::Model;
 
@@ -87,9 +87,7 @@ impl Audit {
     pub(crate) fn len(&self) -> u32
         ensures { result ≡ length self.now.entries }
     {
-        // What always holds of an audit is known here once a field is read.
-        let _cap = self.opening.cap;
-        self.entries.len() as u32
+        self.entries.len().min(self.opening.cap as usize) as u32
     }
 
     /// The place of the next entry, counted from 0, unless the audit is full.
@@ -104,13 +102,24 @@ impl Audit {
         }
     }
 
-    /// Appends an entry, unless the audit is full.
-    pub fn keep(&mut self, entry: Entry)
-        ensures { self.new ≡ with_entry_at (turn_of self.old) self.old entry }
+    /// A copy of a step that it is to keep; none where it is full.
+    pub fn copy_of_step(&self, alloc: Global, step: &Step) -> Mem<Option<Step>>
+        ensures { IfOk result (λ kept. kept ≡ step_at (turn_of self.now) step.now) }
     {
         match self.next_turn() {
-            Some(_) => self.entries.push_reserved(entry),
-            None => drop(entry),
+            Some(_) => Ok(Some(step.copy_of(alloc)?)),
+            None => Ok(None),
+        }
+    }
+
+    /// Appends the copy of a step, and its reply, unless the audit is full.
+    pub fn keep(&mut self, seat: u8, step: Option<Step>, reply: Reply)
+        ensures { KeepsStep step seat reply self.old self.new }
+    {
+        let has_room = self.next_turn().is_some();
+        match step {
+            Some(step) if has_room => self.entries.push_reserved(Entry { seat, step, reply }),
+            _ => {}
         }
     }
 

@@ -161,7 +161,7 @@ fn have_missed_none(seats: &[Seat], name: &[u8]) -> bool
     ensures { IsTrue result ↔ HaveMissedNone name.now seats.now }
 {
     for seat in seats {
-        if seat.missed(name) != 0 {
+        if seat.all_missed(name) != 0 {
             return false;
         }
     }

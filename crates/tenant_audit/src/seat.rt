@@ -1,5 +1,5 @@
 //! A caller's own lists of its calls.
-ghost use Rattle.std.specs.Prelude.{◌≡◌, [], length, true, IfOk, OnOk};
+ghost use Rattle.std.specs.Prelude.{◌≡◌, ◌-◌, ◌^◌, [], length, min, true, IfOk, OnOk};
 ghost use Rattle.tenant_audit.specs.Seats.{AddsCall, AddsMissed, HasRoomOn, KeepsLists, calls_on};
 ghost use Rattle.tenant_audit.specs.Seats.{has_tally, missed_on};
 
@@ -65,6 +65,13 @@ impl Seat {
 
     /// How many calls on a tenant were answered and have no turn, up to 2^32 - 1.
     pub fn missed(&self, tenant: &[u8]) -> u32
+        ensures { result ≡ min (missed_on tenant.now self.now) (2 ^ 32 - 1) }
+    {
+        self.all_missed(tenant).min(u32::MAX as u64) as u32
+    }
+
+    /// The same, up to 2^64 - 1.
+    pub(crate) fn all_missed(&self, tenant: &[u8]) -> u64
         ensures { result ≡ missed_on tenant.now self.now }
     {
         match self.tallies.get(tenant) {

@@ -39,7 +39,7 @@ impl MadeCall {
 #[derive(Drop)]
 pub(crate) struct Tally {
     calls: Vec<MadeCall>,
-    missed: u32,
+    missed: u64,
 }
 
 impl Model for Tally {
@@ -83,8 +83,8 @@ impl Tally {
         self.calls.len() as u32
     }
 
-    /// How many have none, up to 2^32 - 1.
-    pub(crate) fn missed(&self) -> u32
+    /// How many have none, up to 2^64 - 1.
+    pub(crate) fn missed(&self) -> u64
         ensures { result ≡ self.now.missed }
     {
         self.missed
@@ -114,7 +114,7 @@ impl Tally {
     /// Counts a call that has no turn.
     pub(crate) fn miss(&mut self)
         ensures calls { self.new.calls ≡ self.old.calls }
-        ensures missed { self.new.missed ≡ min (self.old.missed + 1) (2 ^ 32 - 1) }
+        ensures missed { self.new.missed ≡ min (self.old.missed + 1) (2 ^ 64 - 1) }
     {
         self.missed = self.missed.saturating_add(1);
     }

@@ -28,8 +28,9 @@ pub record Tells (slip : Slip) (reply : Reply) : Type 0 where
   pub canceled : slip.canceled ≡ is_cancel reply
   pub refusal : slip.refusal ≡ refusal_of reply
 
--- a receipt tells what the tenant of that number replied to a step
+-- a receipt is of a step, and tells what the tenant of that number replied to it
 pub record IsTold (number : ℕ) (step : Step) (slip : Slip) : Type 0 where
+  pub asked : slip.step ≡ step
   pub reply : Reply
   pub is : IsReply number step reply
   pub told : Tells slip reply

@@ -10,5 +10,5 @@ IsNoMore old new = (name : List ℕ) → new name ≡ old name
 
 -- one call more was made, on the tenant of that name; a count that has come to its greatest number stays there
 pub record IsOneMore (tenant : List ℕ) (old new : Counts) : Type 0 where
-  pub counted : (new tenant ≡ old tenant + 1) ⊎ (2 ^ 32 ≤ old tenant + 1)
+  pub counted : (new tenant ≡ old tenant + 1) ⊎ (2 ^ 64 ≤ old tenant + 1)
   pub others : (name : List ℕ) → name ≢ tenant → new name ≡ old name

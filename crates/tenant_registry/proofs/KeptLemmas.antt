@@ -195,7 +195,7 @@ leads m a left kept = record { lawful = kept.lawful; later = kept.later; none = 
 -- what is promised of that
 pub serves : (old : Content) (m n : MachineState) (a b : Log) (left rest : StockState) (seat : ℕ) (step : Step) (p : Plan) (reply told : Reply) (turn : Option ℕ) (served : Served)
     → record { machine = m; audit = a; left = left } ≡ old → IsKept m a left → Plans m step p → IsAfter m p n → reply ≡ p.reply → turn ≡ turn_of a → told ≡ p.reply
-    → served.receipt ≡ slip_of a.opening.number seat turn told → served.mine ≡ call_at turn step told → b ≡ with_entry_at (turn_of a) a (entry seat step reply)
+    → served.receipt ≡ slip_of a.opening.number seat turn step told → served.mine ≡ call_at turn step told → b ≡ with_entry_at (turn_of a) a (entry seat step reply)
     → Settles m.store.share (loan_of left) n.store.share (loan_of rest)
     → Serves old seat step served (record { machine = n; audit = b; left = rest })
 serves old m n a b left rest seat step p reply told turn served view kept plans after is turns tells receipt mine made settles =
@@ -209,7 +209,7 @@ serves old m n a b left rest seat step p reply told turn served view kept plans 
       state = state_after_acts (end_of a) kept.later;
       leads = leads m a left kept;
       answer = steps.told (state_after_acts (end_of a) kept.later) kept.holds spoken;
-      receipt = receipt ∙ ap (λ t. slip_of a.opening.number seat t told) turns ∙ ap (slip_of a.opening.number seat (turn_of a)) same;
+      receipt = receipt ∙ ap (λ t. slip_of a.opening.number seat t step told) turns ∙ ap (slip_of a.opening.number seat (turn_of a) step) same;
       mine = mine ∙ ap (λ t. call_at t step told) turns ∙ ap (call_at (turn_of a) step) same;
       audit = made;
       segments = settles.numbers;
@@ -225,7 +225,7 @@ is_served old new number seat step (Ok served) h = record {
   tenant = h.number_is;
   leads = h.serves.leads;
   answer = h.serves.answer;
-  receipt = h.serves.receipt ∙ ap (λ n. slip_of n seat (turn_of h.before.audit) h.serves.reply) h.number_is;
+  receipt = h.serves.receipt ∙ ap (λ n. slip_of n seat (turn_of h.before.audit) step h.serves.reply) h.number_is;
   mine = h.serves.mine;
 }
 is_served old new number seat step (Err e) h = h

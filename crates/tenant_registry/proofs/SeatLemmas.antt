@@ -15,10 +15,10 @@ pub keeps_call : (number seat : ℕ) (step : Step) (served : Served) (c : MadeCa
     → served.mine ≡ Some c → KeepsLists old mid → AddsCall t c mid new → Keeps served.receipt.turn t step served.receipt old new
 keeps_call number seat step served c t old mid new h is keeps adds = by (turn_of h.log) h.receipt h.mine
   where
-    receipt_of : (reply : Reply) (turn : Option ℕ) → served.receipt ≡ slip_of number seat turn reply → served.receipt ≡ slip_of served.receipt.number served.receipt.seat turn reply
-    receipt_of reply turn is = is ∙ ap (λ (r : Slip). slip_of r.number r.seat turn reply) (sym is)
+    receipt_of : (reply : Reply) (turn : Option ℕ) → served.receipt ≡ slip_of number seat turn step reply → served.receipt ≡ slip_of served.receipt.number served.receipt.seat turn step reply
+    receipt_of reply turn is = is ∙ ap (λ (r : Slip). slip_of r.number r.seat turn step reply) (sym is)
 
-    by : (turn : Option ℕ) → served.receipt ≡ slip_of number seat turn h.reply → served.mine ≡ call_at turn step h.reply → Keeps served.receipt.turn t step served.receipt old new
+    by : (turn : Option ℕ) → served.receipt ≡ slip_of number seat turn step h.reply → served.mine ≡ call_at turn step h.reply → Keeps served.receipt.turn t step served.receipt old new
     by None receipt mine = absurd (cc (is, mine))
     by (Some turn) receipt mine =
         let same : c ≡ call turn step h.reply = cc (is, mine) in
@@ -30,7 +30,7 @@ pub keeps_miss : (number seat : ℕ) (step : Step) (served : Served) (t : List �
     → served.mine ≡ None → KeepsLists old mid → AddsMissed t mid new → Keeps served.receipt.turn t step served.receipt old new
 keeps_miss number seat step served t old mid new h none keeps adds = by (turn_of h.log) h.receipt h.mine
   where
-    by : (turn : Option ℕ) → served.receipt ≡ slip_of number seat turn h.reply → served.mine ≡ call_at turn step h.reply → Keeps served.receipt.turn t step served.receipt old new
+    by : (turn : Option ℕ) → served.receipt ≡ slip_of number seat turn step h.reply → served.mine ≡ call_at turn step h.reply → Keeps served.receipt.turn t step served.receipt old new
     by None receipt mine =
         subst (λ o. Keeps o t step served.receipt old new) (sym (ap (λ (r : Slip). r.turn) receipt)) (missed_after t old mid new keeps adds)
     by (Some turn) receipt mine = absurd (cc (none, mine))

@@ -15,6 +15,7 @@ use Rattle.tenant_registry.specs.Serving.{IsReceipt}
 
 pub told_of : (number seat : ℕ) (step : Step) (slip : Slip) → IsReceipt seat step slip → slip.number ≡ number → IsTold number step slip
 told_of number seat step slip i same = record {
+  asked = ap (λ s. s.step) i.text;
   reply = (machine i.state step).reply;
   is = record { log = i.log; state = i.state; tenant = i.tenant ∙ same; leads = i.leads; is = refl };
   told = record {
@@ -33,14 +34,14 @@ count_of_one n m xs ys c grew same =
     let grown : length ys ≡ length xs + 1 = ap (λ l. length l) grew ∙ length-append xs (c ∷ [])
     in omega (arith, grown, same)
 
-counted_or_full : (n m k l : ℕ) → l ≡ k → m ≡ min (n + 1) (2 ^ 32 - 1) → (2 ^ 32 - 1 < n + 1) ⊎ (n + 1 ≤ 2 ^ 32 - 1) → (l + m ≡ k + n + 1) ⊎ (2 ^ 32 ≤ k + n + 1)
+counted_or_full : (n m k l : ℕ) → l ≡ k → m ≡ min (n + 1) (2 ^ 64 - 1) → (2 ^ 64 - 1 < n + 1) ⊎ (n + 1 ≤ 2 ^ 64 - 1) → (l + m ≡ k + n + 1) ⊎ (2 ^ 64 ≤ k + n + 1)
 counted_or_full n m k l same grew (inl over) = inr (omega (arith, over))
 counted_or_full n m k l same grew (inr fits) =
     let one : m ≡ n + 1 = grew ∙ min-eq_left fits
     in inl (omega (arith, same, one))
 
-missed_or_full : (n m k l : ℕ) → l ≡ k → m ≡ min (n + 1) (2 ^ 32 - 1) → (l + m ≡ k + n + 1) ⊎ (2 ^ 32 ≤ k + n + 1)
-missed_or_full n m k l same grew = counted_or_full n m k l same grew (cases_lt (2 ^ 32 - 1) (n + 1))
+missed_or_full : (n m k l : ℕ) → l ≡ k → m ≡ min (n + 1) (2 ^ 64 - 1) → (l + m ≡ k + n + 1) ⊎ (2 ^ 64 ≤ k + n + 1)
+missed_or_full n m k l same grew = counted_or_full n m k l same grew (cases_lt (2 ^ 64 - 1) (n + 1))
 
 pub one_more : (turn : Option ℕ) (name : List ℕ) (step : Step) (slip : Slip) (old new : SeatState) → Keeps turn name step slip old new → IsOneMore name (calls_counted old) (calls_counted new)
 one_more (Some turn) name step slip old new (reply, text, adds) = record {

@@ -22,7 +22,7 @@ pub record IsReceipt (seat : ℕ) (step : Step) (receipt : Slip) : Type 0 where
   pub state : State History
   pub tenant : log.opening.number ≡ receipt.number
   pub leads : LeadsTo log state
-  pub text : receipt ≡ slip_of receipt.number seat (turn_of log) (machine state step).reply
+  pub text : receipt ≡ slip_of receipt.number seat (turn_of log) step (machine state step).reply
 
 -- One step of the machine, with one reply. It is kept with the reply unless the audit is full, and the
 -- receipt is the reply's text, under the tenant's number. Its segments are those that it had.
@@ -33,7 +33,7 @@ pub record Serves (old : Content) (seat : ℕ) (step : Step) (served : Served) (
   pub state : State History
   pub leads : LeadsTo old.audit state
   pub answer : reply ≡ (machine state step).reply
-  pub receipt : served.receipt ≡ slip_of old.audit.opening.number seat (turn_of old.audit) reply
+  pub receipt : served.receipt ≡ slip_of old.audit.opening.number seat (turn_of old.audit) step reply
   pub mine : served.mine ≡ call_at (turn_of old.audit) step reply
   pub audit : new.audit ≡ with_entry_at (turn_of old.audit) old.audit (entry seat step reply)
   pub segments : IsPermutation (segments_of old) (segments_of new)
@@ -56,5 +56,5 @@ pub record IsServed (number seat : ℕ) (step : Step) (served : Served) : Type 0
   pub tenant : log.opening.number ≡ number
   pub leads : LeadsTo log state
   pub answer : reply ≡ (machine state step).reply
-  pub receipt : served.receipt ≡ slip_of number seat (turn_of log) reply
+  pub receipt : served.receipt ≡ slip_of number seat (turn_of log) step reply
   pub mine : served.mine ≡ call_at (turn_of log) step reply

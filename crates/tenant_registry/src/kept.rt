@@ -21,7 +21,7 @@ use gateway_text::write_reply;
 use segment_pool::Stock;
 use std::alloc::Global;
 use std::marker::Model;
-use tenant_audit::{Audit, Entry, MadeCall, Opening, Seat};
+use tenant_audit::{Audit, MadeCall, Opening, Seat};
 use tenant_machine::{Hint, Machine, segments_for};
 use tenant_rules::OperatorFault;
 
@@ -31,6 +31,7 @@ pub struct Receipt {
     number: u64,
     seat: u8,
     turn: Option<u32>,
+    step: Step,
     status: u16,
     body: Vec<u8>,
     slot: Option<u8>,
@@ -44,6 +45,7 @@ impl Drop for Receipt {
             number: _,
             seat: _,
             turn: _,
+            step: _,
             status: _,
             body: _,
             slot: _,
@@ -62,6 +64,7 @@ impl Model for Receipt {
       number = r.number;
       seat = r.seat;
       turn = r.turn;
+      step = r.step;
       status = r.status;
       body = r.body.items;
       slot = r.slot;
@@ -114,6 +117,7 @@ impl Receipt {
             number: _,
             seat: _,
             turn: _,
+            step: _,
             status: _,
             body,
             slot: _,
@@ -144,15 +148,23 @@ impl Receipt {
         self.refusal
     }
 
-    /// The receipt of a tenant's reply to a seat, with its text.
-    fn of(alloc: Global, number: u64, seat: u8, turn: Option<u32>, reply: &Reply) -> Mem<Receipt>
-        ensures { IfOk result (λ receipt. receipt ≡ slip_of number seat turn reply.now) }
+    /// The receipt of a tenant's reply to a seat's step, with its text.
+    fn of(
+        alloc: Global,
+        number: u64,
+        seat: u8,
+        turn: Option<u32>,
+        step: Step,
+        reply: &Reply,
+    ) -> Mem<Receipt>
+        ensures { IfOk result (λ receipt. receipt ≡ slip_of number seat turn step reply.now) }
     {
         let (status, body) = write_reply(alloc, reply)?;
         Ok(Receipt {
             number,
             seat,
             turn,
+            step,
             status,
             body,
             slot: slot_of(reply),
@@ -203,14 +215,14 @@ impl Served {
         number: u64,
         seat: u8,
         turn: Option<u32>,
-        step: &Step,
+        step: Step,
         reply: &Reply,
     ) -> Mem<Served>
-        ensures receipt { IfOk result (λ served. served.receipt ≡ slip_of number seat turn reply.now) }
-        ensures mine { IfOk result (λ served. served.mine ≡ call_at turn step.now reply.now) }
+        ensures receipt { IfOk result (λ served. served.receipt ≡ slip_of number seat turn step reply.now) }
+        ensures mine { IfOk result (λ served. served.mine ≡ call_at turn step reply.now) }
     {
-        let receipt = Receipt::of(alloc, number, seat, turn, reply)?;
-        let mine = MadeCall::copy_at(alloc, turn, step, reply)?;
+        let mine = MadeCall::copy_at(alloc, turn, &step, reply)?;
+        let receipt = Receipt::of(alloc, number, seat, turn, step, reply)?;
         Ok(Served { receipt, mine })
     }
 
@@ -352,9 +364,10 @@ impl Kept {
         let turn = self.audit.next_turn();
         let planned = self.machine.plan(self.alloc, &step)?;
         let told = planned.reply();
-        let served = Served::of(self.alloc, number, seat, turn, &step, told)?;
+        let kept = self.audit.copy_of_step(self.alloc, &step)?;
+        let served = Served::of(self.alloc, number, seat, turn, step, told)?;
         let reply = self.machine.commit(&mut self.left, planned);
-        self.audit.keep(Entry { seat, step, reply });
+        self.audit.keep(seat, kept, reply);
         Ok(served)
     }
 

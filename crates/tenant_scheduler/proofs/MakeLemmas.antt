@@ -59,5 +59,5 @@ pub only_then : {K : Type 0} (name_of : K → List ℕ) (first key : Option K) (
 only_then name_of first key old mid new same one more = λ name other. (subst (λ k. IsOnlyOn name_of k mid new) same more name other) ∙ (one name other)
 
 -- one call was made by the key
-pub only_own : {K : Type 0} (number_of : K → ℕ) (name_of : K → List ℕ) (gives : ℕ → Step → Slip → Type 0) (key : Option K) (step : Step) (old new : Counts) → IsOwnMade number_of name_of gives key step old new → IsOnlyOn name_of key old new
-only_own number_of name_of gives key step old new made = λ name other. made.more.others name (other made.by made.has)
+pub only_own : {K : Type 0} (number_of : K → ℕ) (name_of : K → List ℕ) (gives : ℕ → Step → Slip → Type 0) (key : Option K) (number : ℕ) (step : Step) (old new : Counts) → IsOwnMade number_of name_of gives key number step old new → IsOnlyOn name_of key old new
+only_own number_of name_of gives key number step old new made = λ name other. made.more.others name (other made.by made.has)

@@ -6,7 +6,7 @@ ghost use Rattle.fair_turns.specs.Answers.{Conveys, IsAnswer};
 ghost use Rattle.tenant_calls.specs.Answers.{IsTold, IsUncalled};
 ghost use Rattle.tenant_calls.specs.Counts.{IsNoMore};
 ghost use Rattle.tenant_scheduler.specs.Makes.{IsCounted, IsMade};
-ghost use Rattle.tenant_scheduler.specs.OwnSteps.{IsOwnMade, step_of};
+ghost use Rattle.tenant_scheduler.specs.OwnSteps.{IsOwnMade, step_of, tenant_of};
 ghost use Rattle.tenant_scheduler.specs.Requests.{IsStepOf};
 ghost use Rattle.tenant_scheduler.specs.Watches.{IsListed};
 
@@ -15,11 +15,10 @@ mod unserved;
 
 use crate::clients::{Clients, key_of};
 use crate::clock::Moment;
-use crate::inline_calls::is_brief;
 use crate::request::NamedTenant;
 use auto_compaction::DueRevision;
 use etcd_types::{Refusal, Step};
-use fair_turns::{Answer, LONGEST_ROW, MadeText, ServedWatch, Share, WatchEnds, may_be_long};
+use fair_turns::{Answer, LONGEST_ROW, MadeText, ServedWatch, Share, WatchEnds};
 use std::alloc::Global;
 use std::rt::Clock;
 use std::sync::Wait;
@@ -28,24 +27,35 @@ pub use told::{Told, Unanswered};
 pub use unserved::PendingCall;
 pub(crate) use unserved::{JobAnswer, Unserved};
 
-/// A step that a thread makes by itself, and not for a client.
-#[derive(Clone, Copy, Drop)]
+/// A step that a thread makes by itself, once, and not for a client.
+#[derive(Drop)]
 pub(crate) enum OwnStep {
     /// The tenant's clock comes to this second.
     Tick(Moment),
-    /// Watches that are behind catch up over so many changes.
-    CatchUp(u32),
-    /// A standing order drops the history before this revision.
+    /// Watches of the tenant of that number catch up over so many changes, if they are behind.
+    CatchUp { tenant: u64, budget: u32 },
+    /// A standing order drops the tenant's history before this revision.
     Compact(DueRevision),
 }
 
 impl OwnStep {
-    fn step(self) -> Step
-        ensures { result ≡ step_of self }
+    /// The number of the tenant whose step it is.
+    fn tenant(&self) -> u64
+        ensures { result ≡ tenant_of self.now }
+    {
+        match self {
+            OwnStep::Tick(moment) => moment.tenant(),
+            OwnStep::CatchUp { tenant, budget: _ } => *tenant,
+            OwnStep::Compact(due) => due.tenant(),
+        }
+    }
+
+    fn step(&self) -> Step
+        ensures { result ≡ step_of self.now }
     {
         match self {
             OwnStep::Tick(moment) => Step::Tick(moment.seconds()),
-            OwnStep::CatchUp(budget) => Step::CatchUp(budget),
+            OwnStep::CatchUp { tenant: _, budget } => Step::CatchUp(*budget),
             OwnStep::Compact(due) => Step::Compact(due.revision()),
         }
     }
@@ -66,20 +76,15 @@ impl<R: Wait + Clock + Drop, C: TenantCalls> Caller<R, C> {
         Caller { rt, calls }
     }
 
-    /// One step of this thread's own, of the tenant that has the key. Without a key there is no such tenant.
+    /// One step of this thread's own, of the tenant that has the key, if it is that tenant's.
     pub(crate) fn call(&mut self, key: &Option<C::Key>, step: OwnStep) -> Result<(), Refusal>
         ensures refused { IfErr result (λ r. IsUncalled r) }
-        ensures made { IfOk result (λ _. IsOwnMade C.Key.number_of C.Key.name_of C.gives key.now (step_of step)
+        ensures made { IfOk result (λ _. IsOwnMade C.Key.number_of C.Key.name_of C.gives key.now (tenant_of step) (step_of step)
             (C.made self.old.calls) (C.made self.new.calls)) }
         ensures unmade { IfErr result (λ _. IsNoMore (C.made self.old.calls) (C.made self.new.calls)) }
     {
-        match key {
-            Some(key) => {
-                self.calls.call(&self.rt, key, step.step())?;
-                Ok(())
-            }
-            None => Err(Refusal::NoTenant),
-        }
+        self.own(key, step.tenant(), step.step())?;
+        Ok(())
     }
 
     /// The client of a watch has gone: its slot is freed, if the key is to its tenant. Where that is refused, it stays.
@@ -89,17 +94,11 @@ impl<R: Wait + Clock + Drop, C: TenantCalls> Caller<R, C> {
         watch: ServedWatch,
     ) -> Result<(), ServedWatch>
         ensures made { IfOk result (λ _. IsOwnMade C.Key.number_of C.Key.name_of C.gives key.now
-            (DropWatch watch.slot) (C.made self.old.calls) (C.made self.new.calls)) }
+            watch.tenant (DropWatch watch.slot) (C.made self.old.calls) (C.made self.new.calls)) }
         ensures stays { IfErr result (λ left. left ≡ watch) }
         ensures unmade { IfErr result (λ _. IsNoMore (C.made self.old.calls) (C.made self.new.calls)) }
     {
-        let Some(key) = key_of(key, watch.tenant()) else {
-            return Err(watch);
-        };
-        match self
-            .calls
-            .call(&self.rt, key, Step::DropWatch(watch.slot()))
-        {
+        match self.own(key, watch.tenant(), Step::DropWatch(watch.slot())) {
             Ok(_) => Ok(()),
             Err(_) => Err(watch),
         }
@@ -113,15 +112,25 @@ impl<R: Wait + Clock + Drop, C: TenantCalls> Caller<R, C> {
         slot: u8,
     ) -> Result<C::Receipt, Refusal>
         ensures given { IfOk result (λ receipt. C.gives number (Take slot) (C.Receipt.slip_of receipt)) }
-        ensures made { IfOk result (λ _. IsOwnMade C.Key.number_of C.Key.name_of C.gives key.now (Take slot)
+        ensures made { IfOk result (λ _. IsOwnMade C.Key.number_of C.Key.name_of C.gives key.now number (Take slot)
             (C.made self.old.calls) (C.made self.new.calls)) }
         ensures unmade { IfErr result (λ _. IsNoMore (C.made self.old.calls) (C.made self.new.calls)) }
     {
-        let Some(key) = key_of(key, number) else {
-            return Err(Refusal::NoTenant);
-        };
-        let receipt = self.calls.call(&self.rt, key, Step::Take(slot))?;
-        Ok(receipt)
+        self.own(key, number, Step::Take(slot))
+    }
+
+    /// One step of this thread's own, of the tenant of that number, if the key is to it.
+    fn own(&mut self, key: &Option<C::Key>, number: u64, step: Step) -> Result<C::Receipt, Refusal>
+        ensures given { IfOk result (λ receipt. C.gives number step (C.Receipt.slip_of receipt)) }
+        ensures refused { IfErr result (λ r. IsUncalled r) }
+        ensures made { IfOk result (λ _. IsOwnMade C.Key.number_of C.Key.name_of C.gives key.now number step
+            (C.made self.old.calls) (C.made self.new.calls)) }
+        ensures unmade { IfErr result (λ _. IsNoMore (C.made self.old.calls) (C.made self.new.calls)) }
+    {
+        match key_of(key, number) {
+            Some(key) => self.calls.call(&self.rt, key, step),
+            None => Err(Refusal::NoTenant),
+        }
     }
 
     /// Answers a request by its step, which opens nothing. It is refused before it is planned where its answer may be long and
@@ -194,7 +203,7 @@ impl<R: Wait + Clock + Drop, C: TenantCalls> Caller<R, C> {
         ensures made { IsMade C.Key.number_of C.Key.name_of C.gives tenant.now step result
             (C.made self.old.calls) (C.made self.new.calls) }
     {
-        if !may_be_long(&step) || (is_brief(&step) && clients.budget.left() >= LONGEST_ROW) {
+        if !step.may_be_long() || (step.is_brief() && clients.budget.left() >= LONGEST_ROW) {
             return self.told_within(alloc, clients, tenant, step, None);
         }
         match self.reserve(clients, &step) {

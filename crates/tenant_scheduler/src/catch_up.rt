@@ -78,8 +78,12 @@ fn move_on<R: Wait + Clock + Drop, C: TenantCalls>(
     let clients = tenant.clients.lock(rt);
     let stopwatch = Stopwatch::start(rt);
     for _ in 0..STEPS_A_TURN {
+        let step = OwnStep::CatchUp {
+            tenant: tenant.number(),
+            budget: BUDGET,
+        };
         // What is behind stays right without it.
-        if caller.call(&clients.key, OwnStep::CatchUp(BUDGET)).is_err() {
+        if caller.call(&clients.key, step).is_err() {
             return;
         }
         if !is_far_behind(caller, &*clients) || stopwatch.is_past(rt, MILLIS_A_TURN) {

@@ -78,7 +78,7 @@ fn tick<R: Wait + Clock + Drop, C: TenantCalls>(
     let moment = clients.running.tick(now);
     let _ = caller.call(&clients.key, OwnStep::Tick(moment));
     clients.schedule_takes(rt, scheduler, tenant.turns());
-    if clients.standing.is_due(moment.seconds()) {
+    if clients.standing.is_due(clients.running.seconds()) {
         scheduler.schedule(rt, tenant.turns(), Work::CatchUp);
     }
 }

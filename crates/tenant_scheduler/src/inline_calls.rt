@@ -14,8 +14,6 @@ use crate::job_queue::BriefRequest;
 use crate::jobs::LoopCalls;
 use crate::serving::ServingThread;
 use crate::tenants::ServedTenant;
-use crate::worker::may_give;
-use etcd_types::Step;
 use fair_turns::{Scheduler, Stopwatch, Work};
 use futures::ready;
 use futures::task::{Context, Poll};
@@ -52,7 +50,9 @@ impl<R: Wait + Drop, C: TenantCalls> Drop for InlineCalls<R, C> {
 
 impl<R: Wait + Clock + Copy + Drop, C: TenantCalls> InlineCalls<R, C> {
     /// Those that an event loop receives.
-    pub fn new(alloc: Global, thread: ServingThread<R, C>, own: LoopCalls<R>) -> InlineCalls<R, C> {
+    pub fn new(alloc: Global, thread: ServingThread<R, C>, own: LoopCalls<R>) -> InlineCalls<R, C>
+        ensures { result.thread ≡ thread }
+    {
         InlineCalls { alloc, thread, own }
     }
 
@@ -121,7 +121,7 @@ fn take_turn<R: Wait + Clock + Copy + Drop, C: TenantCalls>(
     let call = brief.unserved.request().route.call;
     let mut clients = tenant.clients.lock(rt);
     let outcome = answer(alloc, caller, &mut *clients, brief);
-    if may_give(call) {
+    if call.may_give() {
         clients.schedule_takes(rt, scheduler, tenant.turns());
     }
     drop(clients);
@@ -156,14 +156,4 @@ fn answer<R: Wait + Clock + Drop, C: TenantCalls>(
         clients.left_to_workers = CALLS_LEFT;
     }
     Ok(told)
-}
-
-/// A step that looks at one key at most, and at its present row.
-pub(crate) fn is_brief(step: &Step) -> bool {
-    match step {
-        Step::Range(range) => range.range_end.as_slice().is_empty() && range.revision <= 0,
-        Step::Delete(delete) => delete.range_end.as_slice().is_empty(),
-        Step::Put(_) | Step::KeepAlive(_) | Step::Status => true,
-        _ => false,
-    }
 }

@@ -2,7 +2,6 @@
 ghost use Rattle.tenant_scheduler.specs.Begins.{IsBegun};
 
 use crate::caller::{PendingCall, Told, Unanswered, Unserved};
-use crate::inline_calls::is_brief;
 use crate::job_queue::BriefRequest;
 use crate::jobs::Jobs;
 use crate::request::{RequestBody, Route};
@@ -47,7 +46,7 @@ fn hand_in<R: Wait + Clock + Drop>(rt: &R, alloc: Global, jobs: &Jobs<R>, unserv
         return jobs.queue(rt, alloc, unserved, None);
     }
     match unserved.request().read(alloc) {
-        Ok(step) if is_brief(&step) => jobs.hand(rt, alloc, BriefRequest { unserved, step }),
+        Ok(step) if step.is_brief() => jobs.hand(rt, alloc, BriefRequest { unserved, step }),
         Ok(step) => jobs.queue(rt, alloc, unserved, Some(step)),
         Err(refusal) => {
             let answer = unserved.unread(alloc, refusal);

@@ -50,6 +50,17 @@ impl<R: Wait + Clock + Copy + Drop, C: TenantCalls> ServingThread<R, C> {
         self.shared.beats.beat(&self.rt, self.place);
     }
 
+    /// Frees the slots of watches that ended after the pump did.
+    pub fn free_slots(&mut self) {
+        let ServingThread {
+            rt,
+            place: _,
+            caller,
+            shared,
+        } = self;
+        shared.free_slots(rt, caller);
+    }
+
     pub fn into_calls(self) -> C
         ensures { result ≡ self.caller.calls }
     {
@@ -83,19 +94,17 @@ impl Service {
         }
     }
 
-    /// Serves tenants until there are no more turns, and gives back what the thread called them by.
-    pub fn run<R, C>(self, alloc: Global, thread: ServingThread<R, C>) -> C
+    /// Serves tenants until there are no more turns.
+    pub fn run<R, C>(self, alloc: Global, thread: &mut ServingThread<R, C>)
     where
         R: Wait + Clock + Copy + Drop,
         C: TenantCalls,
     {
-        let mut thread = thread;
         match self {
-            Service::Clock => keep_time(&mut thread),
-            Service::Pump => pump(&mut thread),
-            Service::CatchUp => catch_up(&mut thread),
-            Service::Work => work(alloc, &mut thread),
+            Service::Clock => keep_time(thread),
+            Service::Pump => pump(thread),
+            Service::CatchUp => catch_up(thread),
+            Service::Work => work(alloc, thread),
         }
-        thread.into_calls()
     }
 }

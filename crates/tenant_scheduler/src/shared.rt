@@ -83,19 +83,14 @@ impl<R: Wait + Clock + Copy + Drop, K: TenantKey> Shared<R, K> {
         self.scheduler.stop(rt, threads);
     }
 
-    /// Frees the slots of watches that ended after the pump did, by what one of the threads called tenants by.
-    pub fn free_slots<C: TenantCalls<Key = K>>(&self, rt: R, calls: &mut Vec<C>) {
-        let Some(own) = calls.pop() else {
-            return;
-        };
-        let mut caller = Caller::new(rt, own);
+    /// Frees the slots of watches that ended after the pump did.
+    pub(crate) fn free_slots<C: TenantCalls<Key = K>>(&self, rt: &R, caller: &mut Caller<R, C>) {
         for place in 0..MAX_TENANTS {
-            let Some(tenant) = self.tenants.at(&rt, SHARD, place) else {
+            let Some(tenant) = self.tenants.at(rt, SHARD, place) else {
                 break;
             };
-            drop_closed(&mut caller, &mut *tenant.clients.lock(&rt));
+            drop_closed(caller, &mut *tenant.clients.lock(rt));
         }
-        let _ = calls.push(caller.into_calls());
     }
 }
 

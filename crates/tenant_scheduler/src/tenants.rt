@@ -62,6 +62,7 @@ impl<R: Wait + Drop, K: TenantKey> ServedTenant<R, K> {
         turns: TenantTurns,
         terms: TenantTerms,
     ) -> Mem<ServedTenant<R, K>> {
+        let number = tenant.number;
         let budget = Budget::new(alloc, terms.budget)?;
         let counts = Arc::new(alloc, TenantCounts::new())?;
         let clients = Clients {
@@ -70,8 +71,8 @@ impl<R: Wait + Drop, K: TenantKey> ServedTenant<R, K> {
             counts: Arc::try_clone(&counts)?,
             watches: Vec::new(alloc),
             next_take: 0,
-            running: Running::new(),
-            standing: StandingOrder::new(alloc, terms.retention)?,
+            running: Running::new(number),
+            standing: StandingOrder::new(alloc, number, terms.retention)?,
             is_slow: false,
             takes_left: 0,
             left_to_workers: 0,

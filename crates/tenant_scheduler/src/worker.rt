@@ -10,7 +10,7 @@ use crate::pump::{serve_takes, take_all};
 use crate::request::Request;
 use crate::serving::ServingThread;
 use crate::tenants::ServedTenant;
-use etcd_types::{Call, Refusal, Step};
+use etcd_types::{Refusal, Step};
 use fair_turns::{SMALL_TREE, Scheduler, Stopwatch, WatchEnds, Work, tree_weight};
 use std::alloc::Global;
 use std::rt::Clock;
@@ -146,7 +146,7 @@ impl<R: Wait + Clock + Copy + Drop, C: TenantCalls> WorkerTurn<'_, '_, R, C> {
         answer.count(&clients.counts);
         let bytes = read.saturating_add(answer.answer().len());
         answer.send();
-        if may_give(call) {
+        if call.may_give() {
             clients.schedule_takes(&self.rt, self.scheduler, self.tenant.turns());
         }
         bytes
@@ -253,21 +253,5 @@ impl<R: Wait + Clock + Copy + Drop, C: TenantCalls> WorkerTurn<'_, '_, R, C> {
             return unserved.refused(self.alloc, Refusal::Memory);
         };
         caller.open(self.alloc, clients, unserved, step, ends)
-    }
-}
-
-/// A call after which a watch may have something to give.
-pub(crate) fn may_give(call: Call) -> bool {
-    match call {
-        Call::Put | Call::DeleteRange | Call::Txn | Call::Compaction | Call::Watch | Call::Revoke =>
-            true,
-        Call::Range
-        | Call::Grant
-        | Call::KeepAlive
-        | Call::TimeToLive
-        | Call::Leases
-        | Call::Alarm
-        | Call::Status
-        | Call::Defragment => false,
     }
 }

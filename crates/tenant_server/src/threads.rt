@@ -93,7 +93,7 @@ where
             let brought = brought.and(accepted);
             let (mut back, served) = group.join(&rt, alloc, &shared, roles);
             brought.and(served)?;
-            shared.free_slots(rt, &mut back);
+            free_slots(rt, shared, &mut back);
             Ok(back)
         },
     )
@@ -205,6 +205,24 @@ where
 {
     match role {
         Role::Loop(own, jobs) => serve_connections(rt, alloc, own, jobs, thread),
-        Role::Service(service) => (service.run(alloc, thread), Ok(())),
+        Role::Service(service) => {
+            let mut thread = thread;
+            service.run(alloc, &mut thread);
+            (thread.into_calls(), Ok(()))
+        }
     }
+}
+
+/// Frees the slots of watches that ended after the pump did, by what one of the threads called tenants by.
+fn free_slots<R, C>(rt: R, shared: Arc<Shared<R, C::Key>>, calls: &mut Vec<C>)
+where
+    R: Wait + Clock + Copy + Drop,
+    C: TenantCalls,
+{
+    let Some(own) = calls.pop() else {
+        return;
+    };
+    let mut thread = ServingThread::new(rt, 0, own, shared);
+    thread.free_slots();
+    let _ = calls.push(thread.into_calls());
 }

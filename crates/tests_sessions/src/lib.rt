@@ -1,5 +1,5 @@
 //! The server's sessions under test: over streams that fail, and beside a call that is held. What they answer over
-//! sockets is asked of the program, by `scripts/check-server`.
+//! sockets is asked of the program, by `tools/check-server`.
 #![tactic(auto)]
 
 #[cfg(test)]

@@ -8,15 +8,23 @@ use std::time::Duration;
 /// How many seconds one tick moves a tenant's moment by, at the most.
 const MAX_SECONDS_A_TICK: u64 = 2;
 
-/// A second of a tenant's time. Its clock alone tells one, and there is no other tick.
-#[derive(Clone, Copy, Drop)]
+/// A second of a tenant's time, for one tick. The tenant's clock alone tells one, and there is no other tick.
+#[derive(Drop)]
 pub(crate) struct Moment {
+    tenant: u64,
     seconds: u64,
 }
 
 impl Moment {
-    pub(crate) fn seconds(self) -> u64
-        ensures { result ≡ self.seconds }
+    /// The number of the tenant.
+    pub(crate) fn tenant(&self) -> u64
+        ensures { result ≡ self.now.tenant }
+    {
+        self.tenant
+    }
+
+    pub(crate) fn seconds(&self) -> u64
+        ensures { result ≡ self.now.seconds }
     {
         self.seconds
     }
@@ -28,15 +36,20 @@ impl Moment {
 /// keepalives that wait are served before the next tick could end their leases.
 #[derive(Drop)]
 pub(crate) struct Running {
+    /// The number of the tenant.
+    tenant: u64,
     /// When the last tick came, on the server's clock.
     ticked: Option<Duration>,
     ran: Duration,
 }
 
 impl Running {
-    /// It begins now; the first tick counts a second.
-    pub(crate) fn new() -> Running {
+    /// That of the tenant of this number begins now; the first tick counts a second.
+    pub(crate) fn new(tenant: u64) -> Running
+        ensures { result.tenant ≡ tenant }
+    {
         Running {
+            tenant,
             ticked: None,
             ran: Duration::from_secs(0),
         }
@@ -44,6 +57,7 @@ impl Running {
 
     /// The moment of a tick that comes now, in whole seconds.
     pub(super) fn tick(&mut self, now: Duration) -> Moment
+        ensures whose { result.tenant ≡ self.old.tenant }
         ensures moment { result.seconds ≡ as_nanos self.new.ran / 1_000_000_000 }
         ensures bound { as_nanos self.new.ran ≤ as_nanos self.old.ran + 2_000_000_000 }
     {
@@ -56,6 +70,7 @@ impl Running {
         self.ticked = Some(now);
         self.ran = self.ran.saturating_add(counted);
         Moment {
+            tenant: self.tenant,
             seconds: self.seconds(),
         }
     }
