@@ -21,7 +21,7 @@ use Rattle.gateway_http.specs.declared.response.ResponseBody.{ResponseBody}
 use Rattle.gateway_http.specs.Exchanges.{GoesOn, IsStageAnswer, TakesUp, IsResponseOf}
 use Rattle.gateway_http.specs.declared.reading.Loss.{Loss}
 use Rattle.gateway_http.specs.declared.reading.Reading.{Reading}
-use Rattle.gateway_http.specs.Readings.{IsBodyOf, IsReadOn, IsWhole, IsAnswerTo, IsReadingAnswer, Lost, Whole}
+use Rattle.gateway_http.specs.Readings.{IsBodyOf, MayLose, IsReadOn, IsWhole, IsAnswerTo, IsReadingAnswer, Lost, Whole}
 use Rattle.gateway_http.specs.Requests.{IsTakenUp, loss_told}
 use Rattle.gateway_http.specs.Responses.{Sends}
 
@@ -45,10 +45,10 @@ without_jobs given lost body route a head whole told = begun given lost body rou
 -- ---- answers
 
 -- what is taken up with an answer, once it was read, is answered so from before on
-at_once : {I R : Type 0} (old : Reading I R) (given : Result Route Refusal) (lost : Option Loss) (body : List ℕ) (a : Told R) → given ≡ old.route → (lost ≡ None → IsOk given → (old.lost ≡ None) × IsBodyOf old.body old.read.items body) → IsTakenUp given lost body (Answered a) → ∥ IsReadingAnswer old a.answer ∥₁
-at_once old (Err r) lost body a same kept is = merely (subst (λ h. IsAnswerTo old h a.answer) same is)
-at_once old (Ok route) (Some loss) body a same kept is = merely (subst (λ h. IsAnswerTo old h a.answer) same (Lost loss is))
-at_once old (Ok route) None body a same kept is = let k = kept refl refl in merely (subst (λ h. IsAnswerTo old h a.answer) same (Whole body k.0 k.1 (Unasked Memory (false, refl) is)))
+at_once : {I R : Type 0} (old : Reading I R) (given : Result Route Refusal) (lost : Option Loss) (body : List ℕ) (a : Told R) → given ≡ old.route → (lost ≡ None → IsOk given → (old.lost ≡ None) × IsBodyOf old.body old.read.items body) → ((why : Loss) → lost ≡ Some why → MayLose old.lost old.body why) → IsTakenUp given lost body (Answered a) → ∥ IsReadingAnswer old a.answer ∥₁
+at_once old (Err r) lost body a same kept loses is = merely (subst (λ h. IsAnswerTo old h a.answer) same is)
+at_once old (Ok route) (Some why) body a same kept loses is = merely (subst (λ h. IsAnswerTo old h a.answer) same (Lost why (loses why refl) is))
+at_once old (Ok route) None body a same kept loses is = let k = kept refl refl in merely (subst (λ h. IsAnswerTo old h a.answer) same (Whole body k.0 k.1 (Unasked Memory (false, refl) is)))
 
 -- and so is what waits, later
 later : {I R : Type 0} (old : Reading I R) (given : Result Route Refusal) (lost : Option Loss) (body : List ℕ) (call : PendingCall R) (a : Answer R) → given ≡ old.route → (lost ≡ None → IsOk given → (old.lost ≡ None) × IsBodyOf old.body old.read.items body) → IsTakenUp given lost body (Pending call) → IsAnswerOf call.request.value a → IsReadingAnswer old a
@@ -60,7 +60,7 @@ later old (Ok route) None body call a same kept waits is =
     in subst (λ h. IsAnswerTo old h a) same (Whole body k.0 k.1 told)
 
 pub answered_at_once : {I R : Type 0} (old now : Reading I R) (a : Told R) → IsWhole old now → IsTakenUp now.route now.lost now.read.items (Answered a) → ∥ IsReadingAnswer old a.answer ∥₁
-answered_at_once old now a whole is = at_once old now.route now.lost now.read.items a whole.0 whole.1 is
+answered_at_once old now a whole is = at_once old now.route now.lost now.read.items a whole.0 whole.1 whole.2 is
 
 pub answered_later : {I R : Type 0} (old now : Reading I R) (call : PendingCall R) → IsWhole old now → IsTakenUp now.route now.lost now.read.items (Pending call) → (a : Answer R) → ∥ IsAnswerOf call.request.value a ∥₁ → ∥ IsReadingAnswer old a ∥₁
 answered_later old now call whole waits a is = ∥∥₁_map is (λ told. later old now.route now.lost now.read.items call a whole.0 whole.1 waits told)
@@ -78,7 +78,7 @@ taken_on old now None stage.Over whole is = elim is [ ]
 -- what is read on is answered as before
 on : {I R : Type 0} (old now : Reading I R) (given : Result Route Refusal) (a : Answer R) → given ≡ now.route → IsReadOn old now → IsAnswerTo now given a → IsAnswerTo old given a
 on old now (Err r) a same read is = is
-on old now (Ok route) a same read (Lost loss told) = Lost loss told
+on old now (Ok route) a same read (Lost why may told) = Lost why (read.2 why may) told
 on old now (Ok route) a same read (Whole body none b told) = let k = read.1 none (subst (λ h. IsOk h) same refl) in Whole body k.0 (k.1 body b) told
 
 pub reads_on : {I R : Type 0} (old now : Reading I R) → IsReadOn old now → (a : Answer R) → ∥ IsReadingAnswer now a ∥₁ → ∥ IsReadingAnswer old a ∥₁

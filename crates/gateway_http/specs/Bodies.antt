@@ -1,12 +1,12 @@
 -- What the body of a response gives: its text, piece by piece, and behind it, text by text, what is taken of a watch.
-use Rattle.std.specs.Prelude.{◌≡◌, ⊤, ℕ, List, [], ◌∷◌, ◌++◌, Option, Some, None, Result, Ok, Err}
+use Rattle.std.specs.Prelude.{◌≡◌, ⊤, ℕ, List, [], ◌∷◌, ◌++◌, length, Option, Some, None, Result, Ok, Err}
 use Rattle.futures.specs.Runs.{Runs}
 use Rattle.http_body.specs.declared.frame.Frame.{Frame}
 use Rattle.http_body.specs.Frame.{data_frame}
 use Rattle.fair_turns.specs.declared.watch_texts.WatchTexts.{WatchTexts}
 use Rattle.fair_turns.specs.Watching.{IsTaken}
 use Rattle.gateway_http.specs.declared.response.ResponseBody.{ResponseBody}
-use Rattle.gateway_http.specs.declared.response.Unsent.{Unsent}
+use Rattle.gateway_http.specs.declared.piece.Unsent.{Unsent}
 
 -- the number of a tenant, and a slot of it
 pub record Watched : Type 0 where
@@ -25,6 +25,11 @@ text_of None = None
 abbrev pub bytes_left : Option (List ℕ) → List ℕ
 bytes_left (Some text) = text
 bytes_left None = []
+
+-- how many bytes are left, which a response announces; a watch's response has no end
+abbrev pub length_left : Option (List ℕ) → Option Watched → Option ℕ
+length_left text (Some watch) = None
+length_left text None = Some (length (bytes_left text))
 
 -- a piece is the next one of the text, of which something is left; behind the text it was taken of the watch
 abbrev pub IsPiece : Option (List ℕ) → Option Watched → List ℕ → Option (List ℕ) → Type 0

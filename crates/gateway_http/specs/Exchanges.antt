@@ -2,6 +2,7 @@
 use Rattle.std.specs.Prelude.{◌≡◌, [], Option, Some, None}
 use Rattle.etcd_types.specs.Limits.{max_body}
 use Rattle.hyper.specs.declared.body.incoming.Incoming.{Incoming}
+use Rattle.hyper.specs.Incoming.{size_left}
 use Rattle.http.specs.declared.request.Request.{Request}
 use Rattle.http.specs.declared.response.Response.{Response}
 use Rattle.http.specs.Request.{head_of, body_of}
@@ -15,12 +16,13 @@ use Rattle.gateway_http.specs.declared.reading.Reading.{Reading}
 use Rattle.gateway_http.specs.declared.exchange.Stage.TheVariants as stage
 use Rattle.gateway_http.specs.declared.response.ResponseBody.{ResponseBody}
 use Rattle.gateway_http.specs.Readings.{IsReadingAnswer}
-use Rattle.gateway_http.specs.Requests.{IsRouteOf, IsTakenUp}
+use Rattle.gateway_http.specs.Requests.{IsLossOf, IsRouteOf, IsTakenUp, most_of}
 use Rattle.gateway_http.specs.Responses.{Sends}
 
--- a request that is read, none of which was, has this route and this body
+-- a request that is read, none of which was, has this route and this body, which may be thrown away by its head
 pub record Begins {I R : Type 0} (request : Request (Incoming I)) (reading : Reading I R) : Type 0 where
   pub route : IsRouteOf (head_of request).method (uri_path (head_of request).uri) reading.route
+  pub lost : IsLossOf (head_of request).headers (most_of (size_left (body_of request).kind)) reading.lost
   pub body : reading.body ≡ record { remaining = max_body; inner = body_of request }
   pub read : reading.read.items ≡ []
 

@@ -1,5 +1,5 @@
 -- What a request's body is, of which some may have come and been kept.
-use Rattle.std.specs.Prelude.{◌≡◌, ⊤, ℕ, List, map, ◌++◌, Option, Some, None, Result, Ok, Err, IsOk}
+use Rattle.std.specs.Prelude.{◌≡◌, ◌⊎◌, ⊤, ℕ, List, map, ◌++◌, Option, Some, None, Result, Ok, Err, IsOk}
 use Rattle.futures.specs.declared.task.Poll.{Poll}
 use Rattle.futures.specs.declared.task.Poll.TheVariants.{Ready, Pending}
 use Rattle.futures.specs.Runs.{Runs}
@@ -7,6 +7,7 @@ use Rattle.http_body.specs.declared.frame.Frame.{Frame}
 use Rattle.http_body.specs.Frame.{joined_data}
 use Rattle.http_body_util.specs.declared.limited.Limited.{Limited}
 use Rattle.http_body_util.specs.declared.limited.LimitedError.{LimitedError}
+use Rattle.http_body_util.specs.declared.limited.LimitedError.TheVariants.{LengthLimit}
 use Rattle.http_body_util.specs.Limited.{Limits}
 use Rattle.hyper.specs.declared.body.incoming.Incoming.{Incoming}
 use Rattle.hyper.specs.declared.error.Error.{Error}
@@ -33,18 +34,31 @@ pub record IsBodyOf {I : Type 0} (source : Limited (Incoming I)) (kept : List �
   pub ends : comes_of source (map (λ frame. Ok frame) frames) None
   pub is : body ≡ kept ++ joined_data frames
 
--- it was read on: if the body is kept, it is the same as before
+-- more comes of it than the longest body has
+pub record IsTooLong {I : Type 0} (source : Limited (Incoming I)) : Type 0 where
+  pub frames : List (Frame (List ℕ))
+  pub over : comes_of source (map (λ frame. Ok frame) frames) (Some (Err LengthLimit))
+
+-- why a body may be thrown away: it was already, or it is too long; or there is no memory
+abbrev pub MayLose : {I : Type 0} → Option Loss → Limited (Incoming I) → Loss → Type 0
+MayLose lost body loss.TooLarge = (lost ≡ Some loss.TooLarge) ⊎ IsTooLong body
+MayLose lost body loss.Coded = lost ≡ Some loss.Coded
+MayLose lost body loss.NoMemory = ⊤
+
+-- it was read on: if the body is kept, it is the same as before; it may be thrown away for what it might have been before
 abbrev pub IsReadOn : {I R : Type 0} → Reading I R → Reading I R → Type 0
 IsReadOn old new =
     (new.route ≡ old.route)
     × (new.lost ≡ None → IsOk new.route → (old.lost ≡ None)
     × ((body : List ℕ) → IsBodyOf new.body new.read.items body → IsBodyOf old.body old.read.items body))
+    × ((why : Loss) → MayLose new.lost new.body why → MayLose old.lost old.body why)
 
--- it was read to its end: if the body is kept, what was kept is all of it
+-- it was read to its end: if the body is kept, what was kept is all of it; if not, it was thrown away for a reason
 abbrev pub IsWhole : {I R : Type 0} → Reading I R → Reading I R → Type 0
 IsWhole old new =
     (new.route ≡ old.route)
     × (new.lost ≡ None → IsOk new.route → (old.lost ≡ None) × IsBodyOf old.body old.read.items new.read.items)
+    × ((why : Loss) → new.lost ≡ Some why → MayLose old.lost old.body why)
 
 -- what one more piece of a body comes to, or its end
 abbrev pub ReadsOn : {I R A E : Type 0} → Reading I R → Poll (Result (Option A) E) → Reading I R → Type 0
@@ -59,14 +73,15 @@ ReadsWhole old Pending new = IsReadOn old new
 ReadsWhole old (Ready (Ok done)) new = IsWhole old new
 ReadsWhole old (Ready (Err e)) new = ⊤
 
--- a piece came, and is kept where the body is
+-- a piece came, and is kept where the body is, unless there is no memory
 abbrev pub IsKept : {I R : Type 0} → Reading I R → List ℕ → Reading I R → Type 0
 IsKept old piece new =
     (new.route ≡ old.route)
     × (new.body ≡ old.body)
     × (new.lost ≡ None → IsOk new.route → (old.lost ≡ None) × (new.read.items ≡ old.read.items ++ piece))
+    × ((why : Loss) → new.lost ≡ Some why → (old.lost ≡ Some why) ⊎ (why ≡ loss.NoMemory))
 
--- the body is kept no more
+-- there is no memory for the body: it is kept no more
 abbrev pub IsLost : {I R : Type 0} → Reading I R → Reading I R → Type 0
 IsLost old new = (new.route ≡ old.route) × (new.body ≡ old.body) × (new.lost ≡ Some loss.NoMemory)
 
@@ -74,7 +89,7 @@ IsLost old new = (new.route ≡ old.route) × (new.body ≡ old.body) × (new.lo
 
 -- a request that has a route is answered: since its body was thrown away, or by its body
 pub data IsRoutedAnswer {I R : Type 0} (reading : Reading I R) (route : Route) (answer : Answer R) : Type 0 where
-  Lost : (loss : Loss) → Refuses (loss_told loss) answer → IsRoutedAnswer reading route answer
+  Lost : (why : Loss) → MayLose reading.lost reading.body why → Refuses (loss_told why) answer → IsRoutedAnswer reading route answer
   Whole : (body : List ℕ) → reading.lost ≡ None → IsBodyOf reading.body reading.read.items body → Answers route.tenant.value.number route.call body answer
       → IsRoutedAnswer reading route answer
 

@@ -1,5 +1,9 @@
 -- What a request that was read comes to.
-use Rattle.std.specs.Prelude.{◌≡◌, ◌≢◌, ⊤, ℕ, List, Option, Some, None, Result, Ok, Err, codes}
+use Rattle.std.specs.Prelude.{◌≡◌, ◌≢◌, ◌<◌, ⊤, ℕ, List, map, Option, Some, None, Result, Ok, Err, codes}
+use Rattle.std.specs.Char.{to_ascii_lowercase}
+use Rattle.http_header.specs.FieldValue.{FieldValue}
+use Rattle.http_header.specs.HeaderMap.{Entries, get}
+use Rattle.etcd_types.specs.Limits.{max_body}
 use Rattle.etcd_types.specs.declared.call.Call.{Call}
 use Rattle.etcd_types.specs.declared.refusal.Refusal.{Refusal}
 use Rattle.etcd_types.specs.declared.refusal.Refusal.TheVariants as refusal
@@ -32,7 +36,25 @@ abbrev pub IsRouteOf : List ℕ → List ℕ → Result Route Refusal → Type 0
 IsRouteOf method target (Ok route) = Names target route.tenant.value.name.items route.call × (method ≡ codes "POST")
 IsRouteOf method target (Err r) = IsUnrouted method target r
 
--- why a body is thrown away
+-- a body has a transfer coding other than in chunks, by the header of that name
+abbrev pub IsCoded : Option FieldValue → Type 0
+IsCoded (Some coding) = map to_ascii_lowercase coding.bytes ≢ codes "chunked"
+IsCoded None = ⊥
+
+-- the most bytes that a body comes to have, of which so many are announced, or none are
+abbrev pub most_of : Option ℕ → ℕ
+most_of (Some announced) = announced
+most_of None = max_body
+
+-- why a body is thrown away by its head, which has these headers: it has a coding that is not offered, or too many bytes are
+-- announced
+abbrev pub IsLossOf : Entries FieldValue → ℕ → Option Loss → Type 0
+IsLossOf headers most (Some loss.Coded) = IsCoded (get headers (codes "transfer-encoding"))
+IsLossOf headers most (Some loss.TooLarge) = max_body < most
+IsLossOf headers most (Some loss.NoMemory) = ⊥
+IsLossOf headers most None = ⊤
+
+-- what is told of a body that was thrown away
 abbrev pub loss_told : Loss → Refusal
 loss_told loss.TooLarge = refusal.TooLarge
 loss_told loss.Coded = refusal.NotOffered

@@ -4,6 +4,7 @@
 ghost use Rattle.hyper.specs.ServerDispatch.{Runs};
 
 use crate::exchange::{Exchange, Gateway};
+use crate::piece::Piece;
 use crate::response::ResponseBody;
 use bytes::Bytes;
 use futures::Future;
@@ -78,7 +79,7 @@ impl<I: AsyncRead + AsyncWrite + Drop, R: Wait + Clock + Copy + Drop, T: Timer> 
     type Output = hyper::Result<()>;
 
     ghost can_poll = { λ c. Runs I.AsyncRead I.AsyncWrite ⟦<Gateway<R> as Service<Request<Incoming<I>>>>⟧
-        ⟦<Exchange<I, R> as Future>⟧ ⟦<ResponseBody<R> as Body>⟧ ⟦<Bytes as Into<Bytes>>⟧ c.connection.conn };
+        ⟦<Exchange<I, R> as Future>⟧ ⟦<ResponseBody<R> as Body>⟧ ⟦<Piece as Into<Bytes>>⟧ c.connection.conn };
 
     fn poll(&mut self, cx: &mut Context<'_>) -> Poll<hyper::Result<()>> {
         self.connection.poll(cx)

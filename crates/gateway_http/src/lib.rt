@@ -14,6 +14,7 @@
 
 mod connection;
 mod exchange;
+mod piece;
 mod reading;
 mod response;
 mod routing;

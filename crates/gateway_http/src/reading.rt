@@ -1,11 +1,13 @@
 //! A request while its body is read.
-ghost use Rattle.std.specs.Prelude.{◌≡◌, []};
+ghost use Rattle.std.specs.Prelude.{◌≡◌, [], true, codes};
 ghost use Rattle.futures.specs.Task.{IsArmed, Keeps};
 ghost use Rattle.futures.specs.Poll.{OnPending};
 ghost use Rattle.etcd_types.specs.Limits.{max_body};
 ghost use Rattle.http_body.specs.Frame.{bytes_in};
+ghost use Rattle.http_header.specs.HeaderMap.{get};
+ghost use Rattle.hyper.specs.Incoming.{size_left};
 ghost use Rattle.gateway_http.specs.Readings.{IsKept, IsLost, ReadsOn, ReadsWhole};
-ghost use Rattle.gateway_http.specs.Requests.{IsTakenUp, loss_told};
+ghost use Rattle.gateway_http.specs.Requests.{IsCoded, IsLossOf, IsTakenUp, loss_told, most_of};
 
 use crate::stall::Stall;
 use bytes::Bytes;
@@ -109,6 +111,7 @@ impl<I: Drop, R: Wait + Clock + Copy + Drop> Reading<I, R> {
         lost: Option<Loss>,
     ) -> Reading<I, R>
         ensures route { result.route ≡ route }
+        ensures lost { result.lost ≡ lost }
         ensures body { result.body ≡ record { remaining = max_body; inner = body } }
         ensures read { result.read.items ≡ [] }
     {
@@ -161,7 +164,7 @@ impl<I: Drop, R: Wait + Clock + Copy + Drop> Reading<I, R> {
     }
 
     /// Reads the next piece of the body: how many bytes it has. None at the body's end.
-    #[tactic(auto, using(crate::proofs::ReadingLemmas::waited, crate::proofs::ReadingLemmas::ended))]
+    #[tactic(auto, using(crate::proofs::ReadingLemmas::ended))]
     fn poll_piece(&mut self, cx: &mut Context<'_>) -> Poll<Result<Option<usize>, hyper::Error>>
         ensures read { ReadsOn self.old result self.new }
         ensures registered { OnPending result (IsArmed cx.new) }
@@ -287,15 +290,19 @@ impl<I: Drop, R: Wait + Clock + Copy + Drop> Reading<I, R> {
 }
 
 /// The most bytes that a body may come to have: those that were announced, or those of the longest one.
-pub(crate) fn bound_of<B: Body>(body: &B) -> usize {
-    match body.size_hint().upper() {
-        Some(length) => usize::try_from(length).unwrap_or(usize::MAX),
+pub(crate) fn bound_of<I: Drop>(body: &Incoming<I>) -> usize
+    ensures { result ≡ most_of (size_left body.now.kind) }
+{
+    match body.size_hint().exact() {
+        Some(length) => length as usize,
         None => MAX_BODY,
     }
 }
 
 /// Why a body is not kept, by its head.
-pub(crate) fn loss_of(headers: &HeaderMap, bound: usize) -> Option<Loss> {
+pub(crate) fn loss_of(headers: &HeaderMap, bound: usize) -> Option<Loss>
+    ensures { IsLossOf headers.now bound result }
+{
     if is_coded(headers) {
         Some(Loss::Coded)
     } else if bound > MAX_BODY {
@@ -306,7 +313,9 @@ pub(crate) fn loss_of(headers: &HeaderMap, bound: usize) -> Option<Loss> {
 }
 
 /// A body comes with a length or in chunks; no other coding is offered.
-fn is_coded(headers: &HeaderMap) -> bool {
+fn is_coded(headers: &HeaderMap) -> bool
+    ensures { result ≡ true → IsCoded (get headers.now (codes "transfer-encoding")) }
+{
     match headers.get(header::TRANSFER_ENCODING) {
         Some(coding) => !coding.as_bytes().eq_ignore_ascii_case(b"chunked"),
         None => false,

@@ -4,15 +4,15 @@ ghost use Rattle.futures.specs.Task.{IsArmed, Keeps};
 ghost use Rattle.futures.specs.Poll.{IfReady, OnPending};
 ghost use Rattle.http_header.specs.HeaderMap.{insert};
 ghost use Rattle.fair_turns.specs.Answers.{bytes_of};
-ghost use Rattle.gateway_http.specs.Bodies.{GivesNext, bytes_left, run_of, text_of, watch_of};
+ghost use Rattle.http_body.specs.SizeHint.{exact};
+ghost use Rattle.gateway_http.specs.Bodies.{GivesNext, bytes_left, length_left, run_of, text_of, watch_of};
 ghost use Rattle.gateway_http.specs.Responses.{Sends};
 
 use crate::exchange::Standing;
-use bytes::Bytes;
-use fair_turns::{Share, TakenText, Text, WatchTexts};
+use crate::piece::{Piece, Sending, Unsent};
+use fair_turns::{TakenText, Text, WatchTexts};
 use futures::ready;
 use futures::task::{Context, Poll};
-use gateway_text::memory_text;
 use http_body::{Body, Frame, SizeHint};
 use hyper::header::{self, HeaderMap, HeaderName, HeaderValue};
 use hyper::{Response, StatusCode};
@@ -20,10 +20,6 @@ use std::alloc::{AllocError, Global};
 use std::rt::Clock;
 use std::sync::Wait;
 use tenant_scheduler::Told;
-
-/// How many bytes of an answer are handed to the connection at once, which copies them. So a long text is held here,
-/// with its share of the tenant's budget, until the last piece of it is taken.
-const PIECE: usize = 65_536;
 
 /// The body of a response: a text, and behind that of a watch the texts that follow.
 pub struct ResponseBody<R: Wait + Clock + Drop> {
@@ -46,21 +42,6 @@ impl<R: Wait + Clock + Drop> Drop for ResponseBody<R> {
             standing: _,
         } = self;
     }
-}
-
-/// What is left of an answer's text.
-#[derive(Drop)]
-struct Unsent {
-    text: Bytes,
-    share: Option<Share>,
-}
-
-/// The last long text of a watch that was handed to the connection, which keeps it until it is sent: from then on it is
-/// held here alone.
-#[derive(Drop)]
-struct Sending {
-    text: Bytes,
-    share: Share,
 }
 
 /// The response to what a request is told, with its kind of text; behind that of a connection too many the connection ends. A text
@@ -99,41 +80,6 @@ fn set(headers: &mut HeaderMap, name: HeaderName, value: HeaderValue) -> Result<
     }
 }
 
-impl Unsent {
-    fn of(text: Text) -> Result<Unsent, AllocError>
-        ensures { IfOk result (λ unsent. unsent.text ≡ bytes_of text) }
-    {
-        match text {
-            Text::Made(text) => {
-                let (bytes, share) = text.into_parts();
-                let text = shared(bytes)?;
-                Ok(Unsent { text, share })
-            }
-            Text::OutOfMemory => Ok(Unsent {
-                text: Bytes::from_static(memory_text()),
-                share: None,
-            }),
-        }
-    }
-
-    /// The next piece; the last one may be all.
-    fn next_piece(&mut self) -> Result<Bytes, AllocError>
-        ensures { IfOk result (λ piece. piece ++ self.new.text ≡ self.old.text) }
-    {
-        let length = self.text.len().min(PIECE);
-        self.text.split_to(length)
-    }
-}
-
-fn shared(bytes: Vec<u8>) -> Result<Bytes, AllocError>
-    ensures { IfOk result (λ text. text ≡ bytes.items) }
-{
-    match Bytes::from_vec(bytes) {
-        Ok(text) => Ok(text),
-        Err(_) => Err(AllocError),
-    }
-}
-
 impl<R: Wait + Clock + Drop> ResponseBody<R> {
     fn of(
         first: Text,
@@ -144,7 +90,7 @@ impl<R: Wait + Clock + Drop> ResponseBody<R> {
         ensures following { IfOk result (λ body. body.following ≡ following) }
     {
         Ok(ResponseBody {
-            first: Some(Unsent::of(first)?),
+            first: Some(Unsent::new(first)?),
             rests: false,
             following,
             sending: None,
@@ -153,7 +99,7 @@ impl<R: Wait + Clock + Drop> ResponseBody<R> {
     }
 
     /// The next piece: of the first text, and behind it the texts of a watch, each once.
-    fn poll_piece(&mut self, cx: &mut Context<'_>) -> Poll<Option<Result<Bytes, AllocError>>>
+    fn poll_piece(&mut self, cx: &mut Context<'_>) -> Poll<Option<Result<Piece, AllocError>>>
         ensures given { IfReady result (λ told. GivesNext self.old told self.new) }
         ensures text { OnPending result (text_of self.new.first ≡ text_of self.old.first) }
         ensures watch { watch_of self.new.following ≡ watch_of self.old.following }
@@ -178,13 +124,13 @@ impl<R: Wait + Clock + Drop> ResponseBody<R> {
     }
 
     /// The next piece of the first text, of which the rest is kept.
-    fn first_piece(&mut self, first: Unsent) -> Result<Bytes, AllocError>
+    fn first_piece(&mut self, first: Unsent) -> Result<Piece, AllocError>
         ensures piece { IfOk result (λ piece. piece ++ bytes_left (text_of self.new.first) ≡ first.text) }
         ensures following { self.new.following ≡ self.old.following }
     {
         let mut first = first;
         let piece = first.next_piece();
-        self.rests = !first.text.is_empty();
+        self.rests = first.len() > 0;
         self.first = if self.rests { Some(first) } else { None };
         piece
     }
@@ -195,7 +141,7 @@ impl<R: Wait + Clock + Drop> ResponseBody<R> {
         ensures following { self.new.following ≡ self.old.following }
     {
         if let Some(sending) = &self.sending
-            && sending.text.is_unique()
+            && sending.is_sent()
         {
             self.sending = None;
         }
@@ -203,34 +149,33 @@ impl<R: Wait + Clock + Drop> ResponseBody<R> {
 
     /// A text of a watch, whole. One that can't be shared ends the connection: what was taken of a watch is not given
     /// again.
-    fn watched(&mut self, taken: TakenText) -> Result<Bytes, AllocError>
+    fn watched(&mut self, taken: TakenText) -> Result<Piece, AllocError>
         ensures text { IfOk result (λ sent. sent ≡ taken.text.bytes.items) }
         ensures first { self.new.first ≡ self.old.first }
         ensures following { self.new.following ≡ self.old.following }
     {
-        let (bytes, share) = taken.into_text().into_parts();
-        let text = shared(bytes)?;
-        if let Some(share) = share {
-            self.keep(text.clone()?, share);
+        let (piece, sending) = Piece::taken(taken)?;
+        if let Some(sending) = sending {
+            self.keep(sending);
         }
-        Ok(text)
+        Ok(piece)
     }
 
-    /// Keeps a long text's share until it is sent. An earlier one is sent before it.
-    fn keep(&mut self, text: Bytes, share: Share)
+    /// Keeps a long text until it is sent. An earlier one is sent before it.
+    fn keep(&mut self, sending: Sending)
         ensures first { self.new.first ≡ self.old.first }
         ensures following { self.new.following ≡ self.old.following }
     {
-        let mut share = share;
+        let mut sending = sending;
         if let Some(earlier) = self.sending.take() {
-            share.absorb(earlier.share);
+            sending.absorb(earlier);
         }
-        self.sending = Some(Sending { text, share });
+        self.sending = Some(sending);
     }
 }
 
 impl<R: Wait + Clock + Drop> Body for ResponseBody<R> {
-    type Data = Bytes;
+    type Data = Piece;
 
     type Error = AllocError;
 
@@ -239,7 +184,7 @@ impl<R: Wait + Clock + Drop> Body for ResponseBody<R> {
     fn poll_frame(
         &mut self,
         cx: &mut Context<'_>,
-    ) -> Poll<Option<Result<Frame<Bytes>, AllocError>>> {
+    ) -> Poll<Option<Result<Frame<Piece>, AllocError>>> {
         match ready!(self.poll_piece(cx)) {
             Some(Ok(piece)) => Poll::Ready(Some(Ok(Frame::data(piece)))),
             Some(Err(e)) => Poll::Ready(Some(Err(e))),
@@ -251,10 +196,12 @@ impl<R: Wait + Clock + Drop> Body for ResponseBody<R> {
         self.first.is_none() && self.following.is_none()
     }
 
-    fn size_hint(&self) -> SizeHint {
+    fn size_hint(&self) -> SizeHint
+        ensures { exact result ≡ length_left (text_of self.now.first) (watch_of self.now.following) }
+    {
         match (&self.first, &self.following) {
             (_, Some(_)) => SizeHint::new(),
-            (Some(first), None) => SizeHint::with_exact(first.text.len() as u64),
+            (Some(first), None) => SizeHint::with_exact(first.len() as u64),
             (None, None) => SizeHint::with_exact(0),
         }
     }

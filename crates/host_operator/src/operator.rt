@@ -239,7 +239,7 @@ impl<'x, R: Wait + Clock + Files + AllocGlobal + Copy + Drop> Operator<'x, R> {
         self.shared.tenants().admit(&self.rt, new, key);
         let told = Told::new(number, allowance);
         let _ = self.told.insert(told_name, told);
-        self.show(201, name)
+        Ok(self.done(201, name, 201))
     }
 
     /// Bounds the connections of a tenant.
@@ -258,7 +258,7 @@ impl<'x, R: Wait + Clock + Files + AllocGlobal + Copy + Drop> Operator<'x, R> {
         let mut told = *told;
         let retention = retention_in(&object)?;
         let order = match retention {
-            Some(retention) => Some(StandingOrder::new(self.alloc, retention)?),
+            Some(retention) => Some(StandingOrder::new(self.alloc, told.number, retention)?),
             None => None,
         };
         if let Some(quota) = changes.quota {
@@ -284,7 +284,7 @@ impl<'x, R: Wait + Clock + Files + AllocGlobal + Copy + Drop> Operator<'x, R> {
         if let Some(place) = self.told.get_mut(name) {
             *place = told;
         }
-        self.show(200, name)
+        Ok(self.done(200, name, 204))
     }
 
     /// Removes a tenant: its segments are free, and requests for it are answered that it is not there.
@@ -298,6 +298,15 @@ impl<'x, R: Wait + Clock + Files + AllocGlobal + Copy + Drop> Operator<'x, R> {
             self.bounds.remove(told.number);
         }
         Ok(OperatorAnswer::empty(204))
+    }
+
+    /// A tenant that was added or changed. Where there is no memory for its text, the answer has another status and no text: it
+    /// is done, and no fault may be told.
+    fn done(&self, status: u16, name: &[u8], without_text: u16) -> OperatorAnswer {
+        match self.show(status, name) {
+            Ok(answer) => answer,
+            Err(_) => OperatorAnswer::empty(without_text),
+        }
     }
 
     /// A tenant and what it uses.
