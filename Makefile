@@ -2,7 +2,7 @@
 #                     proofs; CONFIG=mine.json takes another configuration
 # make build          proves and builds the server and the replay program
 # make replay         answers examples/first.script by the proved replay program
-# make test           the gate: every proof, every test, the rows and the fast scripts
+# make test           the gate: every proof, every test, the rows and the fast checks
 # make wrong-bodies   tries the wrong bodies that the gate leaves out, in a scratch clone
 # make install        the proved server, a unit for systemd, and a configuration if there is none; proves nothing
 # make uninstall      takes the server and the unit away, and leaves the configuration
@@ -23,20 +23,20 @@ installed_config = $(DESTDIR)$(SYSCONFDIR)/bikazery/host.json
 wanted = [ -x "$(1)" ] || { echo "no program $(1): make build proves and builds it" >&2; exit 1; }
 
 run:
-	@exec scripts/serve-checked "$(CONFIG)"
+	@exec tools/serve-checked "$(CONFIG)"
 
 build:
-	@scripts/prove etcd_host etcd_replay
+	@tools/prove etcd_host etcd_replay
 
 replay:
 	@$(call wanted,$(REPLAY))
 	@"$(REPLAY)" < examples/first.script
 
 test:
-	@scripts/gate
+	@tools/gate
 
 wrong-bodies:
-	@scripts/wrong-bodies
+	@tools/wrong-bodies
 
 install:
 	@$(call wanted,$(HOST))
@@ -50,4 +50,4 @@ uninstall:
 
 package:
 	@$(call wanted,$(HOST))
-	@scripts/make-package "$(HOST)"
+	@tools/make-package "$(HOST)"

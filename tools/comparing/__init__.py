@@ -1,0 +1,1 @@
+"""The parts of against-etcd: a tenant's lines asked of a real etcd."""

@@ -1,0 +1,1 @@
+"""The parts of move-tenant and of check-move."""

@@ -1,0 +1,101 @@
+"""Tests of check-server that take seconds: leases that the clock ends, and slow clients. They go beside the others.
+
+Each test is given the host, and raises `Wrong` where something is not as it is wanted.
+"""
+import time
+
+from shared.report import Wrong, want
+from shared.server_client import (KEY, PUT, READ, REFUSALS, answer_of, created_line, delete_event, done, events_line,
+                                  granted, head, header, kept_alive, path, put_event, request)
+
+
+def a_lease_ends_by_the_clock(host):
+    """A key of a lease of 4 seconds goes, and not at once; a watch is told."""
+    tenant = host.tenant()
+    with host.connect() as client, host.watch(tenant, KEY) as watch:
+        watch.expect_line(created_line(1))
+        client.expect(tenant, "lease/grant", '{"TTL":"4"}', granted(1, 4, 1))
+        started = time.monotonic()
+        client.expect(tenant, "kv/put", '{"key":"YQ==","value":"MQ==","lease":"1"}', done(2))
+        watch.expect_line(events_line([put_event("YQ==", 2, 2, "MQ==", 1, 1)], 2))
+        watch.expect_line(events_line([delete_event("YQ==", 3)], 3))
+        took = time.monotonic() - started
+        want(0.5 < took, f"it ended after {took:.1f} seconds")
+        client.expect(tenant, "kv/range", KEY, done(3))
+        client.expect(tenant, "lease/leases", "{}", done(3))
+        client.expect(tenant, "lease/keepalive", '{"ID":"1"}', answer_of(f'{{"result":{{"ID":"1",{header(3)}}}}}\n'))
+
+
+def a_lease_that_is_kept_alive_stays(host):
+    tenant = host.tenant()
+    with host.connect() as client:
+        client.expect(tenant, "lease/grant", '{"TTL":"5"}', granted(1, 5, 1))
+        client.expect(tenant, "kv/put", '{"key":"YQ==","lease":"1"}', done(2))
+        for _ in range(14):
+            time.sleep(0.5)
+            client.expect(tenant, "lease/keepalive", '{"ID":"1"}', kept_alive(1, 5, 2))
+        client.expect(tenant, "kv/range", READ, done(2))
+        time.sleep(6)
+        client.expect(tenant, "kv/range", READ, done(3))
+
+
+def one_byte_a_second_is_answered(host):
+    """A short head and a short body, each byte a second after the one before it."""
+    tenant = host.tenant()
+    with host.connect() as slow_head, host.connect() as slow_body:
+        slow_body.send(head(path(tenant, "kv/put"), [f"content-length: {len(KEY)}"]))
+        bare = b"POST / HTTP/1.0\r\n\r\n"
+        for number in range(max(len(bare), len(KEY))):
+            slow_head.send(bare[number:number + 1])
+            slow_body.send(KEY[number:number + 1].encode())
+            time.sleep(1)
+        slow_body.answer().check(done(2))
+        answer = slow_head.answer()
+        want((answer.status, answer.body) == REFUSALS["NoPath"], f"{answer}")
+
+
+def let_go_after(client, started, drip=b""):
+    """Waits until the server closes, and sends a byte each second meanwhile."""
+    while True:
+        try:
+            if drip:
+                client.send(drip)
+            client.rest(1)
+            break
+        except Wrong:
+            want(time.monotonic() - started < 40, "is still open after 40 seconds")
+        except OSError:
+            break
+    took = time.monotonic() - started
+    want(20 < took, f"is let go after {took:.1f} seconds")
+
+
+def a_connection_on_which_nothing_comes_is_let_go(host):
+    with host.connect() as client:
+        let_go_after(client, time.monotonic())
+
+
+def half_a_head_is_let_go(host):
+    tenant = host.tenant()
+    with host.connect() as client:
+        client.send(request(path(tenant, "kv/put"), PUT)[:30])
+        let_go_after(client, time.monotonic())
+
+
+def a_head_without_an_end_is_let_go(host):
+    tenant = host.tenant()
+    with host.connect() as client:
+        client.send(head(path(tenant, "kv/put"))[:-2] + b"x: ")
+        let_go_after(client, time.monotonic(), b"y")
+
+
+def an_idle_connection_is_let_go(host):
+    tenant = host.tenant()
+    with host.connect() as client:
+        client.expect(tenant, "kv/put", PUT, done(2))
+        let_go_after(client, time.monotonic())
+
+
+SLOW = [a_lease_ends_by_the_clock, a_lease_that_is_kept_alive_stays, one_byte_a_second_is_answered,
+        a_connection_on_which_nothing_comes_is_let_go, half_a_head_is_let_go, a_head_without_an_end_is_let_go,
+        an_idle_connection_is_let_go]
