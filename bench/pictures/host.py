@@ -8,7 +8,8 @@ import re
 from typing import NamedTuple
 
 from pictures.svg import CODE, FAINT, INK, PAPER, Drawing
-from pictures.tables import TOP, NotThere
+from pictures.tables import NotThere
+from shared.places import TOP
 
 TITLE = "A put through the server"
 THREADS, LOCKED, POOL = "#eef4fa", "#fbf3e8", "#eef6f1"

@@ -3,7 +3,8 @@ import os
 import re
 from typing import NamedTuple
 
-TOP = os.path.dirname(os.path.dirname(os.path.dirname(os.path.abspath(__file__))))
+from shared.places import TOP
+
 PERFORMANCE = os.path.join(TOP, "docs", "PERFORMANCE.md")
 NUMBER = r"(\d[\d,]*(?:\.\d+)?)"
 

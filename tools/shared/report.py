@@ -1,4 +1,5 @@
-"""What commands tell: what is wrong, and of measurements numbers out of many and tables of them."""
+"""What commands tell: what is wrong, how many tests passed, and of measurements numbers out of many and tables of them."""
+import subprocess
 from statistics import median
 
 
@@ -9,6 +10,30 @@ class Wrong(Exception):
 def want(good, what):
     if not good:
         raise Wrong(what)
+
+
+def fault_of(test, *given):
+    """What a test finds wrong, or nothing."""
+    try:
+        test(*given)
+    except (Wrong, OSError, ValueError, LookupError, TypeError, subprocess.SubprocessError) as fault:
+        return str(fault) if isinstance(fault, Wrong) else f"{type(fault).__name__}: {fault}"
+    return None
+
+
+def name_of(test):
+    return test.__name__.replace("_", " ")
+
+
+def tell(results):
+    """Prints what is wrong, of each test its name and its fault, and then the last line. It gives the status."""
+    passed = failed = 0
+    for name, fault in results:
+        if fault:
+            print(f"{name}: {fault}", flush=True)
+        passed, failed = passed + (not fault), failed + bool(fault)
+    print(f"{passed} passed, {failed} failed")
+    return 1 if failed or not passed else 0
 
 
 def spread(numbers, form):
