@@ -1,6 +1,5 @@
 """The replay program's resident memory: one full tenant, and many small ones."""
 from growing.tenant import KEY_CELLS, QUOTA, Asked, Lines, Tenant, call, in_use, key, opening, put_body
-from shared.process import memory
 from shared.report import table
 
 KEYS = QUOTA // KEY_CELLS
@@ -9,7 +8,7 @@ SMALL_KEYS = SMALL_QUOTA // KEY_CELLS
 
 
 def resident(program):
-    return memory(program.child.pid)["now"]
+    return program.memory()["now"]
 
 
 def full_tenant(path):

@@ -99,7 +99,7 @@ class Lines(Program):
         for one, answer in zip(asked, answers):
             if not answer.startswith((b"200 ", b"ok")) or one.part not in answer or answer.count(b'"key":') != one.rows:
                 told = f"wanted {one.rows} rows and {one.part.decode()}"
-                raise Wrong(f"{self.path}: {one.line[:200]!r} was answered {answer[:400]!r}, {told}")
+                raise Wrong(f"{self.who}: {one.line[:200]!r} was answered {answer[:400]!r}, {told}")
         return seconds
 
     def ask_all(self, asked):
@@ -180,6 +180,6 @@ class Tenant(Lines):
         """The seconds of processor that one work takes, each of which is some lines."""
         once = self.ask(list(chain(*islice(works, TRIED)))) / TRIED
         if not once:
-            raise Wrong(f"{self.path}: no processor time was used, so the work is another program's")
+            raise Wrong(f"{self.who}: no processor time was used, so the work is another program's")
         some = list(islice(works, max(LEAST, min(MOST, int(SECONDS / once)))))
         return self.ask(list(chain(*some))) / len(some)

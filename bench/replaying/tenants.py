@@ -1,7 +1,6 @@
 """The same number of lines, spread in turn over 1, 16 and 256 tenants of one pool."""
 import statistics
 
-from shared.process import processor_seconds
 from shared.report import Wrong
 from shared.script import SEGMENT_CELLS, Program
 
@@ -23,7 +22,7 @@ class Host(Program):
         adds = b"".join(b"add %s 7 %d 1\n" % (name, quota) for name in self.names)
         answers, _ = self.lines(b"pool %d\n" % segments + adds, 1 + tenants)
         if answers != [b"ok"] * (1 + tenants):
-            raise Wrong(f"{self.path}: adding {tenants} tenants was not answered ok")
+            raise Wrong(f"{self.who}: adding {tenants} tenants was not answered ok")
         self.spread("put", KEYS * tenants, ',"value":"dmFsdWU="')
 
     def spread(self, call, count, more=""):
@@ -34,11 +33,11 @@ class Host(Program):
             % (self.names[at % tenants], call.encode(), (KEY % (at // tenants % KEYS)).encode(), more.encode())
             for at in range(count)
         )
-        before = processor_seconds(self.child.pid)
+        before = self.processor()
         answers, seconds = self.lines(script, count)
         if not all(answer.startswith(b"200 ") for answer in answers):
-            raise Wrong(f"{self.path}: one of {count} calls of {tenants} tenants was not answered 200")
-        return seconds, processor_seconds(self.child.pid) - before
+            raise Wrong(f"{self.who}: one of {count} calls of {tenants} tenants was not answered 200")
+        return seconds, self.processor() - before
 
 
 def run(program, tenants, count):

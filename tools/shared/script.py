@@ -1,70 +1,75 @@
-"""The replay program, driven by a script in a pipe."""
-import select
+"""The replay program and others that answer each line of a script: fed line by line, or a whole script at once."""
 import subprocess
 import threading
 import time
 
-from shared.process import memory, processor_seconds
-from shared.report import Wrong
+from shared.places import REPLAY_PROGRAM
+from shared.process import Process
+from shared.report import Wrong, want
 
 PATIENCE = 60
 # Cells of a segment of the pool.
 SEGMENT_CELLS = 64
 
 
-class Program:
-    """A program that answers each line of its standard input by a line; `cat` is one, too."""
+def run_script(script, seconds=PATIENCE, path=REPLAY_PROGRAM, **how):
+    """What the replay program makes of a whole script: its status, and what it printed."""
+    return subprocess.run([path], input=script, capture_output=True, timeout=seconds, check=False, **how)
 
-    def __init__(self, path):
-        self.path = path
-        self.child = subprocess.Popen([path], stdin=subprocess.PIPE, stdout=subprocess.PIPE, bufsize=0)
 
-    def __enter__(self):
-        return self
+class Program(Process):
+    """A program that answers each line of its standard input by a line, within so many seconds; `cat` is one, too."""
 
-    def __exit__(self, *_):
-        self.child.kill()
-        self.child.wait()
-        self.child.stdin.close()
-        self.child.stdout.close()
+    def __init__(self, path=REPLAY_PROGRAM, seconds=PATIENCE, **how):
+        self.who, self.seconds = path, seconds
+        super().__init__([path], **{"stdin": subprocess.PIPE, "stdout": subprocess.PIPE, "bufsize": 0, **how})
 
     def feed(self, script):
+        left = memoryview(script)
+        while left:
+            left = left[self.stdin.write(left) :]
+
+    def feed_to_reader(self, script):
+        """Feeds what another thread reads the answers of: that one sees their end, and tells."""
         try:
-            left = memoryview(script)
-            while left:
-                left = left[self.child.stdin.write(left) :]
+            self.feed(script)
         except BrokenPipeError:
-            # The reader sees the end of the answers, and tells.
             pass
 
-    def piece(self):
-        if not select.select([self.child.stdout], [], [], PATIENCE)[0]:
-            raise Wrong(f"{self.path}: no answer within {PATIENCE} seconds")
-        piece = self.child.stdout.read(1 << 16)
-        if not piece:
-            raise Wrong(f"{self.path}: ended with status {self.child.wait()} before the end of its script")
-        return piece
+    def ask(self, line):
+        """The answer to one line, both with their newlines."""
+        self.feed(line)
+        answer = self.line(self.seconds)
+        want(answer.endswith(b"\n"), f"{self.who}: ended before it answered {line[:100]!r}, behind {answer[:100]!r}")
+        return answer
 
     def lines(self, script, count):
         """Feeds `count` lines, and gives back as many answer lines and the seconds until the last one came."""
         pieces, wanted = [], count
-        feeder = threading.Thread(target=self.feed, args=(script,), daemon=True)
+        feeder = threading.Thread(target=self.feed_to_reader, args=(script,), daemon=True)
         started = time.perf_counter()
         feeder.start()
         while wanted > 0:
-            pieces.append(self.piece())
-            wanted -= pieces[-1].count(b"\n")
+            piece = self.piece(self.seconds)
+            if not piece:
+                raise Wrong(f"{self.who}: ended with status {self.child.wait()} before the end of its script")
+            pieces.append(piece)
+            wanted -= piece.count(b"\n")
         seconds = time.perf_counter() - started
         feeder.join()
         return b"".join(pieces).split(b"\n")[:-1], seconds
 
+    def close(self):
+        """No line follows."""
+        self.stdin.close()
+
     def end(self):
         """Ends the script: the program ends by itself, with status 0."""
-        self.child.stdin.close()
-        while self.child.stdout.read(1 << 16):
+        self.close()
+        while self.piece(self.seconds):
             pass
-        if self.child.wait() != 0:
-            raise Wrong(f"{self.path}: status {self.child.returncode} at the end of its script")
+        status = self.wait(self.seconds)
+        want(status == 0, f"{self.who}: status {status} at the end of its script")
 
 
 class Replay(Program):
@@ -75,7 +80,7 @@ class Replay(Program):
         segments = -(-quota // SEGMENT_CELLS)
         answers, _ = self.lines(b"pool %d\nadd one 7 %d %d\n" % (segments, quota, first), 2)
         if answers != [b"ok", b"ok"]:
-            raise Wrong(f"{self.path}: adding a tenant of {quota} cells was answered {answers!r}")
+            raise Wrong(f"{self.who}: adding a tenant of {quota} cells was answered {answers!r}")
 
     @staticmethod
     def script(calls):
@@ -85,9 +90,3 @@ class Replay(Program):
         """Makes the calls. Gives back a status and a body for each, and the seconds that they took."""
         answers, seconds = self.lines(self.script(calls), len(calls))
         return [(int(answer[:3]) if answer[:3].isdigit() else 0, answer[4:]) for answer in answers], seconds
-
-    def processor(self):
-        return processor_seconds(self.child.pid)
-
-    def memory(self):
-        return memory(self.child.pid)
