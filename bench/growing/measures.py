@@ -96,6 +96,6 @@ def measured(path, keys, state):
         tenant.fill()
         for name, works in MEASURES.items():
             times[name] = tenant.time_of(works(tenant))
-            tenant.look()
+            tenant.check_cells()
         tenant.end()
     return times

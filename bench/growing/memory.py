@@ -21,10 +21,10 @@ def full_tenant(path):
         tenant.open()
         yield "one tenant, empty", resident(tenant), QUOTA
         tenant.ask_all(tenant.put(key(number)) for number in tenant.order)
-        tenant.look()
+        tenant.check_cells()
         yield f"one tenant, full with {KEYS:,} keys", resident(tenant), QUOTA
         tenant.ask_all(tenant.delete(key(number)) for number in tenant.scattered())
-        tenant.look()
+        tenant.check_cells()
         yield "the same, all deleted and kept", resident(tenant), QUOTA
         tenant.end()
 

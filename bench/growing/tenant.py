@@ -170,9 +170,9 @@ class Tenant(Lines):
         self.ask_all(self.history())
         if self.cells != cells(self.keys, self.state):
             raise Wrong(f"{self.keys} {self.state} took {self.cells} cells, not {cells(self.keys, self.state)}")
-        self.look()
+        self.check_cells()
 
-    def look(self):
+    def check_cells(self):
         """The tenant has as many cells in use as were counted here."""
         self.ask([in_use(self.cells)])
 

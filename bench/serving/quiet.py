@@ -6,10 +6,8 @@ import time
 from statistics import median
 from typing import NamedTuple
 
-from shared.calls import body_of
-from shared.http_client import Connection, Watch
+from shared.http_client import Connection, Watch, body_of, read_response, text
 from shared.load import LARGE_ROWS, REST, compacted, key, large, put, reads
-from shared.process import memory
 from shared.report import Wrong, part, spread, table
 
 FLOOD = 32
@@ -61,16 +59,17 @@ def quiet_reads(places, seconds):
     calls = [(call, body_of(body)) for call, body in reads()]
     times = [[] for _ in places]
     with contextlib.ExitStack() as stack:
-        connections = [stack.enter_context(Connection(place)) for place in places]
+        connections = [stack.enter_context(Connection(place.port)) for place in places]
         first = time.perf_counter()
         for number in itertools.count(1):
-            for connection, found in zip(connections, times):
-                message = connection.place.message(*calls[number % len(calls)])
+            for place, connection, found in zip(places, connections, times):
+                message = place.message(*calls[number % len(calls)])
                 started = time.perf_counter()
-                status, _ = connection.ask(message)
+                response = connection.ask(message)
                 found.append(time.perf_counter() - started)
+                status, _ = read_response(response)
                 if status != 200:
-                    raise Wrong(f"{connection.place.who}: a quiet read was answered {status}")
+                    raise Wrong(f"{place.who}: a quiet read was answered {status}")
             if (now := time.perf_counter()) > first + seconds:
                 return times
             time.sleep(max(0, first + number / PACE - now))
@@ -84,12 +83,12 @@ def one_reading(bench, quiet, flooded, work, rest):
         return Reading(times, beside, 0, 0, idle.processors())
     with contextlib.ExitStack() as stack:
         told = stack.enter_context(compacted(flooded)) if flooded.who == "ours" else [0, 0]
-        child = stack.enter_context(bench.wrk.running(flooded, work, FLOOD, bench.seconds + AROUND, rest))
+        running = stack.enter_context(bench.wrk.running(flooded, work, FLOOD, bench.seconds + AROUND, rest))
         time.sleep(BEFORE)
         idle = Idle()
         times, *beside = quiet_reads([place for place in quiet if place != flooded], bench.seconds)
         processors = idle.processors()
-        load = bench.wrk.finish(child, f"{flooded.who}, a flood of {work}")
+        load = bench.wrk.finish(running, f"{flooded.who}, a flood of {work}")
         time.sleep(AFTER)
         return Reading(times, beside, load.rate(), told[1], processors)
 
@@ -97,7 +96,7 @@ def one_reading(bench, quiet, flooded, work, rest):
 def job_times(place, message):
     """The seconds of one call at a time, on a server with nothing else to do."""
     times = []
-    with Connection(place) as connection:
+    with Connection(place.port) as connection:
         for _ in range(JOBS):
             started = time.perf_counter()
             connection.ask(message)
@@ -150,13 +149,13 @@ def measure_memory(bench, ours, minutes):
     found, refused = [], 0
     with compacted(ours.place):
         for _ in range(minutes * MINUTE // SAMPLE):
-            with bench.wrk.running(ours.place, "mixed", MIXED, SAMPLE) as child:
+            with bench.wrk.running(ours.place, "mixed", MIXED, SAMPLE) as running:
                 for second in range(1, SAMPLE):
-                    with Watch(ours.place, key(second)) as watch:
-                        refused += watch.status != 200
+                    with Watch(ours.port, ours.place.watch_message({"key": text(key(second))})) as watch:
+                        refused += bool(watch.refused)
                         time.sleep(1)
-                found.append(memory(ours.child.pid)["now"])
-                bench.wrk.finish(child, "ours, mixed load")
+                found.append(ours.memory()["now"])
+                bench.wrk.finish(running, "ours, mixed load")
             ours.look()
     if refused:
         bench.wrk.faults.append(f"ours, mixed load: {refused} watches were refused")

@@ -5,9 +5,10 @@ import time
 from statistics import median
 from typing import NamedTuple
 
-from shared.http_client import PATIENCE, Connection, Watch
+from shared.http_client import SECONDS
 from shared.load import put, watched
 from shared.report import Wrong, part, spread, table
+from shared.store_calls import Client, CountedWatch
 
 WATCHERS = [1, 64]
 # Connections that put, for so many seconds at a time: the watchers come to the end of it before the next.
@@ -30,12 +31,12 @@ def opened(place):
     """A watch of the key. A slot may still be held by a watch whose connection was closed, for a while."""
     end = time.monotonic() + OPENING
     while True:
-        watch = Watch(place, KEY)
-        if watch.status == 200:
+        watch = CountedWatch(place, KEY)
+        if not watch.refused:
             return watch
-        watch.socket.close()
+        watch.close()
         if time.monotonic() > end:
-            raise Wrong(f"{place.who}: a watch was refused with {watch.status} for {OPENING} seconds")
+            raise Wrong(f"{place.who}: a watch was refused with {watch.refused.status} for {OPENING} seconds")
         time.sleep(0.05)
 
 
@@ -54,13 +55,13 @@ class Watchers:
 
     def until(self, wanted):
         """Reads until each was told of a revision."""
-        end = time.monotonic() + PATIENCE
+        end = time.monotonic() + SECONDS
         while behind := [watch for watch in self.all if watch.last < wanted]:
             if time.monotonic() > end:
                 late = f"{len(behind)} of {len(self.all)} watches are behind revision {wanted}"
-                raise Wrong(f"{self.who}: after {PATIENCE} seconds {late}, at {min(one.last for one in behind)}")
+                raise Wrong(f"{self.who}: after {SECONDS} seconds {late}, at {min(one.last for one in behind)}")
             for watch in self.ready(1):
-                watch.take()
+                watch.take_in()
 
 
 def one_slice(bench, place, asking, watchers):
@@ -68,18 +69,18 @@ def one_slice(bench, place, asking, watchers):
     begin = asking.revision()
     watchers.until(begin)
     asking.compact(begin)
-    before = [(watch.events, watch.last) for watch in watchers.all]
+    before = [(watch.count, watch.last) for watch in watchers.all]
     started = time.perf_counter()
-    with bench.wrk.running(place, "watched", WRITERS, SLICE) as child:
-        while child.poll() is None:
+    with bench.wrk.running(place, "watched", WRITERS, SLICE) as running:
+        while running.child.poll() is None:
             for watch in watchers.ready(0.02):
-                watch.take()
-        bench.wrk.finish(child, f"{place.who}, puts before {len(watchers.all)} watchers")
+                watch.take_in()
+        bench.wrk.finish(running, f"{place.who}, puts before {len(watchers.all)} watchers")
     watchers.until(asking.revision())
     took = time.perf_counter() - started
     for watch, (events, last) in zip(watchers.all, before):
-        if watch.events - events != watch.last - last:
-            told = f"{watch.events - events:,} events of {watch.last - last:,} revisions"
+        if watch.count - events != watch.last - last:
+            told = f"{watch.count - events:,} events of {watch.last - last:,} revisions"
             raise Wrong(f"{place.who}: a watch was told {told}")
     return watchers.all[0].last - begin, took
 
@@ -88,17 +89,17 @@ def delays(place, watchers):
     """The seconds from a put's answer to the event at each watcher."""
     call, body = put(KEY)
     found = []
-    with Connection(place) as writer:
+    with Client(place) as writer:
         for _ in range(LATE_PUTS):
-            revision = int(writer.call(call, body)["header"]["revision"])
+            revision = int(writer.make(call, body)["header"]["revision"])
             answered = time.perf_counter()
             behind = [watch for watch in watchers.all if watch.last < revision]
             while behind:
-                chosen, now = watchers.ready(PATIENCE), time.perf_counter()
+                chosen, now = watchers.ready(SECONDS), time.perf_counter()
                 if not chosen:
-                    raise Wrong(f"{place.who}: no event of a put within {PATIENCE} seconds")
+                    raise Wrong(f"{place.who}: no event of a put within {SECONDS} seconds")
                 for watch in chosen:
-                    watch.take()
+                    watch.take_in()
                 found += [now - answered for watch in behind if watch.last >= revision]
                 behind = [watch for watch in behind if watch.last < revision]
             time.sleep(REST)
@@ -107,8 +108,8 @@ def delays(place, watchers):
 
 def one_reading(bench, program, count):
     with contextlib.ExitStack() as stack:
-        asking = stack.enter_context(Connection(program.place))
-        asking.call(*watched()[0])
+        asking = stack.enter_context(Client(program.place))
+        asking.make(*watched()[0])
         watchers = Watchers(program.place, count, stack)
         late = delays(program.place, watchers)
         events, puts, took, client = 0, 0, 0.0, time.process_time()

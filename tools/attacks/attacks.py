@@ -9,14 +9,13 @@ import time
 from typing import Callable, NamedTuple
 
 from attacks.crowd import NARROW, Crowd
-from attacks.host import WATCHES
-from shared.calls import body_of, text_of
-from shared.http_client import Connection
+from shared.http_client import body_of, text
 from shared.load import fill, key, put, ranges
 from shared.report import Wrong
+from shared.store_calls import Client
+from shared.wanted import LARGEST_BODY, WATCHES
 
-LARGEST_BODY = 2_097_152
-ALL = {"key": text_of(b"\0"), "range_end": text_of(b"\0")}
+ALL = {"key": text(b"\0"), "range_end": text(b"\0")}
 # Values whose puts have almost as many bytes as a body may have.
 LARGE_VALUE, LARGE_ROWS, FEW_ROWS = 1_400_000, 10, 2
 TXN_PUTS = 128
@@ -29,7 +28,7 @@ DEPTH = 125
 
 
 def put_value(name, value):
-    return "kv/put", {"key": text_of(name), "value": text_of(value)}
+    return "kv/put", {"key": text(name), "value": text(value)}
 
 
 # What the tenant has before.
@@ -41,24 +40,24 @@ def nothing(place, count):
 
 def large_rows(place, count):
     """Rows of 14 MB together."""
-    with Connection(place) as connection:
+    with Client(place) as client:
         for number in range(LARGE_ROWS):
-            connection.call(*put_value(b"large/%d" % number, b"v" * LARGE_VALUE))
+            client.make(*put_value(b"large/%d" % number, b"v" * LARGE_VALUE))
 
 
 def few_large_rows(place, count):
     """Rows of 3 MB together."""
-    with Connection(place) as connection:
+    with Client(place) as client:
         for number in range(FEW_ROWS):
-            connection.call(*put_value(b"large/%d" % number, b"v" * LARGE_VALUE))
+            client.make(*put_value(b"large/%d" % number, b"v" * LARGE_VALUE))
 
 
 def many_changes(place, count):
     """So many changes, of a few keys."""
     puts = [{"request_put": put(key(number))[1]} for number in range(TXN_PUTS)]
-    with Connection(place) as connection:
+    with Client(place) as client:
         for _ in range(count // TXN_PUTS):
-            connection.call("kv/txn", {"success": puts})
+            client.make("kv/txn", {"success": puts})
 
 
 def small_rows(place, count):
@@ -74,7 +73,7 @@ def range_message(place, members):
 
 
 def watch_message(place, members):
-    return place.message("watch", body_of({"create_request": {**members, "start_revision": "1"}}))
+    return place.watch_message({**members, "start_revision": "1"})
 
 
 def one_large_answer(crowd, count):
@@ -128,14 +127,14 @@ def costly_bodies(crowd, count):
 def late_watches(crowd, count):
     """As many watches as there may be, from the first change on, of a key that none of the changes has."""
     for _ in range(WATCHES):
-        crowd.enter(watch_message(crowd.place, {"key": text_of(b"unchanged")}))
+        crowd.enter(watch_message(crowd.place, {"key": text(b"unchanged")}))
     crowd.read_on()
     return f"{crowd.reached()} watches, {count:,} changes"
 
 
 def new_connections(crowd, count):
     """So many a second, each with a read whose answer nobody waits for."""
-    message = range_message(crowd.place, {"key": text_of(b"none")})
+    message = range_message(crowd.place, {"key": text(b"none")})
     began, young = time.monotonic(), collections.deque()
     while crowd.goes_on():
         while len(crowd.all) < (time.monotonic() - began) * count:
@@ -159,7 +158,7 @@ def idle_connections(crowd, count):
 
 
 def dripping_heads(crowd, count):
-    message = range_message(crowd.place, {"key": text_of(b"none")})
+    message = range_message(crowd.place, {"key": text(b"none")})
     for _ in range(count):
         crowd.enter(message)
     crowd.drip(DRIP)

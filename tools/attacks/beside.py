@@ -4,10 +4,10 @@ import json
 import time
 from typing import NamedTuple
 
-from shared.calls import body_of
-from shared.http_client import Connection, Watch
+from shared.http_client import Connection, body_of, read_response
 from shared.load import fill, put, ranges
 from shared.report import Wrong
+from shared.store_calls import Client, CountedWatch
 
 KEY = b"watched"
 # Rounds a second.
@@ -30,29 +30,30 @@ class Neighbour(contextlib.ExitStack):
     def __init__(self, place, fixed=None):
         super().__init__()
         fill(place, rows=0)
-        self.putting, self.reading = (self.enter_context(Connection(place)) for _ in range(2))
-        self.watch = self.enter_context(Watch(place, KEY))
-        if self.watch.status != 200:
-            raise Wrong(f"another tenant's watch is answered {self.watch.status}")
+        self.putting, self.reading = (self.enter_context(Client(place)) for _ in range(2))
+        self.watch = self.enter_context(CountedWatch(place, KEY))
+        if self.watch.refused:
+            raise Wrong(f"another tenant's watch is answered {self.watch.refused.status}")
         self.put, self.range = (place.message(call, body_of(body)) for call, body in [put(KEY), ranges()[0]])
         self.revision, self.rows = self.putting.revision(), None
-        self.asking = self.enter_context(Connection(fixed)) if fixed else None
+        self.asking = self.enter_context(Connection(fixed.port)) if fixed else None
         self.asked = fixed.message("kv/put", b"{}") if fixed else None
 
     def answer(self, connection, message):
         """An answer as it is read, and the seconds that it took."""
         began = time.perf_counter()
-        status, body = connection.ask(message)
+        response = connection.ask(message)
         took = time.perf_counter() - began
+        status, body = read_response(response)
         if status != 200:
-            raise Wrong(f"it is answered {status} {body[:200]!r}")
+            raise Wrong(f"it is answered {status} {bytes(body[:200])!r}")
         return json.loads(body), took
 
     def event(self):
         """The seconds until the last put's event has come."""
         began = time.perf_counter()
         while self.watch.last < self.revision:
-            self.watch.take()
+            self.watch.take_in()
         return time.perf_counter() - began
 
     def round(self, times):

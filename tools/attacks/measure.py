@@ -5,8 +5,9 @@ import time
 from typing import NamedTuple
 
 from attacks.beside import Neighbour, Times
-from attacks.host import WATCHES, Held, Host
+from attacks.host import Held, Host
 from shared.report import Wrong
+from shared.wanted import WATCHES
 
 # What an attack may take beyond its seconds, and when afterwards it is looked at what is left.
 PATIENCE, AFTER, LOOK = 20, 1, 0.05

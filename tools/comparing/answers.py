@@ -3,7 +3,6 @@ import base64
 import json
 from typing import NamedTuple
 
-PATIENCE = 60
 SHOWN = 160
 ALARM, GRANT, STATUS, WATCH = "maintenance/alarm", "lease/grant", "maintenance/status", "watch"
 LEASES, KEEPALIVE = "lease/leases", "lease/keepalive"

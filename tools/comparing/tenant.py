@@ -1,15 +1,15 @@
 """A tenant of against-etcd: an etcd in its place, with the calls, watches and seconds that both have had."""
-import http.client
 import itertools
 import json
 import re
 import tempfile
 import time
 
-from comparing.answers import (ALARM, ENDED, GRANT, KEEPALIVE, LEASES, PATIENCE, QUIET, REVOKES, STATUS, TIMES_TO_LIVE,
-                               WATCH, Answer, Left, plainly, read_answer, same_effect, to_the_second)
+from comparing.answers import (ALARM, ENDED, GRANT, KEEPALIVE, LEASES, QUIET, REVOKES, STATUS, TIMES_TO_LIVE, WATCH,
+                               Answer, Left, plainly, read_answer, same_effect, to_the_second)
 from comparing.watch import Watch
 from shared.etcd import Etcd
+from shared.http_client import Connection, Ended, request
 
 NO_SPACE = "etcdserver: mvcc: database space exceeded"
 # These change nothing that is compared.
@@ -104,15 +104,13 @@ class Tenant:
         self.leases.wait(seconds)
 
     def ask(self, method, call, body):
-        connection = http.client.HTTPConnection("127.0.0.1", self.etcd.port, timeout=PATIENCE)
-        try:
-            connection.request(method, "/v3/" + call, body)
-            response = connection.getresponse()
-            return read_answer(response.status, response.read())
-        except http.client.RemoteDisconnected:
-            return ENDED
-        finally:
-            connection.close()
+        with Connection(self.etcd.port) as connection:
+            connection.send(request("/v3/" + call, body, method=method))
+            try:
+                told = connection.answer(method)
+            except Ended:
+                return ENDED
+            return read_answer(told.status, told.body)
 
     def answer(self, line):
         """etcd's answer to a line, asked where both have the same state."""

@@ -2,11 +2,11 @@
 import json
 import math
 import re
-import select
-import socket
+import time
 from typing import NamedTuple
 
-from comparing.answers import ENDED, PATIENCE, QUIET, SILENT, Answer, read_answer
+from comparing.answers import ENDED, QUIET, SILENT, Answer, read_answer
+from shared.http_client import HEAD_END, SECONDS, Connection, request
 
 # etcd brings a watch from the past up to date each tenth of a second.
 QUIET_SECONDS = 0.3
@@ -17,42 +17,40 @@ REVISIONS = 16
 FIRST_LINE = re.compile(rb"\r\n\r\n[^\n]+\n")
 
 
-class Stream:
+class Stream(Connection):
     """A call of /v3/watch that stays open. It is made by HTTP/1.0, so that its answer has no chunks."""
 
     def __init__(self, port, body):
-        self.data, self.has_ended = b"", False
-        self.socket = socket.create_connection(("127.0.0.1", port), timeout=PATIENCE)
-        self.socket.sendall(b"POST /v3/watch HTTP/1.0\r\nContent-Length: %d\r\n\r\n%s" % (len(body), body))
+        super().__init__(port)
+        self.has_ended = False
+        self.send(request("/v3/watch", body, version="HTTP/1.0"))
 
     def close(self):
-        self.socket.close()
+        super().close()
         self.has_ended = True
 
     def read_some(self, seconds):
         """Whether something came within so many seconds."""
-        if self.has_ended or not select.select([self.socket], [], [], seconds)[0]:
+        if self.has_ended or not self.comes(seconds):
             return False
-        piece = self.socket.recv(1 << 16)
-        self.has_ended = not piece
-        self.data += piece
-        return bool(piece)
+        self.has_ended = not self.more(time.monotonic() + SECONDS)
+        return not self.has_ended
 
     def first(self):
         """The first line of the answer, or all of one that has no lines."""
-        while not FIRST_LINE.search(self.data) and self.read_some(SILENT_SECONDS):
+        while not FIRST_LINE.search(self.got) and self.read_some(SILENT_SECONDS):
             pass
-        if not self.data:
+        if not self.got:
             return ENDED if self.has_ended else SILENT
-        head, _, rest = self.data.partition(b"\r\n\r\n")
-        line, _, self.data = rest.partition(b"\n")
+        head, _, rest = self.got.partition(HEAD_END)
+        line, _, self.got = rest.partition(b"\n")
         return read_answer(int(head.split(b" ", 2)[1]), line)
 
     def lines(self, seconds):
         """What else has come, read until nothing comes for so many seconds: the values of `result`."""
         while self.read_some(seconds):
             pass
-        *lines, self.data = self.data.split(b"\n")
+        *lines, self.got = self.got.split(b"\n")
         return [json.loads(line)["result"] for line in lines if line]
 
 

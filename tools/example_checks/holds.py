@@ -8,8 +8,9 @@ import threading
 import time
 
 from example_checks.stage import wait_until, want_open_watches
+from shared.http_client import text
 from shared.report import want
-from shared.server_client import WATCHES, text
+from shared.wanted import WATCHES
 
 from gateway import Gateway
 from keys import interval
@@ -22,7 +23,7 @@ LATE = 2
 
 def seen_after(run, moment, seconds):
     """The last line of a program came within so many seconds after a moment."""
-    want(run.moment - moment <= seconds, f"{run.name}: {run.moment - moment:.1f} seconds, wanted {seconds}")
+    want(run.moment - moment <= seconds, f"{run.who}: {run.moment - moment:.1f} seconds, wanted {seconds}")
 
 
 def history(gateway, key):
@@ -108,7 +109,7 @@ def a_registration_at_a_new_host(stage):
     relay.mend(host.port)
     one.number_after("registered", 10)
     want(lease_of(Gateway(stage.url(host.port)), b"services/1") != other, "another's lease")
-    told = discovery.line(10)
+    told = discovery.told_line(10)
     # It comes back before or after the service does.
     want(told in {"down services/1", "up services/1 here"}, f"told {told!r}")
     if told.startswith("down"):

@@ -9,8 +9,8 @@ import time
 
 from example_checks.stage import wait_until, want_open_watches
 from shared.report import want
-from shared.server_client import (REFUSALS, WATCHES, cancel_line, created_line, delete_event, done, events_line, found,
-                                  put_event, row)
+from shared.wanted import (REFUSALS, WATCHES, cancel_line, created_line, delete_event, done, events_line, found,
+                           put_event, row)
 
 import pages as pages_module
 from configuration import Followed
@@ -148,7 +148,7 @@ def end_without_a_tenant(stage, arguments):
     runs = [stage.run(name, url, *more) for name, more in arguments.items()]
     for run in runs:
         run.expect_end(1, 10)
-        want("no such tenant" in run.told_errors(), f"{run.name} tells {run.told_errors()}")
+        want(b"no such tenant" in run.told_errors(), f"{run.who} tells {run.told_errors()[-600:]}")
 
 
 def programs_without_a_tenant(stage):
@@ -192,9 +192,9 @@ def a_configuration_survives_a_cut(stage):
             gateway.call("kv/put", key=b"app/a", value=b"%d" % number)
         run.expect_quiet(0.3)
         relay.mend()
-        told = [run.line(6)]
+        told = [run.told_line(6)]
         while told[-1] != f"revision {revision + 19}":
-            told.append(run.line(6))
+            told.append(run.told_line(6))
         puts = [f"put app/a {number}" for number in range(revision, revision + 20)]
         want([line for line in told if line.startswith("put")] == puts, f"after a cut: {told}")
     want(len(relay.moments_of("kv/range")) == 1, "a range though nothing was compacted")
@@ -381,12 +381,12 @@ def put_get_by_curl(stage):
         key = f'key "{number}'
         run = stage.run("put_get.sh", stage.url(), key, value)
         told = "\n".join(run.rest())
-        want(told == value.rstrip("\n"), f"told {told[:99]!r}, wanted {value[:99]!r}: {run.told_errors()}")
+        want(told == value.rstrip("\n"), f"told {told[:99]!r}, wanted {value[:99]!r}: {run.told_errors()[-600:]}")
         stored, = gateway.call("kv/range", key=key.encode())["kvs"]
         want(stored["value"] == value.encode(), f"stored {stored}")
     refused = stage.run("put_get.sh", stage.url(), "", "1")
     refused.expect_end(1)
-    want(REFUSALS["NoKey"][1].decode() in refused.told_errors(), f"a refusal: {refused.told_errors()}")
+    want(REFUSALS["NoKey"][1] in refused.told_errors(), f"a refusal: {refused.told_errors()[-600:]}")
 
 
 def watch_by_curl(stage):

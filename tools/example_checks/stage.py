@@ -8,13 +8,15 @@ import signal
 import socket
 import subprocess
 import sys
-import tempfile
 import threading
 import time
 
+from shared.http_client import SECONDS, chunk
 from shared.places import TOP
+from shared.process import Process
 from shared.report import want
-from shared.server_client import SECONDS, WATCHES, Server, chunk, configuration, tenant_of
+from shared.server import Server, configuration, tenant_of
+from shared.wanted import WATCHES
 
 CLIENTS = os.path.join(TOP, "examples", "clients")
 sys.path.insert(0, CLIENTS)
@@ -47,82 +49,71 @@ def free_watches(gateway):
         return WATCHES
 
 
-class Run(contextlib.AbstractContextManager):
+class Run(Process):
     """An example while it runs, in a session of its own. Of each line it has the moment at which it came."""
 
     def __init__(self, name, *arguments):
         path = os.path.join(CLIENTS, name)
         command = [sys.executable, path] if name.endswith(".py") else ["bash", path]
-        self.name, self.errors = name, tempfile.TemporaryFile()
-        self.child = subprocess.Popen([*command, *map(str, arguments)], stdout=subprocess.PIPE, stderr=self.errors,
-                                      start_new_session=True)
-        self.lines, self.seen, self.come, self.moment = [], 0, threading.Condition(), None
+        self.who, self.lines, self.seen, self.come, self.moment = name, [], 0, threading.Condition(), None
         self.reader = threading.Thread(target=self.read, daemon=True)
+        super().__init__([*command, *map(str, arguments)], keeps_errors=True, stdout=subprocess.PIPE, start_new_session=True)
+
+    def begin(self):
         self.reader.start()
 
     def read(self):
-        for line in self.child.stdout:
+        for line in self.stdout:
             with self.come:
                 self.lines.append((time.monotonic(), line.decode().rstrip("\n")))
                 self.come.notify_all()
 
-    def __exit__(self, *_):
-        with contextlib.suppress(ProcessLookupError):
-            os.killpg(self.child.pid, signal.SIGKILL)
-        self.child.wait()
+    def stop(self):
+        super().stop()
         self.reader.join()
-        self.child.stdout.close()
-        self.errors.close()
 
-    def told_errors(self):
-        self.errors.seek(0)
-        return self.errors.read()[-600:].decode(errors="replace")
-
-    def line(self, seconds=SECONDS):
+    def told_line(self, seconds=SECONDS):
         """The next line; its moment is kept."""
         with self.come:
             come = self.come.wait_for(lambda: len(self.lines) > self.seen, seconds)
-            want(come, f"{self.name} prints nothing in {seconds} seconds; on standard error: {self.told_errors()}")
+            want(come, f"{self.who} prints nothing in {seconds} seconds; on standard error: {self.told_errors()[-600:]}")
             self.moment, line = self.lines[self.seen]
             self.seen += 1
             return line
 
     def expect(self, *lines, seconds=SECONDS):
         for wanted in lines:
-            line = self.line(seconds)
-            want(line == wanted, f"{self.name} prints {line!r}, wanted {wanted!r}")
+            line = self.told_line(seconds)
+            want(line == wanted, f"{self.who} prints {line!r}, wanted {wanted!r}")
 
     def number_after(self, word, seconds=SECONDS):
         """The number of the next line, which is this word and a number."""
-        line = self.line(seconds)
+        line = self.told_line(seconds)
         first, _, number = line.partition(" ")
-        want(first == word and number.isdecimal(), f"{self.name} prints {line!r}, wanted {word!r} and a number")
+        want(first == word and number.isdecimal(), f"{self.who} prints {line!r}, wanted {word!r} and a number")
         return int(number)
 
     def expect_quiet(self, seconds):
         with self.come:
             come = self.come.wait_for(lambda: len(self.lines) > self.seen, seconds)
-            want(not come, f"{self.name} prints {self.lines[self.seen:]}")
+            want(not come, f"{self.who} prints {self.lines[self.seen:]}")
 
     def rest(self):
         """The lines that are left, when it has ended."""
-        self.child.wait(SECONDS)
+        self.wait(SECONDS)
         self.reader.join(SECONDS)
         return [line for _, line in self.lines[self.seen:]]
 
     def kill(self, number=signal.SIGKILL):
         """Sends a signal to the program and what it started."""
-        os.killpg(self.child.pid, number)
+        self.send(number)
         return time.monotonic()
 
     def expect_end(self, status, seconds=SECONDS):
-        try:
-            told = self.child.wait(seconds)
-        except subprocess.TimeoutExpired:
-            want(False, f"{self.name} does not end")
-        want(told == status, f"{self.name} ends with {told}, wanted {status}: {self.told_errors()}")
+        told = self.wait(seconds)
+        want(told == status, f"{self.who} ends with {told}, wanted {status}: {self.told_errors()[-600:]}")
         self.reader.join(SECONDS)
-        want(len(self.lines) == self.seen, f"{self.name} prints {self.lines[self.seen:]}")
+        want(len(self.lines) == self.seen, f"{self.who} prints {self.lines[self.seen:]}")
 
 
 class Relay(contextlib.AbstractContextManager):

@@ -7,9 +7,13 @@ import ssl
 import subprocess
 import textwrap
 
-from shared.nginx import EXAMPLES, Nginx, copied, free_port, replace
+from shared.http_client import SECONDS, Connection, Watch, request, shown, watch_request
+from shared.nginx import Nginx, copied, replace
+from shared.places import EXAMPLES
+from shared.process import free_port
 from shared.report import want
-from shared.server_client import ALL, PUT, SECONDS, Connection, Server, Watch, request, shown
+from shared.server import Server
+from shared.wanted import ALL, PUT
 
 CLUSTERS = {"one": 7, "two": 8}
 
@@ -83,7 +87,7 @@ class Front:
         return Connection(self.port, wrap=self.wrap)
 
     def watch(self, name):
-        return Watch(self.port, name, f"{{{ALL}}}", wrap=self.wrap, lines=[self.right(name)])
+        return Watch(self.port, watch_request(name, f"{{{ALL}}}", [self.right(name)]), wrap=self.wrap)
 
     def ask(self, target, lines, body=PUT):
         """The answer to one request, by a connection of its own."""

@@ -8,7 +8,6 @@ import sys
 import threading
 
 TTL = 30
-MODULES = ["etcd3gw", "tooz"]
 # The Python of these commands, and that of Debian's packages.
 PYTHONS = [sys.executable, "/usr/bin/python3"]
 

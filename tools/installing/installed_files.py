@@ -6,7 +6,8 @@ import stat
 
 from shared.places import TOP
 from shared.report import want
-from shared.server_client import KEY, PUT, Server, done, found, row
+from shared.server import Server
+from shared.wanted import KEY, PUT, done, found, row
 
 EXAMPLE = os.path.join(TOP, "examples", "host.json")
 CONFIG = "etc/bikazery/host.json"

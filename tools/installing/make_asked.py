@@ -2,9 +2,9 @@
 import os
 import subprocess
 
+from shared.http_client import SECONDS
 from shared.places import TOP
 from shared.report import want
-from shared.server_client import SECONDS
 
 
 def environment():

@@ -5,9 +5,10 @@ Each test is given the host, and raises `Wrong` where something is not as it is 
 import random
 import time
 
+from shared.http_client import SECONDS, chunk, head, path, request, text
 from shared.report import Wrong, want
-from shared.server_client import (ALL, KEY, LARGEST_BODY, PUT, READ, REFUSALS, SECONDS, alarmed, answer_of, chunk, done,
-                                  found, granted, head, header, kept_alive, path, request, row, text)
+from shared.wanted import (ALL, KEY, LARGEST_BODY, PUT, READ, REFUSALS, alarmed, answer_of, done, found, granted,
+                           header, kept_alive, row)
 
 ACTIVATE = '{"action":"ACTIVATE","alarm":"NOSPACE"}'
 TXN = ('{"success":[{"request_put":{"key":"YQ==","value":"MQ=="}},{"request_range":{"key":"YQ=="}},'

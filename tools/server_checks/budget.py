@@ -9,9 +9,10 @@ import time
 from concurrent.futures import ThreadPoolExecutor
 
 from server_checks.patience import fill
+from shared.http_client import Connection, chunk, head, path, request, text
 from shared.report import want
-from shared.server_client import (ALL, KEY, LARGEST_BODY, PUT, REFUSALS, Connection, Server, Watch, chunk,
-                                  configuration, done, head, path, request, tenant_of, text)
+from shared.server import Server, configuration, tenant_of
+from shared.wanted import ALL, KEY, LARGEST_BODY, PUT, REFUSALS, done
 
 NAMES = "one", "two", "three"
 LARGE_QUOTA = 200_000
@@ -56,19 +57,14 @@ def want_soon(client, call, body, status):
     return got.status, got.body
 
 
-def kilobytes(server, word):
-    with open(f"/proc/{server.child.pid}/status", encoding="ascii") as lines:
-        return next(int(line.split()[1]) for line in lines if line.startswith(word))
-
-
 def want_little_more(server, before, most):
     """The server's memory is not much more than it was, and never was."""
-    more = kilobytes(server, "VmHWM") * 1024 - before
+    more = server.memory()["peak"] - before
     want(more < most, f"the host takes {more:,} bytes more")
 
 
 def resident(server):
-    return kilobytes(server, "VmRSS") * 1024
+    return server.memory()["now"]
 
 
 def an_answer_that_is_too_long_is_refused_before_it_is_made(program):
@@ -234,7 +230,7 @@ def watches_that_nobody_reads_stop_at_the_budget(program):
         fill(other, "two", VALUES)
         before = resident(server)
         for _ in range(32):
-            stack.enter_context(Watch(server.port, "two", create, WINDOW))
+            stack.enter_context(server.watch("two", create, WINDOW))
         want_soon(other, "kv/range", RANGE_OF_ALL, 503)
         time.sleep(2.5)
         want_little_more(server, before, 60_000_000)

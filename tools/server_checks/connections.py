@@ -6,7 +6,8 @@ import contextlib
 import time
 
 from shared.report import Wrong, want
-from shared.server_client import KEY, PUT, REFUSALS, Server, configuration, created_line, done, tenant_of
+from shared.server import Server, configuration, tenant_of
+from shared.wanted import KEY, PUT, REFUSALS, created_line, done
 
 NAMES = "one", "two", "three"
 

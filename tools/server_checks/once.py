@@ -8,8 +8,10 @@ to differ.
 import json
 from concurrent.futures import ThreadPoolExecutor
 
+from shared.http_client import path, request, text
 from shared.report import want
-from shared.server_client import ALL, Server, configuration, path, request, tenant_of, text
+from shared.server import Server, configuration, tenant_of
+from shared.wanted import ALL
 
 CLIENTS = 16
 ROUNDS = 8

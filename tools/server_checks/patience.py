@@ -5,9 +5,10 @@ Each test is given the program, and raises `Wrong` where something is not as it 
 import signal
 import time
 
+from shared.http_client import Connection, head, path, request, text
 from shared.report import want
-from shared.server_client import (ALL, KEY, PUT, WATCHES, Connection, Server, Watch, configuration, created_line, done,
-                                  granted, head, kept_alive, path, request, tenant_of, text)
+from shared.server import Server, configuration, tenant_of
+from shared.wanted import ALL, KEY, PUT, WATCHES, created_line, done, granted, kept_alive
 
 QUOTA = 65_536
 SHORT = {"body_seconds": 2, "answer_seconds": 2, "silence_seconds": 1}
@@ -80,11 +81,11 @@ def watches_that_nobody_reads_are_given_up(program):
     create = f'{{{ALL},"start_revision":"2"}}'
     with patient(program) as server, server.connect() as other:
         fill(other, "two")
-        watches = [Watch(server.port, "two", create, WINDOW) for _ in range(WATCHES)]
+        watches = [server.watch("two", create, WINDOW) for _ in range(WATCHES)]
         last = time.monotonic() + 20
         while time.monotonic() < last:
             time.sleep(1)
-            with Watch(server.port, "two", "{" + KEY[1:]) as one:
+            with server.watch("two", KEY) as one:
                 if one.refused is None:
                     break
         else:
@@ -102,7 +103,7 @@ def timers_of(port):
 
 def a_silent_client_is_asked_for(program):
     """An open watch on which nothing comes has the system's timer that asks whether its client is still there."""
-    with patient(program) as server, Watch(server.port, "two", KEY) as watch:
+    with patient(program) as server, server.watch("two", KEY) as watch:
         watch.expect_line(created_line(1))
         time.sleep(0.3)
         want(timers_of(server.port) == [KEEPALIVE], f"timers {timers_of(server.port)}")

@@ -4,9 +4,10 @@ Each test is given the host, and raises `Wrong` where something is not as it is 
 """
 import time
 
+from shared.http_client import head, path, request
 from shared.report import Wrong, want
-from shared.server_client import (KEY, PUT, READ, REFUSALS, answer_of, created_line, delete_event, done, events_line,
-                                  granted, head, header, kept_alive, path, put_event, request)
+from shared.wanted import (KEY, PUT, READ, REFUSALS, answer_of, created_line, delete_event, done, events_line, granted,
+                           header, kept_alive, put_event)
 
 
 def a_lease_ends_by_the_clock(host):

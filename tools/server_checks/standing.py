@@ -6,9 +6,10 @@ second of three; the other two keep their whole history.
 import re
 import time
 
+from shared.http_client import text
 from shared.report import want
-from shared.server_client import (ALL, KEY, PUT, Server, configuration, created_line, done, events_line, put_event,
-                                  tenant_of, text)
+from shared.server import Server, configuration, tenant_of
+from shared.wanted import ALL, KEY, PUT, created_line, done, events_line, put_event
 
 PERIOD = 10
 COMPACTED = "required revision has been compacted"

@@ -9,10 +9,11 @@ import time
 from concurrent.futures import ThreadPoolExecutor
 
 from server_checks.asked import ACTIVATE
+from shared.http_client import SECONDS, Connection, chunk, head, path, request, shown, text
 from shared.report import Wrong, want
-from shared.server_client import (ALL, KEY, PUT, READ, REFUSALS, SECONDS, WATCHES, Connection, Server, alarmed,
-                                  answer_of, cancel_line, chunk, configuration, created_line, delete_event, done,
-                                  events_line, head, header, path, put_event, request, row, shown, tenant_of, text)
+from shared.server import Server, configuration, tenant_of
+from shared.wanted import (ALL, KEY, PUT, READ, REFUSALS, WATCHES, alarmed, answer_of, cancel_line, created_line,
+                           delete_event, done, events_line, header, put_event, row)
 
 OTHER = '{"key":"Yg==","value":"MQ=="}'
 EVERY = f"{{{ALL}}}"

@@ -1,9 +1,9 @@
 """The calls that bench/replay makes of both programs, and what each has to answer."""
-import base64
 import json
 import random
 from typing import NamedTuple
 
+from shared.http_client import body_of, text
 from shared.report import Wrong
 
 KEY_BYTES = 16
@@ -32,20 +32,12 @@ class Phase(NamedTuple):
     calls: list
 
 
-def text_of(data):
-    return base64.b64encode(data).decode()
-
-
-def body_of(members):
-    return json.dumps(members, separators=(",", ":")).encode()
-
-
 def header(revision):
     return {"header": {"revision": str(revision)}}
 
 
 def put(key, value, revision):
-    return Call("kv/put", body_of({"key": text_of(key), "value": text_of(value)}), header(revision))
+    return Call("kv/put", body_of({"key": text(key), "value": text(value)}), header(revision))
 
 
 def size(revision):
@@ -56,7 +48,7 @@ def size(revision):
 def row(key, value, revision):
     """The row of a key that was put once."""
     at = str(revision)
-    return {"create_revision": at, "key": text_of(key), "mod_revision": at, "value": text_of(value), "version": "1"}
+    return {"create_revision": at, "key": text(key), "mod_revision": at, "value": text(value), "version": "1"}
 
 
 def found(rows, revision):
@@ -76,12 +68,12 @@ def filled(count):
     last = FIRST_REVISION + count
     reads = []
     for number in chance.sample(range(count), count):
-        reads.append(Call("kv/range", body_of({"key": text_of(keys[number])}), found([rows[number]], last)))
+        reads.append(Call("kv/range", body_of({"key": text(keys[number])}), found([rows[number]], last)))
     ranges = []
     for _ in range(range_count(count)):
         start = chance.randrange(count - RANGE_KEYS)
         end = start + RANGE_KEYS
-        body = body_of({"key": text_of(keys[start]), "range_end": text_of(keys[end])})
+        body = body_of({"key": text(keys[start]), "range_end": text(keys[end])})
         ranges.append(Call("kv/range", body, found(rows[start:end], last)))
     return [Phase("put", puts), Phase("size", [size(last)]), Phase("read", reads), Phase("range", ranges)]
 
@@ -114,8 +106,8 @@ def overwritten(count):
 def txn(rows, revision):
     """Puts rows whose first key has to be new."""
     first, _ = rows[0]
-    compare = {"key": text_of(first), "result": "EQUAL", "target": "VERSION", "version": "0"}
-    puts = [{"request_put": {"key": text_of(key), "value": text_of(value)}} for key, value in rows]
+    compare = {"key": text(first), "result": "EQUAL", "target": "VERSION", "version": "0"}
+    puts = [{"request_put": {"key": text(key), "value": text(value)}} for key, value in rows]
     wanted = {**header(revision), "responses": [{"response_put": header(revision)}] * len(rows), "succeeded": True}
     return Call("kv/txn", body_of({"compare": [compare], "success": puts}), wanted)
 

@@ -6,9 +6,10 @@ import subprocess
 import time
 from typing import NamedTuple
 
-from shared.calls import body_of, text_of
-from shared.http_client import Connection
+from shared.http_client import body_of, text
+from shared.process import Process
 from shared.report import Wrong
+from shared.store_calls import Client
 
 KEYS, VALUE = 1_000, b"0123456789"
 RANGE_ROWS, LARGE_ROWS = 100, 10_000
@@ -60,15 +61,15 @@ def row(number):
 
 
 def put(name):
-    return "kv/put", {"key": text_of(name), "value": text_of(VALUE)}
+    return "kv/put", {"key": text(name), "value": text(VALUE)}
 
 
 def rows_from(first, end):
-    return "kv/range", {"key": text_of(first), "range_end": text_of(end)}
+    return "kv/range", {"key": text(first), "range_end": text(end)}
 
 
 def reads():
-    return [("kv/range", {"key": text_of(key(number))}) for number in range(KEYS)]
+    return [("kv/range", {"key": text(key(number))}) for number in range(KEYS)]
 
 
 def ranges():
@@ -85,11 +86,11 @@ def mixed():
     calls = []
     for number in range(0, KEYS, 10):
         calls += [put(key(number + more)) for more in range(4)]
-        calls += [("kv/range", {"key": text_of(key(number + more))}) for more in range(3)]
+        calls += [("kv/range", {"key": text(key(number + more))}) for more in range(3)]
         calls.append(rows_from(key(0), key(RANGE_ROWS)))
         pair = [{"request_put": put(key(number + more))[1]} for more in [8, 9]]
         calls.append(("kv/txn", {"success": pair}))
-        calls.append(("kv/deleterange", {"key": text_of(key(number))}))
+        calls.append(("kv/deleterange", {"key": text(key(number))}))
     return calls
 
 
@@ -106,13 +107,13 @@ def works():
 def fill(place, rest=0, rows=LARGE_ROWS):
     """Puts the keys and so many rows, with a rest after each transaction, and looks at ranges of them."""
     names = [key(number) for number in range(KEYS)] + [row(number) for number in range(rows)]
-    with Connection(place) as connection:
+    with Client(place) as client:
         for at in range(0, len(names), TXN_PUTS):
             puts = [{"request_put": put(name)[1]} for name in names[at : at + TXN_PUTS]]
-            connection.call("kv/txn", {"success": puts})
+            client.make("kv/txn", {"success": puts})
             time.sleep(rest)
         for call, wanted in [(ranges()[-1], RANGE_ROWS), (large()[0], rows)]:
-            found = len(connection.call(*call).get("kvs", []))
+            found = len(client.make(*call).get("kvs", []))
             if found != wanted:
                 raise Wrong(f"{place.who}: a range of {wanted:,} rows was answered {found:,}")
 
@@ -144,26 +145,19 @@ class Wrk:
     def script(self, name, rest):
         return os.path.join(self.folder, f"{name}-{rest}.lua")
 
-    @contextlib.contextmanager
     def running(self, place, name, connections, seconds, rest=0):
-        """wrk beside what is done meanwhile."""
+        """wrk while it runs, beside what is done meanwhile."""
         words = ["wrk", "-t", str(min(WRK_THREADS, connections)), "-c", str(connections), "-d", f"{seconds}s"]
         words += ["--timeout", f"{PATIENCE}s", "-s", self.script(name, rest), f"http://127.0.0.1:{place.port}{place.front}"]
-        child = subprocess.Popen(words, stdin=subprocess.DEVNULL, stdout=subprocess.PIPE, stderr=subprocess.STDOUT)
-        try:
-            yield child
-        finally:
-            if child.poll() is None:
-                child.kill()
-            child.wait()
-            child.stdout.close()
+        how = {"stdin": subprocess.DEVNULL, "stdout": subprocess.PIPE, "stderr": subprocess.STDOUT}
+        return Process(words, **how)
 
-    def finish(self, child, label):
+    def finish(self, running, label):
         """The load of a run that comes to its end."""
-        text = child.communicate()[0].decode(errors="replace")
-        told = [line.split()[1:] for line in text.splitlines() if line.startswith("told ")]
-        if child.returncode != 0 or not told:
-            raise Wrong(f"wrk, {label}: {text[-1000:]}")
+        printed = running.child.communicate()[0].decode(errors="replace")
+        told = [line.split()[1:] for line in printed.splitlines() if line.startswith("told ")]
+        if running.child.returncode != 0 or not told:
+            raise Wrong(f"wrk, {label}: {printed[-1000:]}")
         calls, duration, *bad = map(int, told[0])
         kinds = [f"{count:,} {kind}" for count, kind in zip(bad, FAULTS) if count]
         if kinds:
@@ -171,21 +165,21 @@ class Wrk:
         return Load(max(calls - bad[0], 1), duration / 1e6)
 
     def run(self, place, name, connections, seconds):
-        with self.running(place, name, connections, seconds) as child:
-            return self.finish(child, f"{place.who}, {name} over {connections}")
+        with self.running(place, name, connections, seconds) as running:
+            return self.finish(running, f"{place.who}, {name} over {connections}")
 
 
 def compact_always(place, told):
     """Compacts the store after each so many changes. It counts the compactions, and keeps the longest's seconds."""
     try:
-        with Connection(place) as connection:
-            last = connection.revision()
+        with Client(place) as client:
+            last = client.revision()
             while True:
                 time.sleep(PAUSE)
-                now = connection.revision()
+                now = client.revision()
                 if now - last >= CHANGES:
                     started = time.perf_counter()
-                    connection.compact(now)
+                    client.compact(now)
                     told[0] += 1
                     told[1] = max(told[1], time.perf_counter() - started)
                     last = now

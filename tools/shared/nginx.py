@@ -1,24 +1,13 @@
-"""An nginx in a copy of an example's folder."""
+"""An nginx by the configuration of a folder, as that of an example's copy."""
 import os
 import shutil
-import socket
 import subprocess
 import time
 
+from shared.http_client import SECONDS
 from shared.places import EXAMPLES
+from shared.process import Process, found, listens
 from shared.report import want
-from shared.server_client import SECONDS
-
-
-
-def found(name):
-    """The path of a program, or None. Debian keeps some where only root looks."""
-    return shutil.which(name, path=os.environ.get("PATH", "") + ":/usr/sbin:/sbin")
-
-
-def free_port():
-    with socket.create_server(("127.0.0.1", 0)) as free:
-        return free.getsockname()[1]
 
 
 def copied(folder, *names):
@@ -37,41 +26,31 @@ def replace(file, old, new):
         has.write(text.replace(old, new))
 
 
-class Nginx:
-    """nginx, serving by the nginx.conf of a folder."""
+class Nginx(Process):
+    """nginx, serving by the nginx.conf of its home."""
 
-    def __init__(self, folder, port):
-        self.folder, self.port = folder, port
+    who = "nginx"
+    patience = SECONDS
+
+    def __init__(self, home, port, **how):
+        self.home, self.port = home, port
         # Where root starts it, its workers have to be root too: only root can look into the folder.
         user = " user root;" if os.getuid() == 0 else ""
-        words = self.command("-g", "daemon off;" + user)
-        with open(os.path.join(folder, "told"), "wb") as told:
-            self.child = subprocess.Popen(words, stdin=subprocess.DEVNULL, stdout=told, stderr=told)
-        try:
-            self.until(self.listens, "nginx does not listen")
-        except BaseException:
-            self.__exit__()
-            raise
+        with open(os.path.join(home, "told"), "wb") as told:
+            words = self.command("-g", "daemon off;" + user)
+            super().__init__(words, stdin=subprocess.DEVNULL, stdout=told, stderr=told, **how)
 
-    def __enter__(self):
-        return self
-
-    def __exit__(self, *_):
-        self.child.terminate()
-        try:
-            self.child.wait(SECONDS)
-        except subprocess.TimeoutExpired:
-            self.child.kill()
-            self.child.wait()
+    def begin(self):
+        self.until(self.listens, "nginx does not listen")
 
     def command(self, *options):
-        return [found("nginx"), "-p", self.folder, "-c", "nginx.conf", *options]
+        return [found("nginx"), "-p", self.home, "-c", "nginx.conf", *options]
 
     def faults(self):
         """What it told of faults, at its start and since then."""
         told = b""
         for name in ["told", "error.log"]:
-            path = os.path.join(self.folder, name)
+            path = os.path.join(self.home, name)
             if os.path.exists(path):
                 with open(path, "rb") as file:
                     told += file.read()
@@ -79,8 +58,7 @@ class Nginx:
 
     def listens(self):
         want(self.child.poll() is None, f"nginx ended: {self.faults()}")
-        with socket.socket() as one:
-            return one.connect_ex(("127.0.0.1", self.port)) == 0
+        return listens(self.port)
 
     def until(self, true, fault, seconds=20):
         last = time.monotonic() + seconds

@@ -1,10 +1,10 @@
 """The server, asked as its operator does."""
-import http.client
 import json
 import time
 
+from shared.http_client import Connection, request
 from shared.report import want
-from shared.server_client import Server, configuration
+from shared.server import Server, configuration
 
 
 class Host(Server):
@@ -12,33 +12,25 @@ class Host(Server):
 
     def __init__(self, program, tenants, **members):
         super().__init__(program, configuration(tenants, operator="127.0.0.1:0", **{"segments": 4096, **members}))
-        line = self.child.stdout.readline()
-        want(line.startswith(b"operator on 127.0.0.1:"), f"its second line is {line!r}")
-        self.operator = int(line.rpartition(b":")[2])
 
-    def ask(self, method, target, body=None, headers=None):
+    def answer(self, method, target, body=None, lines=()):
+        """The answer to a call of the operator, by a connection of its own."""
+        with Connection(self.operator) as connection:
+            connection.send(request(target, "" if body is None else json.dumps(body), lines, method))
+            return connection.answer(method, 30)
+
+    def ask(self, method, target, body=None, lines=()):
         """A call of the operator: its status and what its body says."""
-        connection = http.client.HTTPConnection("127.0.0.1", self.operator, timeout=30)
-        try:
-            connection.request(method, target, None if body is None else json.dumps(body), headers or {})
-            told = connection.getresponse()
-            said = told.read()
-        finally:
-            connection.close()
-        return told.status, json.loads(said) if said else None
+        told = self.answer(method, target, body, lines)
+        return told.status, json.loads(told.body) if told.body else None
 
     def text(self, target):
-        connection = http.client.HTTPConnection("127.0.0.1", self.operator, timeout=30)
-        try:
-            connection.request("GET", target)
-            told = connection.getresponse()
-            want((told.status, told.getheader("content-type")) == (200, "text/plain; version=0.0.4"), f"{target}: {told.status}")
-            return told.read().decode()
-        finally:
-            connection.close()
+        told = self.answer("GET", target)
+        want((told.status, told.values("content-type")) == (200, ["text/plain; version=0.0.4"]), f"{target}: {told.status}")
+        return told.body.decode()
 
-    def expect(self, wanted, method, target, body=None, headers=None):
-        told = self.ask(method, target, body, headers)
+    def expect(self, wanted, method, target, body=None, lines=()):
+        told = self.ask(method, target, body, lines)
         want(told == wanted, f"{method} {target} {body}: {told}, wanted {wanted}")
 
     def expect_at_last(self, wanted, method, target):

@@ -130,6 +130,12 @@ def free_port():
     return free_ports(1)[0]
 
 
+def listens(port):
+    """Whether somebody listens at a port."""
+    with socket.socket() as one:
+        return one.connect_ex(("127.0.0.1", port)) == 0
+
+
 def stat_fields(pid):
     """What its file `stat` says, from the state on."""
     with open(f"/proc/{pid}/stat", "rb") as file:

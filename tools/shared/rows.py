@@ -2,10 +2,9 @@
 import os
 import re
 
+from shared.http_client import request, shown
 from shared.places import ROWS
 from shared.report import want
-from shared.server_client import request, shown
-
 
 
 class Row:

@@ -17,11 +17,16 @@ def run_script(script, seconds=PATIENCE, path=REPLAY_PROGRAM, **how):
     return subprocess.run([path], input=script, capture_output=True, timeout=seconds, check=False, **how)
 
 
-class Program(Process):
-    """A program that answers each line of its standard input by a line, within so many seconds; `cat` is one, too."""
+def run_file(file, **how):
+    """The same of a script in a file, whose pieces are of one length each time: a pipe's depend on who is quicker."""
+    return subprocess.run([REPLAY_PROGRAM], stdin=file, capture_output=True, timeout=PATIENCE, check=False, **how)
 
-    def __init__(self, path=REPLAY_PROGRAM, seconds=PATIENCE, **how):
-        self.who, self.seconds = path, seconds
+
+class Program(Process):
+    """A program that answers each line of its standard input by a line; `cat` is one, too. `limit` is in seconds."""
+
+    def __init__(self, path=REPLAY_PROGRAM, limit=PATIENCE, **how):
+        self.who, self.limit = path, limit
         super().__init__([path], **{"stdin": subprocess.PIPE, "stdout": subprocess.PIPE, "bufsize": 0, **how})
 
     def feed(self, script):
@@ -36,10 +41,10 @@ class Program(Process):
         except BrokenPipeError:
             pass
 
-    def ask(self, line):
+    def ask_line(self, line):
         """The answer to one line, both with their newlines."""
         self.feed(line)
-        answer = self.line(self.seconds)
+        answer = self.line(self.limit)
         want(answer.endswith(b"\n"), f"{self.who}: ended before it answered {line[:100]!r}, behind {answer[:100]!r}")
         return answer
 
@@ -50,7 +55,7 @@ class Program(Process):
         started = time.perf_counter()
         feeder.start()
         while wanted > 0:
-            piece = self.piece(self.seconds)
+            piece = self.piece(self.limit)
             if not piece:
                 raise Wrong(f"{self.who}: ended with status {self.child.wait()} before the end of its script")
             pieces.append(piece)
@@ -66,9 +71,9 @@ class Program(Process):
     def end(self):
         """Ends the script: the program ends by itself, with status 0."""
         self.close()
-        while self.piece(self.seconds):
+        while self.piece(self.limit):
             pass
-        status = self.wait(self.seconds)
+        status = self.wait(self.limit)
         want(status == 0, f"{self.who}: status {status} at the end of its script")
 
 
