@@ -5,7 +5,7 @@ Each test is given the host, and raises `Wrong` where something is not as it is 
 import random
 import time
 
-from shared.http_client import SECONDS, chunk, head, path, request, text
+from shared.http_client import SECONDS, chunk, head, in_both_forms, path, request, text
 from shared.report import Wrong, want
 from shared.wanted import (ALL, KEY, LARGEST_BODY, PUT, READ, REFUSALS, alarmed, answer_of, done, found, granted,
                            header, kept_alive, row)
@@ -306,12 +306,6 @@ def heads_that_are_refused(host):
                 fresh.expect(tenant, "kv/range", READ, done(1))
         except Wrong as wrong:
             raise Wrong(f"{name}: {wrong}") from None
-
-
-def in_both_forms(target, body):
-    """A body by its length, and in chunks."""
-    chunks = b"".join(chunk(body[at:at + 100_000]) for at in range(0, len(body), 100_000))
-    return [request(target, body), head(target, ["transfer-encoding: chunked"]) + chunks + b"0\r\n\r\n"]
 
 
 def padded(front, size):

@@ -9,7 +9,7 @@ import time
 from concurrent.futures import ThreadPoolExecutor
 
 from server_checks.patience import fill
-from shared.http_client import Connection, chunk, head, path, request, text
+from shared.http_client import Connection, head, in_both_forms, path, request, text
 from shared.report import want
 from shared.server import Server, configuration, tenant_of
 from shared.wanted import ALL, KEY, LARGEST_BODY, PUT, REFUSALS, done
@@ -180,7 +180,7 @@ def a_budget_that_is_not_told_grows_with_the_quota(program):
 def a_body_that_gets_its_share_is_served(program):
     """One whose length is told waits for that, and one in chunks for the length of the longest body."""
     sized = request(path("two", "kv/put"), long_put())
-    chunked = head(path("two", "kv/put"), ["transfer-encoding: chunked"]) + chunk(PUT.encode()) + chunk(b"")
+    _, chunked = in_both_forms(path("two", "kv/put"), PUT.encode())
     with budgeted(program, LEAST_BUDGET) as server, begun_body(server, LEAST_BUDGET // 2):
         for message in sized, chunked:
             gone = begun_body(server, LEAST_BUDGET // 2)

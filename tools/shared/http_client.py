@@ -58,6 +58,12 @@ def chunk(data):
     return b"%x\r\n%s\r\n" % (len(data), data)
 
 
+def in_both_forms(target, body, lines=()):
+    """A request with its body by its length, and in chunks."""
+    chunks = b"".join(chunk(body[at:at + 100_000]) for at in range(0, len(body), 100_000))
+    return [request(target, body, lines), head(target, [*lines, "transfer-encoding: chunked"]) + chunks + chunk(b"")]
+
+
 # What is answered.
 
 

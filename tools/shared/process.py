@@ -18,9 +18,10 @@ PROCESS_CLOCK = 2
 
 
 class Process:
-    """A program that is started and, where its use ends, ended: killed at once, or asked to end before, if it has
-    `patience`, which is seconds. What it started ends with it where it leads a session, and a folder of its own goes.
-    What it tells on standard error may be kept.
+    """A program that was started, and that is ended where its use ends.
+
+    It is killed; one with `patience`, in seconds, is asked to end first. Where it leads a session, what it started ends
+    with it, and so does a folder of its own. What it tells on standard error may be kept.
     """
 
     who = "the program"
