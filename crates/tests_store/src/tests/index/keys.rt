@@ -1,3 +1,5 @@
+//! The keys of an index under test, beside lists of their records.
+
 ghost use Rattle.std.specs.Prelude.{◌≡◌, ◌+◌, ◌<◌, ◌≤◌, [], max, IfOk, IsSome, None, OnErr, OnOk};
 ghost use Rattle.key_index.specs.Index.{key_count};
 
