@@ -7,8 +7,8 @@ use Rattle.cell_arena.specs.declared.cell.Cell.{Cell}
 use Rattle.cell_arena.specs.declared.cell.Cell.TheVariants.{Free, Head, Rest}
 use Rattle.std.specs.Vec.{with_item}
 use Rattle.std.specs.Global.{Vec}
-use Rattle.cell_arena.specs.declared.slot.Slot.{Slot}
-use Rattle.cell_arena.specs.Chain.{is_free, cell_at, slot_at, Writes, IsFreeList, IsListed}
+use Rattle.cell_arena.specs.declared.bay.Bay.{Bay}
+use Rattle.cell_arena.specs.Chain.{is_free, cell_at, bay_at, Writes, IsFreeList, IsListed}
 
 -- two lists from one link are of one length
 pub same_count : (at : ℕ → Cell) (bound n m : ℕ) (link : Option ℕ) → IsFreeList at bound n link → IsFreeList at bound m link → n ≡ m
@@ -80,7 +80,7 @@ room_to_free cells k used =
     omega (arith, e, count_by-le-length is_free (set cells k (Free None)), length-set cells k (Free None))
 
 -- a cell in use goes to the front of the list
-pub listed_freed : (t : Slot) (at : ℕ) → IsListed t → is_free (slot_at t at) ≡ false → IsListed (record { number = t.number; cells = with_item t.cells at (Free t.first); first = Some at; free = t.free + 1 })
+pub listed_freed : (t : Bay) (at : ℕ) → IsListed t → is_free (bay_at t at) ≡ false → IsListed (record { number = t.number; cells = with_item t.cells at (Free t.first); first = Some at; free = t.free + 1 })
 listed_freed t at was used =
     let cells = t.cells.items in
     let less : at < length cells = within cells at used in
@@ -96,19 +96,19 @@ listed_freed t at was used =
     }
 
 -- the first of the list is taken
-pub listed_taken : (t : Slot) (at : ℕ) (next : Option ℕ) (cell : Cell) → IsListed t → 0 < t.free → t.first ≡ Some at → slot_at t at ≡ Free next → is_free cell ≡ false → IsListed (record { number = t.number; cells = with_item t.cells at cell; first = next; free = t.free - 1 })
+pub listed_taken : (t : Bay) (at : ℕ) (next : Option ℕ) (cell : Cell) → IsListed t → 0 < t.free → t.first ≡ Some at → bay_at t at ≡ Free next → is_free cell ≡ false → IsListed (record { number = t.number; cells = with_item t.cells at cell; first = next; free = t.free - 1 })
 listed_taken t at next cell was room is read used = by_count t.free refl
   where
     by_count : (n : ℕ) → t.free ≡ n → IsListed (record { number = t.number; cells = with_item t.cells at cell; first = next; free = t.free - 1 })
     by_count zero e = absurd (omega arith)
     by_count (suc n) e =
         let cells = t.cells.items in
-        let list : IsFreeList (slot_at t) (length cells) (suc n) t.first = subst (λ m. IsFreeList (slot_at t) (length cells) m t.first) e was.listed in
+        let list : IsFreeList (bay_at t) (length cells) (suc n) t.first = subst (λ m. IsFreeList (bay_at t) (length cells) m t.first) e was.listed in
         let same : list.0 ≡ at = cc (list.2, is) in
         let less : at < length cells = subst (λ k. k < length cells) same list.3 in
         let after : list.1 ≡ next = cc (list.4, read, same) in
-        let long : IsFreeList (slot_at t) (length cells) (suc n) (Some at) = subst (λ l. IsFreeList (slot_at t) (length cells) (suc n) l) is list in
-        let tail : IsFreeList (slot_at t) (length cells) n next = subst (λ l. IsFreeList (slot_at t) (length cells) n l) after list.5 in
+        let long : IsFreeList (bay_at t) (length cells) (suc n) (Some at) = subst (λ l. IsFreeList (bay_at t) (length cells) (suc n) l) is list in
+        let tail : IsFreeList (bay_at t) (length cells) n next = subst (λ l. IsFreeList (bay_at t) (length cells) n l) after list.5 in
         let new = set cells at cell in
         let size : length cells ≡ length new = sym (length-set cells at cell) in
         let written : Writes (cell_at cells) (cell_at new) at cell = written_at cells at cell less in
@@ -122,21 +122,21 @@ listed_taken t at next cell was room is read used = by_count t.free refl
         }
 
 -- a list that is not empty has a first cell
-pub first_of_list : (t : Slot) → IsListed t → 0 < t.free → (n : ℕ) × (next : Option ℕ) × (t.first ≡ Some n) × (n < length t.cells.items) × (slot_at t n ≡ Free next)
+pub first_of_list : (t : Bay) → IsListed t → 0 < t.free → (n : ℕ) × (next : Option ℕ) × (t.first ≡ Some n) × (n < length t.cells.items) × (bay_at t n ≡ Free next)
 first_of_list t was room = by_count t.free refl
   where
-    by_count : (m : ℕ) → t.free ≡ m → (n : ℕ) × (next : Option ℕ) × (t.first ≡ Some n) × (n < length t.cells.items) × (slot_at t n ≡ Free next)
+    by_count : (m : ℕ) → t.free ≡ m → (n : ℕ) × (next : Option ℕ) × (t.first ≡ Some n) × (n < length t.cells.items) × (bay_at t n ≡ Free next)
     by_count zero e = absurd (omega arith)
     by_count (suc m) e =
-        let list : IsFreeList (slot_at t) (length t.cells.items) (suc m) t.first = subst (λ m. IsFreeList (slot_at t) (length t.cells.items) m t.first) e was.listed in
+        let list : IsFreeList (bay_at t) (length t.cells.items) (suc m) t.first = subst (λ m. IsFreeList (bay_at t) (length t.cells.items) m t.first) e was.listed in
         (list.0, list.1, list.2, list.3, list.4)
 
 -- the first cell of the list, where the link names it
-pub first_is : (t : Slot) (at : ℕ) → IsListed t → 0 < t.free → t.first ≡ Some at → (at < length t.cells.items) × ((next : Option ℕ) × (slot_at t at ≡ Free next))
+pub first_is : (t : Bay) (at : ℕ) → IsListed t → 0 < t.free → t.first ≡ Some at → (at < length t.cells.items) × ((next : Option ℕ) × (bay_at t at ≡ Free next))
 first_is t at was room is =
     let found = first_of_list t was room in
     let same : found.0 ≡ at = cc (found.2, is) in
-    (subst (λ n. n < length t.cells.items) same found.3, (found.1, subst (λ n. slot_at t n ≡ Free found.1) same found.4))
+    (subst (λ n. n < length t.cells.items) same found.3, (found.1, subst (λ n. bay_at t n ≡ Free found.1) same found.4))
 
 -- so many cells were listed, each before the last ones
 pub record IsListing (cells : List Cell) (count : ℕ) (first : Option ℕ) : Type 0 where
@@ -206,7 +206,7 @@ others_free xs p used count n other =
     ap is_free (sym (get_or-set_other xs p n (Free None) (Free None) other)) ∙ all_from_count (set xs p (Free None)) (omega (arith, freed, count, length-set xs p (Free None))) n
 
 -- a cell in use is written, and stays in use
-pub listed_rewritten : (t : Slot) (at : ℕ) (cell : Cell) → IsListed t → is_free (slot_at t at) ≡ false → is_free cell ≡ false → IsListed (record { number = t.number; cells = with_item t.cells at cell; first = t.first; free = t.free })
+pub listed_rewritten : (t : Bay) (at : ℕ) (cell : Cell) → IsListed t → is_free (bay_at t at) ≡ false → is_free cell ≡ false → IsListed (record { number = t.number; cells = with_item t.cells at cell; first = t.first; free = t.free })
 listed_rewritten t at cell was used stays =
     let cells = t.cells.items in
     let less : at < length cells = within cells at used in

@@ -20,7 +20,7 @@ pub record IsFreeing (old now : Table) (left : ℕ) (link : Option ℕ) (count :
   pub used : now.used + count ≡ old.used + left
   pub kept : SameRecords (table_at old) (table_at now)
   pub reserved : now.reserved ≡ old.reserved
-  pub size : length now.slots.items ≡ length old.slots.items
+  pub size : length now.bays.items ≡ length old.bays.items
 
 -- a cell of bytes stands for nothing, free or not
 pub same_freed : (old new : ℕ → Cell) (k : ℕ) (first next : Option ℕ) (bytes : List ℕ) → Writes old new k (Free first) → IsLinked old → IsUnlinked old k → old k ≡ Rest bytes next → SameRecords old new
@@ -31,7 +31,7 @@ same_freed old new k first next bytes written linked free read q =
     ]
 
 -- one more cell is freed
-pub freed_more : (old now then' : Table) (left : ℕ) (link first next : Option ℕ) (count k : ℕ) (bytes : List ℕ) → 0 < left → IsFreeing old now left link count → link ≡ Some k → table_at now k ≡ Rest bytes next → IsChain (table_at now) (left - 1) next → IsTable then' → then'.used + 1 ≡ now.used → Writes (table_at now) (table_at then') k (Free first) → then'.reserved ≡ now.reserved → length then'.slots.items ≡ length now.slots.items → IsFreeing old then' (left - 1) next count
+pub freed_more : (old now then' : Table) (left : ℕ) (link first next : Option ℕ) (count k : ℕ) (bytes : List ℕ) → 0 < left → IsFreeing old now left link count → link ≡ Some k → table_at now k ≡ Rest bytes next → IsChain (table_at now) (left - 1) next → IsTable then' → then'.used + 1 ≡ now.used → Writes (table_at now) (table_at then') k (Free first) → then'.reserved ≡ now.reserved → length then'.bays.items ≡ length now.bays.items → IsFreeing old then' (left - 1) next count
 freed_more old now then' left link first next count k bytes some was is read rest table fewer written same_reserved size =
     let loose : IsUnlinked (table_at now) k = was.loose k is in
     let apart : next ≢ Some k = λ same. loose k (ap link_of read ∙ same) in

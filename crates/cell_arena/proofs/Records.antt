@@ -15,7 +15,7 @@ use Rattle.cell_arena.specs.declared.cell.HeadCell.{HeadCell}
 use Rattle.cell_arena.specs.declared.cell.Kind.{Kind}
 use Rattle.cell_arena.specs.declared.table.Table.{Table}
 use Rattle.cell_arena.specs.Loan.{Loan, IsLent, Settles, KeepsShare}
-use Rattle.cell_arena.specs.Table.{IsTable, numbers_in, table_at, share_of, slot_cells, hidden}
+use Rattle.cell_arena.specs.Table.{IsTable, numbers_in, table_at, share_of, bay_cells, hidden}
 use Rattle.cell_arena.specs.Chain.{is_head, cell_at, IsChain, chain_bytes, IsLinked, head_pieces, record_with, record_of, record_at, Record, SameRecordsBut, cost_at}
 use Rattle.cell_arena.proofs.Chains.{bytes_next}
 use Rattle.cell_arena.specs.Region.{entries_below, entry_before, records_of, RegionState, region_of, record_cost}
@@ -81,12 +81,12 @@ pub empty_is : (n : FinMap nat_cmp Record) → ((q : ℕ) → get n q ≡ None) 
 empty_is n none = same_map nat_cmp_total nat_cmp-IsAntisymmetric n empty (λ q. none q ∙ sym (get-empty nat_cmp q))
 
 -- nothing stands past the cells
-pub past_none : (t : Table) (n : ℕ) → 64 * length t.slots.items ≤ n → record_at (table_at t) n ≡ None
+pub past_none : (t : Table) (n : ℕ) → 64 * length t.bays.items ≤ n → record_at (table_at t) n ≡ None
 past_none t n past =
-    ap (λ xs. record_of (table_at t) (hidden (cell_at xs (n % 64)))) (get_or_past (list_map slot_cells t.slots.items) (n / 64) [] (omega (arith, length-map t.slots.items slot_cells)))
+    ap (λ xs. record_of (table_at t) (hidden (cell_at xs (n % 64)))) (get_or_past (list_map bay_cells t.bays.items) (n / 64) [] (omega (arith, length-map t.bays.items bay_cells)))
 
 pub get_held : (t : Table) (q : ℕ) → get (region_of t).records q ≡ record_at (table_at t) q
-get_held t q = get-records_of (table_at t) (64 * length t.slots.items) (past_none t) q
+get_held t q = get-records_of (table_at t) (64 * length t.bays.items) (past_none t) q
 
 pub held_insert : (old new : Table) (k : ℕ) (r : Record) → record_at (table_at new) k ≡ Some r → SameRecordsBut k (table_at old) (table_at new) → (region_of new).records ≡ insert (region_of old).records k r
 held_insert old new k r here others =
@@ -178,7 +178,7 @@ seen_share t seen table is = record {
   rooms = sym (ap (λ (h : RegionState). h.share.rooms) is);
   reserved = sym (ap (λ (h : RegionState). h.share.reserved) is);
   drawn = sym (ap (λ (h : RegionState). h.share.drawn) is) ∙ sym table.busy;
-  numbers = subst (λ (h : RegionState). IsPermutation (numbers_in t.slots.items) h.share.numbers) is (IsPermutation-refl _);
+  numbers = subst (λ (h : RegionState). IsPermutation (numbers_in t.bays.items) h.share.numbers) is (IsPermutation-refl _);
 }
 
 pub share_seen : (t : Table) → IsTable t → KeepsShare (share_of t) (region_of t).share

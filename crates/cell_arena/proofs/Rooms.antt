@@ -1,4 +1,4 @@
--- A table with more slots, and one that gives all its segments back.
+-- A table with more bays, and one that gives all its segments back.
 use Rattle.std.proofs.Common.{◌≡◌, ℕ, zero, suc, ◌+◌, ◌-◌, ◌*◌, ◌/◌, ◌%◌, ◌<◌, ◌^◌, List, [], ◌∷◌, ◌++◌, length, map, get_or, replicate, sum_by, refl, sym, ap, ◌∙◌, inl, inr, ◌⊎◌, arith, subst}
 use Rattle.std.proofs.lemmas.Bool.{cases_eq, cases_lt}
 use Rattle.std.proofs.lemmas.List.{length_push, get_or_push, get_or_append_left}
@@ -6,13 +6,13 @@ use Rattle.std.proofs.lemmas.List.Sums.{sum_by-cons}
 use Rattle.std.specs.Cmp.{nat_cmp_total}
 use Rattle.std.specs.FinMap.{same_map, nat_cmp-IsAntisymmetric}
 use Rattle.cell_arena.specs.declared.order.Order.{Order}
-use Rattle.cell_arena.specs.declared.slot.Slot.{Slot}
+use Rattle.cell_arena.specs.declared.bay.Bay.{Bay}
 use Rattle.cell_arena.specs.declared.table.Table.{Table}
 use Rattle.cell_arena.specs.Chain.{IsBare, IsLinked, cell_at, record_at}
 use Rattle.cell_arena.specs.Loan.{Share, with_rooms}
 use Rattle.cell_arena.specs.Order.{IsOrder, count_of, place_of}
 use Rattle.cell_arena.specs.Region.{IsRegion, region_of, roomier}
-use Rattle.cell_arena.specs.Table.{IsTable, IsSlot, SameCells, slot_cells, hidden, share_of, table_at, free_of, used_of, busy_of, numbers_in}
+use Rattle.cell_arena.specs.Table.{IsTable, IsBay, SameCells, bay_cells, hidden, share_of, table_at, free_of, used_of, busy_of, numbers_in}
 use Rattle.cell_arena.proofs.Records.{get_held}
 use Rattle.cell_arena.proofs.Tables.{none_listed}
 
@@ -60,25 +60,25 @@ pushed_order o p was order place =
     by_there q less (inl same) = ap (λ k. get_or p.order.items (get_or p.place.items k 0) 0) same ∙ ap (λ k. get_or p.order.items k 0) last_place ∙ last_number ∙ sym same
     by_there q less (inr other) = ap (λ k. get_or p.order.items k 0) (placed q (omega arith)) ∙ number (get_or o.place.items q 0) (was.of q (omega arith)) ∙ was.there q (omega arith)
 
-pushed_cells : (slots : List Slot) (bare : Slot) → IsBare bare → (k : ℕ) → get_or (map slot_cells (slots ++ bare ∷ [])) k [] ≡ get_or (map slot_cells slots) k []
+pushed_cells : (bays : List Bay) (bare : Bay) → IsBare bare → (k : ℕ) → get_or (map bay_cells (bays ++ bare ∷ [])) k [] ≡ get_or (map bay_cells bays) k []
 pushed_cells [] bare is zero = is.cells
 pushed_cells [] bare is (suc k) = refl
-pushed_cells (s ∷ slots) bare is zero = refl
-pushed_cells (s ∷ slots) bare is (suc k) = pushed_cells slots bare is k
+pushed_cells (s ∷ bays) bare is zero = refl
+pushed_cells (s ∷ bays) bare is (suc k) = pushed_cells bays bare is k
 
--- a slot without a segment has no cell
-pub opened_cells : (t u : Table) (bare : Slot) → IsBare bare → u.slots.items ≡ t.slots.items ++ bare ∷ [] → SameCells t u
-opened_cells t u bare is slots n =
-    ap (λ (xs : List Slot). hidden (cell_at (get_or (map slot_cells xs) (n / 64) []) (n % 64))) slots
-    ∙ ap (λ cells. hidden (cell_at cells (n % 64))) (pushed_cells t.slots.items bare is (n / 64))
+-- a bay without a segment has no cell
+pub opened_cells : (t u : Table) (bare : Bay) → IsBare bare → u.bays.items ≡ t.bays.items ++ bare ∷ [] → SameCells t u
+opened_cells t u bare is bays n =
+    ap (λ (xs : List Bay). hidden (cell_at (get_or (map bay_cells xs) (n / 64) []) (n % 64))) bays
+    ∙ ap (λ cells. hidden (cell_at cells (n % 64))) (pushed_cells t.bays.items bare is (n / 64))
 
-pushed_sum : (f : Slot → ℕ) (slots : List Slot) (bare : Slot) → f bare ≡ 0 → sum_by f (slots ++ bare ∷ []) ≡ sum_by f slots
+pushed_sum : (f : Bay → ℕ) (bays : List Bay) (bare : Bay) → f bare ≡ 0 → sum_by f (bays ++ bare ∷ []) ≡ sum_by f bays
 pushed_sum f [] bare none = sum_by-cons f bare [] ∙ omega (arith, none)
-pushed_sum f (s ∷ slots) bare none = sum_by-cons f s (slots ++ bare ∷ []) ∙ ap (λ n. f s + n) (pushed_sum f slots bare none) ∙ sym (sum_by-cons f s slots)
+pushed_sum f (s ∷ bays) bare none = sum_by-cons f s (bays ++ bare ∷ []) ∙ ap (λ n. f s + n) (pushed_sum f bays bare none) ∙ sym (sum_by-cons f s bays)
 
--- a table with one more slot
-pub opened_table : (t u : Table) (bare : Slot) → IsTable t → IsBare bare → length t.slots.items < 2 ^ 14 → u.slots.items ≡ t.slots.items ++ bare ∷ [] → IsOrder u.order → count_of u.order ≡ count_of t.order + 1 → place_of u.order (count_of t.order) ≡ count_of t.order → ((q : ℕ) → q < count_of t.order → place_of u.order q ≡ place_of t.order q) → u.ready ≡ t.ready → u.drawn ≡ t.drawn → u.reserved ≡ t.reserved → u.used ≡ t.used → IsTable u
-opened_table t u bare was is few slots order count last places ready drawn reserved used =
+-- a table with one more bay
+pub opened_table : (t u : Table) (bare : Bay) → IsTable t → IsBare bare → length t.bays.items < 2 ^ 14 → u.bays.items ≡ t.bays.items ++ bare ∷ [] → IsOrder u.order → count_of u.order ≡ count_of t.order + 1 → place_of u.order (count_of t.order) ≡ count_of t.order → ((q : ℕ) → q < count_of t.order → place_of u.order q ≡ place_of t.order q) → u.ready ≡ t.ready → u.drawn ≡ t.drawn → u.reserved ≡ t.reserved → u.used ≡ t.used → IsTable u
+opened_table t u bare was is few bays order count last places ready drawn reserved used =
     record {
       few = omega (arith, long);
       order = order;
@@ -86,23 +86,23 @@ opened_table t u bare was is few slots order count last places ready drawn reser
       ready = omega (arith, ready, drawn, was.ready);
       drawn = omega (arith, drawn, reserved, was.drawn);
       reserved = omega (arith, reserved, long, was.reserved);
-      slots = λ s slot less read. by_slot s slot (omega (arith, long)) (sym (ap (λ (xs : List Slot). get_or xs s slot) slots) ∙ read) (cases_eq s (length t.slots.items));
-      busy = drawn ∙ was.busy ∙ sym (ap (sum_by busy_of) slots ∙ pushed_sum busy_of t.slots.items bare (omega (arith, none_in)));
-      held = used ∙ was.held ∙ sym (ap (sum_by used_of) slots ∙ pushed_sum used_of t.slots.items bare none_in);
-      used = omega (arith, used, drawn, was.used, ap (sum_by free_of) slots ∙ pushed_sum free_of t.slots.items bare is.free);
+      bays = λ s bay less read. by_bay s bay (omega (arith, long)) (sym (ap (λ (xs : List Bay). get_or xs s bay) bays) ∙ read) (cases_eq s (length t.bays.items));
+      busy = drawn ∙ was.busy ∙ sym (ap (sum_by busy_of) bays ∙ pushed_sum busy_of t.bays.items bare (omega (arith, none_in)));
+      held = used ∙ was.held ∙ sym (ap (sum_by used_of) bays ∙ pushed_sum used_of t.bays.items bare none_in);
+      used = omega (arith, used, drawn, was.used, ap (sum_by free_of) bays ∙ pushed_sum free_of t.bays.items bare is.free);
     }
   where
-    long : length u.slots.items ≡ length t.slots.items + 1
-    long = ap length slots ∙ length_push t.slots.items bare
+    long : length u.bays.items ≡ length t.bays.items + 1
+    long = ap length bays ∙ length_push t.bays.items bare
 
     none_in : used_of bare ≡ 0
     none_in = omega (arith, ap length is.cells)
 
-    by_slot : (s : ℕ) (slot : Slot) → s < length t.slots.items + 1 → get_or (t.slots.items ++ bare ∷ []) s slot ≡ slot → (s ≡ length t.slots.items) ⊎ (s ≡ length t.slots.items → ⊥) → IsSlot u.ready u.drawn (place_of u.order s) slot
-    by_slot s slot less read (inl same) =
-        let it : slot ≡ bare = sym read ∙ get_or_push t.slots.items bare slot s (sym same) in
-        let place : place_of u.order s ≡ length t.slots.items = ap (place_of u.order) (same ∙ sym was.size) ∙ last ∙ was.size in
-        subst (IsSlot u.ready u.drawn (place_of u.order s)) (sym it) (record {
+    by_bay : (s : ℕ) (bay : Bay) → s < length t.bays.items + 1 → get_or (t.bays.items ++ bare ∷ []) s bay ≡ bay → (s ≡ length t.bays.items) ⊎ (s ≡ length t.bays.items → ⊥) → IsBay u.ready u.drawn (place_of u.order s) bay
+    by_bay s bay less read (inl same) =
+        let it : bay ≡ bare = sym read ∙ get_or_push t.bays.items bare bay s (sym same) in
+        let place : place_of u.order s ≡ length t.bays.items = ap (place_of u.order) (same ∙ sym was.size) ∙ last ∙ was.size in
+        subst (IsBay u.ready u.drawn (place_of u.order s)) (sym it) (record {
           listed = none_listed bare is.cells is.first is.free;
           empty = λ h. ap length is.cells;
           bare = λ h. is.room;
@@ -111,8 +111,8 @@ opened_table t u bare was is few slots order count last places ready drawn reser
           spare = λ h. absurd (omega (arith, place, ready, was.ready, was.drawn, was.reserved));
           full = λ h. is.free;
         })
-    by_slot s slot less read (inr other) =
-        let old = was.slots s slot (omega arith) (sym (get_or_append_left t.slots.items (bare ∷ []) slot s (omega arith)) ∙ read) in
+    by_bay s bay less read (inr other) =
+        let old = was.bays s bay (omega arith) (sym (get_or_append_left t.bays.items (bare ∷ []) bay s (omega arith)) ∙ read) in
         let place : place_of u.order s ≡ place_of t.order s = places s (omega (arith, was.size)) in
         record {
           listed = old.listed;
@@ -125,9 +125,9 @@ opened_table t u bare was is few slots order count last places ready drawn reser
         }
 
 -- and no more numbers
-pub pushed_numbers : (slots : List Slot) (bare : Slot) → IsBare bare → numbers_in (slots ++ bare ∷ []) ≡ numbers_in slots
+pub pushed_numbers : (bays : List Bay) (bare : Bay) → IsBare bare → numbers_in (bays ++ bare ∷ []) ≡ numbers_in bays
 pushed_numbers [] bare is = let idle : busy_of bare ≡ 0 = omega (arith, ap length is.cells) in ap (λ b. replicate b bare.number ++ []) idle
-pushed_numbers (s ∷ slots) bare is = ap (λ xs. replicate (busy_of s) s.number ++ xs) (pushed_numbers slots bare is)
+pushed_numbers (s ∷ bays) bare is = ap (λ xs. replicate (busy_of s) s.number ++ xs) (pushed_numbers bays bare is)
 
 -- ---- a region
 
@@ -149,32 +149,32 @@ same_records t u same =
     all = λ i n. same n i
 
 -- with more rooms, and the same cells
-pub grown_held : (t u : Table) (slots : ℕ) → IsTable t → IsTable u → SameCells t u → u.used ≡ t.used → share_of u ≡ with_rooms slots (share_of t) → region_of u ≡ roomier slots (region_of t)
-grown_held t u slots was table same used share =
+pub grown_held : (t u : Table) (bays : ℕ) → IsTable t → IsTable u → SameCells t u → u.used ≡ t.used → share_of u ≡ with_rooms bays (share_of t) → region_of u ≡ roomier bays (region_of t)
+grown_held t u bays was table same used share =
     let records = same_records t u same in
-    let rooms : length u.slots.items ≡ (with_rooms slots (region_of t).share).rooms = ap (λ (s : Share). s.rooms) share in
+    let rooms : length u.bays.items ≡ (with_rooms bays (region_of t).share).rooms = ap (λ (s : Share). s.rooms) share in
     let reserved : u.reserved ≡ t.reserved = ap (λ (s : Share). s.reserved) share in
-    let drawn : sum_by busy_of u.slots.items ≡ sum_by busy_of t.slots.items = sym table.busy ∙ ap (λ (s : Share). s.drawn) share ∙ was.busy in
-    let numbers : numbers_in u.slots.items ≡ numbers_in t.slots.items = ap (λ (s : Share). s.numbers) share in
+    let drawn : sum_by busy_of u.bays.items ≡ sum_by busy_of t.bays.items = sym table.busy ∙ ap (λ (s : Share). s.drawn) share ∙ was.busy in
+    let numbers : numbers_in u.bays.items ≡ numbers_in t.bays.items = ap (λ (s : Share). s.numbers) share in
     let free : 64 * u.reserved - u.used ≡ 64 * t.reserved - t.used = omega (arith, reserved, used) in
     λ i. record { records = records i; free = free i; share = record { rooms = rooms i; reserved = reserved i; drawn = drawn i; numbers = numbers i } }
 
 pub kept_held : (t u : Table) → IsTable t → IsTable u → SameCells t u → u.used ≡ t.used → share_of u ≡ share_of t → region_of u ≡ region_of t
 kept_held t u was table same used share =
     let records = same_records t u same in
-    let rooms : length u.slots.items ≡ length t.slots.items = ap (λ (s : Share). s.rooms) share in
+    let rooms : length u.bays.items ≡ length t.bays.items = ap (λ (s : Share). s.rooms) share in
     let reserved : u.reserved ≡ t.reserved = ap (λ (s : Share). s.reserved) share in
-    let drawn : sum_by busy_of u.slots.items ≡ sum_by busy_of t.slots.items = sym table.busy ∙ ap (λ (s : Share). s.drawn) share ∙ was.busy in
-    let numbers : numbers_in u.slots.items ≡ numbers_in t.slots.items = ap (λ (s : Share). s.numbers) share in
+    let drawn : sum_by busy_of u.bays.items ≡ sum_by busy_of t.bays.items = sym table.busy ∙ ap (λ (s : Share). s.drawn) share ∙ was.busy in
+    let numbers : numbers_in u.bays.items ≡ numbers_in t.bays.items = ap (λ (s : Share). s.numbers) share in
     let free : 64 * u.reserved - u.used ≡ 64 * t.reserved - t.used = omega (arith, reserved, used) in
     λ i. record { records = records i; free = free i; share = record { rooms = rooms i; reserved = reserved i; drawn = drawn i; numbers = numbers i } }
 
 -- ---- all segments are given back
 
--- a slot with cells has all of a segment, and counts as drawn
-pub full_slot : (t : Table) (s : ℕ) (slot : Slot) → IsTable t → s < length t.slots.items → get_or t.slots.items s slot ≡ slot → 0 < length slot.cells.items → (length slot.cells.items ≡ 64) × (busy_of slot ≡ 1)
-full_slot t s slot was less read some =
-    let is = was.slots s slot less read in
+-- a bay with cells has all of a segment, and counts as drawn
+pub full_bay : (t : Table) (s : ℕ) (bay : Bay) → IsTable t → s < length t.bays.items → get_or t.bays.items s bay ≡ bay → 0 < length bay.cells.items → (length bay.cells.items ≡ 64) × (busy_of bay ≡ 1)
+full_bay t s bay was less read some =
+    let is = was.bays s bay less read in
     elim (cases_lt (place_of t.order s) t.drawn) [
       | inl below ↦ (is.whole below, omega (arith, is.whole below, is.used below))
       | inr above ↦ absurd (omega (arith, is.empty above))

@@ -50,7 +50,7 @@ may_store at k m cell was chain loose head = record {
 }
 
 -- one more cell is filled
-pub stored_more : (old now then' : Table) (left : ℕ) (link : Option ℕ) (count k : ℕ) (piece text : List ℕ) → 0 < left → IsStoring old now left link count text → length piece ≡ 48 → take (length text - (left - 1) * 48) piece ≡ take 48 (drop ((left - 1) * 48) text) → is_free (table_at now k) ≡ true → Writes (table_at now) (table_at then') k (Rest piece link) → IsTable then' → then'.used ≡ now.used + 1 → then'.reserved ≡ now.reserved → length then'.slots.items ≡ length now.slots.items → IsStoring old then' (left - 1) (Some k) count text
+pub stored_more : (old now then' : Table) (left : ℕ) (link : Option ℕ) (count k : ℕ) (piece text : List ℕ) → 0 < left → IsStoring old now left link count text → length piece ≡ 48 → take (length text - (left - 1) * 48) piece ≡ take 48 (drop ((left - 1) * 48) text) → is_free (table_at now k) ≡ true → Writes (table_at now) (table_at then') k (Rest piece link) → IsTable then' → then'.used ≡ now.used + 1 → then'.reserved ≡ now.reserved → length then'.bays.items ≡ length now.bays.items → IsStoring old then' (left - 1) (Some k) count text
 stored_more old now then' left link count k piece text some was size holds free written table more_used same_reserved long =
     let at = table_at now in
     let new = table_at then' in

@@ -1,4 +1,4 @@
--- The zones of a table's slots, and what stands at a number.
+-- The zones of a table's bays, and what stands at a number.
 use Rattle.std.proofs.Common.{◌≡◌, ◌≢◌, ℕ, true, false, ◌+◌, ◌*◌, ◌/◌, ◌%◌, ◌<◌, ◌≤◌, ◌==◌, List, [], length, map, get_or, set, None, cond, refl, sym, ap, ◌∙◌, inl, inr, ◌⊎◌, arith, subst}
 use Rattle.std.proofs.lemmas.Bool.{cases_eq, eq-eqb, ne_eqb}
 use Rattle.std.proofs.lemmas.List.{get_or-set_same, get_or-set_other, length-set, length-map, get_or-map, map-set}
@@ -6,13 +6,13 @@ use Rattle.std.proofs.lemmas.List.Sums.{sum_by-set}
 use Rattle.std.specs.Vec.{with_item}
 use Rattle.cell_arena.specs.declared.cell.Cell.{Cell}
 use Rattle.cell_arena.specs.declared.cell.Cell.TheVariants.{Free, Head, Rest}
-use Rattle.cell_arena.specs.declared.slot.Slot.{Slot}
+use Rattle.cell_arena.specs.declared.bay.Bay.{Bay}
 use Rattle.cell_arena.specs.declared.order.Order.{Order}
 use Rattle.cell_arena.specs.declared.table.Table.{Table}
-use Rattle.cell_arena.specs.Chain.{is_free, cell_at, slot_at, Writes}
+use Rattle.cell_arena.specs.Chain.{is_free, cell_at, bay_at, Writes}
 use Rattle.cell_arena.proofs.FreeList.{within}
 use Rattle.cell_arena.specs.Order.{IsOrder, count_of, place_of, swapped}
-use Rattle.cell_arena.specs.Table.{hidden, slot_cells, at_slots, IsSlot, free_of, used_of, busy_of, IsTable}
+use Rattle.cell_arena.specs.Table.{hidden, bay_cells, at_bays, IsBay, free_of, used_of, busy_of, IsTable}
 
 -- where a place goes, by cases
 pub swapped_cases : (i j p : ℕ) → ((p ≡ i) × (swapped i j p ≡ j)) ⊎ (((p ≢ i) × (p ≡ j) × (swapped i j p ≡ i)) ⊎ ((p ≢ i) × (p ≢ j) × (swapped i j p ≡ p)))
@@ -32,8 +32,8 @@ swapped_first i j = ap (λ b. cond b j (cond (i == j) i i)) (eq-eqb i i refl)
 pub place_other : (o : Order) (q s : ℕ) → IsOrder o → q < count_of o → s < count_of o → q ≢ s → place_of o q ≢ place_of o s
 place_other o q s is less less' other same = other (sym (is.there q less) ∙ ap (λ p. get_or o.order.items p 0) same ∙ is.there s less')
 
--- a slot whose place stays in its zone
-pub zone_same : (ready drawn place ready' drawn' place' : ℕ) (c : Slot) → IsSlot ready drawn place c → (place' < ready' → place < ready) → (ready' ≤ place' → ready ≤ place) → (place' < drawn' → place < drawn) → (drawn' ≤ place' → drawn ≤ place) → IsSlot ready' drawn' place' c
+-- a bay whose place stays in its zone
+pub zone_same : (ready drawn place ready' drawn' place' : ℕ) (c : Bay) → IsBay ready drawn place c → (place' < ready' → place < ready) → (ready' ≤ place' → ready ≤ place) → (place' < drawn' → place < drawn) → (drawn' ≤ place' → drawn ≤ place) → IsBay ready' drawn' place' c
 zone_same ready drawn place ready' drawn' place' c was a b d e = record {
   listed = was.listed;
   empty = λ h. was.empty (e h);
@@ -44,50 +44,50 @@ zone_same ready drawn place ready' drawn' place' c was a b d e = record {
   full = λ h. was.full (b h);
 }
 
--- what holds of each slot after one is written
-pub slots_set : (slots : List Slot) (s : ℕ) (new : Slot) (P : ℕ → Slot → Type 0) → s < length slots → P s new → ((q : ℕ) (c : Slot) → q ≢ s → q < length slots → get_or slots q c ≡ c → P q c) → (q : ℕ) (c : Slot) → q < length slots → get_or (set slots s new) q c ≡ c → P q c
-slots_set slots s new P less here others q c within read =
+-- what holds of each bay after one is written
+pub bays_set : (bays : List Bay) (s : ℕ) (new : Bay) (P : ℕ → Bay → Type 0) → s < length bays → P s new → ((q : ℕ) (c : Bay) → q ≢ s → q < length bays → get_or bays q c ≡ c → P q c) → (q : ℕ) (c : Bay) → q < length bays → get_or (set bays s new) q c ≡ c → P q c
+bays_set bays s new P less here others q c within read =
     elim (cases_eq q s) [
       | inl same ↦
-          let is : new ≡ c = sym (get_or-set_same slots s new c less) ∙ ap (λ k. get_or (set slots s new) k c) (sym same) ∙ read in
+          let is : new ≡ c = sym (get_or-set_same bays s new c less) ∙ ap (λ k. get_or (set bays s new) k c) (sym same) ∙ read in
           subst (λ k. P k c) (sym same) (subst (λ x. P s x) is here)
-      | inr other ↦ others q c other within (sym (get_or-set_other slots s q new c other) ∙ read)
+      | inr other ↦ others q c other within (sym (get_or-set_other bays s q new c other) ∙ read)
     ]
 
 pub parts : (s p : ℕ) → p < 64 → ((s * 64 + p) / 64 ≡ s) × ((s * 64 + p) % 64 ≡ p)
 parts s p less = (omega arith, omega arith)
 
-pub slot_is : (slots : List Slot) (s : ℕ) (c : Slot) → s < length slots → get_or slots s c ≡ c → get_or (map slot_cells slots) s [] ≡ slot_cells c
-slot_is slots s c less read = get_or-map slot_cells slots s c [] less ∙ ap slot_cells read
+pub bay_is : (bays : List Bay) (s : ℕ) (c : Bay) → s < length bays → get_or bays s c ≡ c → get_or (map bay_cells bays) s [] ≡ bay_cells c
+bay_is bays s c less read = get_or-map bay_cells bays s c [] less ∙ ap bay_cells read
 
--- a cell of a slot is written, and what is hidden in the others may change
-pub at_set : (slots : List Slot) (s p : ℕ) (old new : Slot) (cell : Cell) → s < length slots → p < 64 → get_or slots s old ≡ old → hidden (slot_at new p) ≡ hidden cell → ((n : ℕ) → n ≢ p → hidden (slot_at new n) ≡ hidden (slot_at old n)) → Writes (at_slots slots) (at_slots (set slots s new)) (s * 64 + p) (hidden cell)
-at_set slots s p old new cell less small read stands stays = record { here = here; others = others }
+-- a cell of a bay is written, and what is hidden in the others may change
+pub at_set : (bays : List Bay) (s p : ℕ) (old new : Bay) (cell : Cell) → s < length bays → p < 64 → get_or bays s old ≡ old → hidden (bay_at new p) ≡ hidden cell → ((n : ℕ) → n ≢ p → hidden (bay_at new n) ≡ hidden (bay_at old n)) → Writes (at_bays bays) (at_bays (set bays s new)) (s * 64 + p) (hidden cell)
+at_set bays s p old new cell less small read stands stays = record { here = here; others = others }
   where
-    now : (n : ℕ) → n / 64 ≡ s → get_or (map slot_cells (set slots s new)) (n / 64) [] ≡ slot_cells new
-    now n is = ap (λ k. get_or (map slot_cells (set slots s new)) k []) is ∙ ap (λ xs. get_or xs s []) (map-set slot_cells slots s new) ∙ get_or-set_same (map slot_cells slots) s (slot_cells new) [] (omega (arith, length-map slots slot_cells))
+    now : (n : ℕ) → n / 64 ≡ s → get_or (map bay_cells (set bays s new)) (n / 64) [] ≡ bay_cells new
+    now n is = ap (λ k. get_or (map bay_cells (set bays s new)) k []) is ∙ ap (λ xs. get_or xs s []) (map-set bay_cells bays s new) ∙ get_or-set_same (map bay_cells bays) s (bay_cells new) [] (omega (arith, length-map bays bay_cells))
 
-    before : (n : ℕ) → n / 64 ≡ s → get_or (map slot_cells slots) (n / 64) [] ≡ slot_cells old
-    before n is = ap (λ k. get_or (map slot_cells slots) k []) is ∙ slot_is slots s old less read
+    before : (n : ℕ) → n / 64 ≡ s → get_or (map bay_cells bays) (n / 64) [] ≡ bay_cells old
+    before n is = ap (λ k. get_or (map bay_cells bays) k []) is ∙ bay_is bays s old less read
 
-    here : at_slots (set slots s new) (s * 64 + p) ≡ hidden cell
-    here = ap (λ xs. hidden (cell_at xs ((s * 64 + p) % 64))) (now (s * 64 + p) (parts s p small).0) ∙ ap (λ k. hidden (cell_at (slot_cells new) k)) (parts s p small).1 ∙ stands
+    here : at_bays (set bays s new) (s * 64 + p) ≡ hidden cell
+    here = ap (λ xs. hidden (cell_at xs ((s * 64 + p) % 64))) (now (s * 64 + p) (parts s p small).0) ∙ ap (λ k. hidden (cell_at (bay_cells new) k)) (parts s p small).1 ∙ stands
 
-    others : (n : ℕ) → n ≢ s * 64 + p → at_slots (set slots s new) n ≡ at_slots slots n
+    others : (n : ℕ) → n ≢ s * 64 + p → at_bays (set bays s new) n ≡ at_bays bays n
     others n other =
         elim (cases_eq (n / 64) s) [
           | inl same ↦
               let differs : n % 64 ≢ p = λ e. other (omega arith) in
               ap (λ xs. hidden (cell_at xs (n % 64))) (now n same) ∙ stays (n % 64) differs ∙ sym (ap (λ xs. hidden (cell_at xs (n % 64))) (before n same))
-          | inr apart ↦ ap (λ xs. hidden (cell_at xs (n % 64))) (ap (λ xs. get_or xs (n / 64) []) (map-set slot_cells slots s new) ∙ get_or-set_other (map slot_cells slots) s (n / 64) (slot_cells new) [] apart)
+          | inr apart ↦ ap (λ xs. hidden (cell_at xs (n % 64))) (ap (λ xs. get_or xs (n / 64) []) (map-set bay_cells bays s new) ∙ get_or-set_other (map bay_cells bays) s (n / 64) (bay_cells new) [] apart)
         ]
 
--- what stands at a number of a slot
-pub at_is : (slots : List Slot) (s p : ℕ) (c : Slot) → s < length slots → p < 64 → get_or slots s c ≡ c → at_slots slots (s * 64 + p) ≡ hidden (slot_at c p)
-at_is slots s p c less small read =
-    ap (λ k. hidden (cell_at (get_or (map slot_cells slots) k []) ((s * 64 + p) % 64))) (parts s p small).0
-    ∙ ap (λ xs. hidden (cell_at xs ((s * 64 + p) % 64))) (slot_is slots s c less read)
-    ∙ ap (λ k. hidden (slot_at c k)) (parts s p small).1
+-- what stands at a number of a bay
+pub at_is : (bays : List Bay) (s p : ℕ) (c : Bay) → s < length bays → p < 64 → get_or bays s c ≡ c → at_bays bays (s * 64 + p) ≡ hidden (bay_at c p)
+at_is bays s p c less small read =
+    ap (λ k. hidden (cell_at (get_or (map bay_cells bays) k []) ((s * 64 + p) % 64))) (parts s p small).0
+    ∙ ap (λ xs. hidden (cell_at xs ((s * 64 + p) % 64))) (bay_is bays s c less read)
+    ∙ ap (λ k. hidden (bay_at c k)) (parts s p small).1
 
 pub hidden_used : (c : Cell) → is_free c ≡ false → hidden c ≡ c
 hidden_used (Free next) e = absurd (cc)
@@ -106,22 +106,22 @@ free_hidden (Rest bytes next) = refl
 
 -- the places of the others keep their zones
 pub record KeepsZones (t : Table) (s : ℕ) (o : Order) (ready drawn : ℕ) : Type 0 where
-  pub a : (q : ℕ) → q < length t.slots.items → q ≢ s → place_of o q < ready → place_of t.order q < t.ready
-  pub b : (q : ℕ) → q < length t.slots.items → q ≢ s → ready ≤ place_of o q → t.ready ≤ place_of t.order q
-  pub d : (q : ℕ) → q < length t.slots.items → q ≢ s → place_of o q < drawn → place_of t.order q < t.drawn
-  pub e : (q : ℕ) → q < length t.slots.items → q ≢ s → drawn ≤ place_of o q → t.drawn ≤ place_of t.order q
+  pub a : (q : ℕ) → q < length t.bays.items → q ≢ s → place_of o q < ready → place_of t.order q < t.ready
+  pub b : (q : ℕ) → q < length t.bays.items → q ≢ s → ready ≤ place_of o q → t.ready ≤ place_of t.order q
+  pub d : (q : ℕ) → q < length t.bays.items → q ≢ s → place_of o q < drawn → place_of t.order q < t.drawn
+  pub e : (q : ℕ) → q < length t.bays.items → q ≢ s → drawn ≤ place_of o q → t.drawn ≤ place_of t.order q
 
--- a slot is written, and moves
-pub table_changed : (t : Table) (s : ℕ) (old new : Slot) (o : Order) (ready drawn used : ℕ) → IsTable t → s < length t.slots.items → get_or t.slots.items s old ≡ old → IsOrder o → count_of o ≡ count_of t.order → ready ≤ drawn → drawn ≤ t.reserved → IsSlot ready drawn (place_of o s) new → KeepsZones t s o ready drawn → used + used_of old ≡ t.used + used_of new → used + new.free + 64 * t.drawn ≡ t.used + old.free + 64 * drawn → drawn + busy_of old ≡ t.drawn + busy_of new → IsTable (record { slots = with_item t.slots s new; order = o; ready = ready; drawn = drawn; reserved = t.reserved; used = used; alloc = t.alloc })
+-- a bay is written, and moves
+pub table_changed : (t : Table) (s : ℕ) (old new : Bay) (o : Order) (ready drawn used : ℕ) → IsTable t → s < length t.bays.items → get_or t.bays.items s old ≡ old → IsOrder o → count_of o ≡ count_of t.order → ready ≤ drawn → drawn ≤ t.reserved → IsBay ready drawn (place_of o s) new → KeepsZones t s o ready drawn → used + used_of old ≡ t.used + used_of new → used + new.free + 64 * t.drawn ≡ t.used + old.free + 64 * drawn → drawn + busy_of old ≡ t.drawn + busy_of new → IsTable (record { bays = with_item t.bays s new; order = o; ready = ready; drawn = drawn; reserved = t.reserved; used = used; alloc = t.alloc })
 table_changed t s old new o ready drawn used was less read order count low high here zones one total busy =
-    let slots = t.slots.items in
-    let size : length (set slots s new) ≡ length slots = length-set slots s new in
-    let change = sum_by-set free_of slots s new old less in
-    let is : free_of (get_or slots s old) ≡ old.free = ap free_of read in
-    let change' = sum_by-set used_of slots s new old less in
-    let is' : used_of (get_or slots s old) ≡ used_of old = ap used_of read in
-    let change'' = sum_by-set busy_of slots s new old less in
-    let is'' : busy_of (get_or slots s old) ≡ busy_of old = ap busy_of read in
+    let bays = t.bays.items in
+    let size : length (set bays s new) ≡ length bays = length-set bays s new in
+    let change = sum_by-set free_of bays s new old less in
+    let is : free_of (get_or bays s old) ≡ old.free = ap free_of read in
+    let change' = sum_by-set used_of bays s new old less in
+    let is' : used_of (get_or bays s old) ≡ used_of old = ap used_of read in
+    let change'' = sum_by-set busy_of bays s new old less in
+    let is'' : busy_of (get_or bays s old) ≡ busy_of old = ap busy_of read in
     record {
       few = omega (arith, size, was.few);
       order = order;
@@ -129,8 +129,8 @@ table_changed t s old new o ready drawn used was less read order count low high 
       ready = low;
       drawn = high;
       reserved = omega (arith, size, was.reserved);
-      slots = λ q c within reads. slots_set slots s new (λ q c. IsSlot ready drawn (place_of o q) c) less here
-          (λ q c other within reads. zone_same t.ready t.drawn (place_of t.order q) ready drawn (place_of o q) c (was.slots q c within reads) (zones.a q within other) (zones.b q within other) (zones.d q within other) (zones.e q within other)) q c (omega (arith, size, within)) reads;
+      bays = λ q c within reads. bays_set bays s new (λ q c. IsBay ready drawn (place_of o q) c) less here
+          (λ q c other within reads. zone_same t.ready t.drawn (place_of t.order q) ready drawn (place_of o q) c (was.bays q c within reads) (zones.a q within other) (zones.b q within other) (zones.d q within other) (zones.e q within other)) q c (omega (arith, size, within)) reads;
       busy = omega (arith, change'', is'', was.busy, busy);
       held = omega (arith, change', is', was.held, one);
       used = omega (arith, change, is, was.used, total);

@@ -6,7 +6,7 @@ use Rattle.cell_arena.specs.declared.cell.Cell.TheVariants.{Free, Head, Rest}
 use Rattle.cell_arena.specs.declared.cell.HeadCell.{HeadCell}
 use Rattle.cell_arena.specs.declared.cell.Kind.{Kind}
 use Rattle.cell_arena.specs.declared.cell.Fields.{Fields}
-use Rattle.cell_arena.specs.declared.slot.Slot.{Slot}
+use Rattle.cell_arena.specs.declared.bay.Bay.{Bay}
 
 abbrev pub is_free : Cell → Bool
 is_free (Free next) = true
@@ -38,8 +38,8 @@ bytes_of (Rest bytes next) = bytes
 abbrev pub cell_at : List Cell → ℕ → Cell
 cell_at cells n = slice_index_or cells n (Free None)
 
-abbrev pub slot_at : Slot → ℕ → Cell
-slot_at slot = cell_at slot.cells.items
+abbrev pub bay_at : Bay → ℕ → Cell
+bay_at bay = cell_at bay.cells.items
 
 -- one cell is written, and all others stay
 pub record Writes (old new : ℕ → Cell) (at : ℕ) (cell : Cell) : Type 0 where
@@ -53,25 +53,25 @@ IsFreeList at bound (suc count) link =
     (n : ℕ) × (next : Option ℕ) × (link ≡ Some n) × (n < bound) × (at n ≡ Free next)
     × IsFreeList at bound count next
 
--- the list holds every free cell of the slot
-pub record IsListed (slot : Slot) : Type 0 where
-  pub short : length slot.cells.items ≤ 64
-  pub counted : slot.free ≡ count_by is_free slot.cells.items
-  pub listed : IsFreeList (slot_at slot) (length slot.cells.items) slot.free slot.first
+-- the list holds every free cell of the bay
+pub record IsListed (bay : Bay) : Type 0 where
+  pub short : length bay.cells.items ≤ 64
+  pub counted : bay.free ≡ count_by is_free bay.cells.items
+  pub listed : IsFreeList (bay_at bay) (length bay.cells.items) bay.free bay.first
 
--- a slot without a segment, which keeps no memory for cells
-pub record IsBare (slot : Slot) : Type 0 where
-  pub cells : slot.cells.items ≡ []
-  pub room : vec_capacity slot.cells ≡ 0
-  pub first : slot.first ≡ None
-  pub free : slot.free ≡ 0
+-- a bay without a segment, which keeps no memory for cells
+pub record IsBare (bay : Bay) : Type 0 where
+  pub cells : bay.cells.items ≡ []
+  pub room : vec_capacity bay.cells ≡ 0
+  pub first : bay.first ≡ None
+  pub free : bay.free ≡ 0
 
-abbrev pub AllBare : List Slot → Type 0
+abbrev pub AllBare : List Bay → Type 0
 AllBare [] = Unit {0}
-AllBare (slot ∷ slots) = IsBare slot × AllBare slots
+AllBare (bay ∷ bays) = IsBare bay × AllBare bays
 
-abbrev pub AllFree : Slot → Type 0
-AllFree slot = (n : ℕ) → is_free (slot_at slot n) ≡ true
+abbrev pub AllFree : Bay → Type 0
+AllFree bay = (n : ℕ) → is_free (bay_at bay n) ≡ true
 
 -- from this link on, so many cells of bytes each name the next, and the last names none
 abbrev pub IsChain : (ℕ → Cell) → ℕ → Option ℕ → Type 0

@@ -126,19 +126,19 @@ records_of at bound = from_entries (entries_below (record_at at) bound)
 
 abbrev pub region_of : Table → RegionState
 region_of t = record {
-  records = records_of (table_at t) (64 * length t.slots.items);
+  records = records_of (table_at t) (64 * length t.bays.items);
   free = 64 * t.reserved - t.used;
   share = record {
-    rooms = length t.slots.items;
+    rooms = length t.bays.items;
     reserved = t.reserved;
-    drawn = sum_by busy_of t.slots.items;
-    numbers = numbers_in t.slots.items;
+    drawn = sum_by busy_of t.bays.items;
+    numbers = numbers_in t.bays.items;
   };
 }
 
 -- how many cells are in use
-abbrev pub used_cells : RegionState → ℕ
-used_cells held = 64 * held.share.reserved - held.free
+abbrev pub filled_cells : RegionState → ℕ
+filled_cells held = 64 * held.share.reserved - held.free
 
 -- with rooms for so many segments at least
 abbrev pub roomier : ℕ → RegionState → RegionState
@@ -148,11 +148,11 @@ roomier segments held = record held { share = with_rooms segments held.share }
 abbrev pub with_cells : ℕ → RegionState → RegionState
 with_cells cells held = record {
   records = held.records;
-  free = cells - used_cells held;
+  free = cells - filled_cells held;
   share = with_reserved (cells / 64) held.share;
 }
 
--- what always holds of a region: its slots and their order fit, and the cells of each record are linked
+-- what always holds of a region: its bays and their order fit, and the cells of each record are linked
 pub record IsRegion (t : Table) : Type 0 where
   pub table : IsTable t
   pub linked : IsLinked (table_at t)

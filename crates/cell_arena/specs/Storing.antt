@@ -17,7 +17,7 @@ pub record IsStoring (old now : Table) (left : ℕ) (link : Option ℕ) (count :
       ≡ drop (left * 48) bytes
   pub kept : SameRecords (table_at old) (table_at now)
   pub reserved : now.reserved ≡ old.reserved
-  pub size : length now.slots.items ≡ length old.slots.items
+  pub size : length now.bays.items ≡ length old.bays.items
 
 abbrev pub IsStored : Table → Table → Option ℕ → ℕ → List ℕ → Type 0
 IsStored old now link count bytes = IsStoring old now 0 link count bytes

@@ -66,7 +66,7 @@ fn free_chain<S: Segments>(table: &mut Table, segments: &mut S, first: Link, cou
     ensures linked { IsLinked (table_at table.new) }
     ensures used { table.new.used + count ≡ table.old.used }
     ensures kept { SameRecords (table_at table.old) (table_at table.new) }
-    ensures length { length table.new.slots.items ≡ length table.old.slots.items }
+    ensures length { length table.new.bays.items ≡ length table.old.bays.items }
     ensures settles { Settles (share_of table.old) (S.loan segments.old)
         (share_of table.new) (S.loan segments.new) }
     ensures none_drawn { DrawsNone (share_of table.old) (share_of table.new) }
@@ -90,7 +90,7 @@ pub(crate) fn release<S: Segments>(table: &mut Table, segments: &mut S, at: Cell
     ensures used { table.new.used + cost_at (table_at table.old at) ≡ table.old.used }
     ensures gone { record_at (table_at table.new) at ≡ None }
     ensures kept { SameRecordsBut at (table_at table.old) (table_at table.new) }
-    ensures length { length table.new.slots.items ≡ length table.old.slots.items }
+    ensures length { length table.new.bays.items ≡ length table.old.bays.items }
     ensures settles { Settles (share_of table.old) (S.loan segments.old)
         (share_of table.new) (S.loan segments.new) }
     ensures none_drawn { DrawsNone (share_of table.old) (share_of table.new) }
@@ -144,7 +144,7 @@ pub(crate) fn place<S: Segments>(
     ensures placed { record_at (table_at table.new) result
         ≡ Some (record { kind = kind; fields = fields; key = key.now; value = value.now; older = None }) }
     ensures kept { SameRecordsBut result (table_at table.old) (table_at table.new) }
-    ensures length { length table.new.slots.items ≡ length table.old.slots.items }
+    ensures length { length table.new.bays.items ≡ length table.old.bays.items }
     ensures settles { Settles (share_of table.old) (S.loan segments.old)
         (share_of table.new) (S.loan segments.new) }
     ensures draws { DrawsFor table.new.used (share_of table.old) (share_of table.new) }
@@ -213,7 +213,7 @@ pub(crate) fn set_older(table: &mut Table, at: CellNo, older: Link)
     ensures kept { SameRecordsBut at (table_at table.old) (table_at table.new) }
     ensures used { table.new.used ≡ table.old.used }
     ensures share { KeepsShare (share_of table.old) (share_of table.new) }
-    ensures length { length table.new.slots.items ≡ length table.old.slots.items }
+    ensures length { length table.new.bays.items ≡ length table.old.bays.items }
 {
     let (kind, head) = head_at(table, at);
     let cell = Cell::Head(kind, HeadCell { older, ..*head });

@@ -36,7 +36,7 @@ fn copy_cells<S: Segments>(
         ≡ take (count * 48) (chain_bytes (table_at table.old) cells first) }
     ensures used { table.new.used ≡ table.old.used + count }
     ensures kept { SameRecords (table_at table.old) (table_at table.new) }
-    ensures length { length table.new.slots.items ≡ length table.old.slots.items }
+    ensures length { length table.new.bays.items ≡ length table.old.bays.items }
     ensures settles { Settles (share_of table.old) (S.loan segments.old)
         (share_of table.new) (S.loan segments.new) }
     ensures draws { DrawsFor table.new.used (share_of table.old) (share_of table.new) }
@@ -67,7 +67,7 @@ fn turn_chain(table: &mut Table, first: Link, count: usize) -> Link
     ensures used { table.new.used ≡ table.old.used }
     ensures share { KeepsShare (share_of table.old) (share_of table.new) }
     ensures kept { SameRecords (table_at table.old) (table_at table.new) }
-    ensures length { length table.new.slots.items ≡ length table.old.slots.items }
+    ensures length { length table.new.bays.items ≡ length table.old.bays.items }
 {
     let mut back = first;
     let mut next = Link::none();
@@ -103,7 +103,7 @@ pub(crate) fn place_delete<S: Segments>(
         (λ r. record_at (table_at table.new) result
         ≡ Some (record { kind = Kind.Delete; fields = fields; key = r.key; value = []; older = None })) }
     ensures kept { SameRecordsBut result (table_at table.old) (table_at table.new) }
-    ensures length { length table.new.slots.items ≡ length table.old.slots.items }
+    ensures length { length table.new.bays.items ≡ length table.old.bays.items }
     ensures settles { Settles (share_of table.old) (S.loan segments.old)
         (share_of table.new) (S.loan segments.new) }
     ensures draws { DrawsFor table.new.used (share_of table.old) (share_of table.new) }

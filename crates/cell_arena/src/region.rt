@@ -7,7 +7,7 @@ ghost use Rattle.cell_arena.specs.declared.cell.Kind.{Kind};
 ghost use Rattle.cell_arena.specs.Loan.{IsLent, Settles, KeepsShare, DrawsFor, DrawsNone, IsBusy};
 ghost use Rattle.cell_arena.specs.Loan.{CanReserve, returned};
 ghost use Rattle.cell_arena.specs.Region.{IsHead, IsNoHead, OfRecord, SetsRecord, DropsRecord, is_head};
-ghost use Rattle.cell_arena.specs.Region.{cells_for, delete_cost, record_cost, used_cells, unlinked};
+ghost use Rattle.cell_arena.specs.Region.{cells_for, delete_cost, record_cost, filled_cells, unlinked};
 ghost use Rattle.cell_arena.specs.Region.{IsFrontOf, no_records, roomier, with_cells};
 
 use crate::cell::{Fields, Kind};
@@ -64,8 +64,8 @@ impl Region {
     }
 
     /// How many cells are in use.
-    pub fn used_cells(&self) -> u32
-        ensures { result ≡ used_cells self.now }
+    pub fn filled_cells(&self) -> u32
+        ensures { result ≡ filled_cells self.now }
     {
         self.table.used
     }
@@ -88,7 +88,7 @@ impl Region {
         ensures placed { SetsRecord self.old self.new result (unlinked kind fields key.now value.now) }
         ensures free { self.new.free + cells_for key.now value.now ≡ self.old.free }
         ensures settles { Settles self.old.share (S.loan segments.old) self.new.share (S.loan segments.new) }
-        ensures draws { DrawsFor (used_cells self.new) self.old.share self.new.share }
+        ensures draws { DrawsFor (filled_cells self.new) self.old.share self.new.share }
     {
         chain::place(&mut self.table, segments, kind, fields, key, value)
     }
@@ -110,7 +110,7 @@ impl Region {
             (λ r. SetsRecord self.old self.new result (unlinked Kind.Delete fields r.key [])) }
         ensures free { OfRecord self.old of (λ r. self.new.free + delete_cost r ≡ self.old.free) }
         ensures settles { Settles self.old.share (S.loan segments.old) self.new.share (S.loan segments.new) }
-        ensures draws { DrawsFor (used_cells self.new) self.old.share self.new.share }
+        ensures draws { DrawsFor (filled_cells self.new) self.old.share self.new.share }
     {
         copying::place_delete(&mut self.table, segments, of, fields)
     }
@@ -124,7 +124,7 @@ impl Region {
         ensures free { OfRecord self.old cell (λ r. self.new.free ≡ self.old.free + record_cost r) }
         ensures settles { Settles self.old.share (S.loan segments.old) self.new.share (S.loan segments.new) }
         ensures none_drawn { DrawsNone self.old.share self.new.share }
-        ensures busy { IsBusy (used_cells self.new) self.new.share }
+        ensures busy { IsBusy (filled_cells self.new) self.new.share }
     {
         chain::release(&mut self.table, segments, cell);
     }
@@ -152,7 +152,7 @@ impl Region {
         requires whole { cells % 64 ≡ 0 }
         requires can { CanReserve (cells / 64) self.old.share }
         ensures cells { self.new ≡ with_cells cells self.old }
-        ensures fits { used_cells self.old ≤ cells }
+        ensures fits { filled_cells self.old ≤ cells }
     {
         self.table.reserved = cells / 64;
     }

@@ -1,4 +1,4 @@
--- The changes of one chunk, as what is written in its slot.
+-- The changes of one chunk, as what is written in its bay.
 use Rattle.std.proofs.Common.{◌≡◌, ℕ, ◌+◌, ◌-◌, ◌<◌, ◌≤◌, List, ◌∷◌, ◌++◌, length, set, take, drop, refl, sym, ap, ◌∙◌, arith, inl, inr}
 use Rattle.std.specs.List.{insert, remove}
 use Rattle.std.proofs.lemmas.Bool.{cases_lt}
@@ -68,7 +68,7 @@ module _ {T : Type 0} where
         spans_are = refl;
       }
 
-  -- places for items that come from another slot
+  -- places for items that come from another bay
   room_for : (xs : List T) (s t : Span) (n : ℕ) → IsSpan xs s → IsSpan xs t → n ≤ s.len → t.first + n ≤ length xs
   room_for xs s t n is it le = elim (cases_lt 0 (length xs)) [
     | inl some ↦ omega (arith, it.whole some, is.short, le)

@@ -1,11 +1,11 @@
--- Slots that share no place, and what one change leaves of the chunks in them.
+-- Bays that share no place, and what one change leaves of the chunks in them.
 use Rattle.std.proofs.Common.{◌≡◌, ℕ, zero, suc, ◌+◌, ◌-◌, ◌*◌, ◌<◌, ◌≤◌, ◌⊎◌, List, [], ◌∷◌, ◌++◌, length, get_or, set, take, drop, refl, sym, ap, subst, ◌∙◌, arith, inl, inr}
 use Rattle.std.specs.List.{insert, remove, AllByRecursion}
 use Rattle.std.proofs.lemmas.Bool.{cases_lt}
 use Rattle.std.proofs.lemmas.List.{map-append, length-append, length-map, length-set, length-drop, length-take-le, take-append-drop, drop_more, get_or-map, map-set, set_split, take-map, drop-map, set-get_or}
 use Rattle.std.proofs.lemmas.List.Edits.{length-insert, length-remove}
 use Rattle.chunk_list.specs.Chunks.{chunk_at}
-use Rattle.chunk_list.specs.Shelves.{stretch, written, span_items, chunks_in, slots_of, covers, covered, TakesSlot, IsSpan, IsShelf}
+use Rattle.chunk_list.specs.Shelves.{stretch, written, span_items, chunks_in, bays_of, covers, covered, TakesBay, IsSpan, IsShelf}
 use Rattle.chunk_list.specs.declared.span.TheConstants.{MOST}
 use Rattle.chunk_list.specs.declared.span.Span.{Span}
 use Rattle.chunk_list.proofs.Stretches.{length_written, written_here, written_below, written_above, stretch_kept}
@@ -41,13 +41,13 @@ module _ {X : Type 0} where
   all_map P Q more [] all = tt
   all_map P Q more (x ∷ xs) all = (more x all.0, all_map P Q more xs all.1)
 
--- ---- places in slots
+-- ---- places in bays
 
 covered_append : (place : ℕ) (xs ys : List ℕ) → covered place (xs ++ ys) ≡ covered place xs + covered place ys
 covered_append place [] ys = omega arith
 covered_append place (x ∷ xs) ys = omega (arith, covered_append place xs ys)
 
--- two slots share no place
+-- two bays share no place
 abbrev AreApart : ℕ → ℕ → Type 0
 AreApart first other = (first + MOST ≤ other) ⊎ (other + MOST ≤ first)
 
@@ -63,7 +63,7 @@ apart_one first other none = elim (cases_lt first other) [
   ]
 ]
 
-apart_all : (first : ℕ) (spans : List Span) → ((place : ℕ) → first ≤ place → place < first + MOST → covered place (slots_of spans) ≡ 0) → AllByRecursion (λ s. AreApart first s.first) spans
+apart_all : (first : ℕ) (spans : List Span) → ((place : ℕ) → first ≤ place → place < first + MOST → covered place (bays_of spans) ≡ 0) → AllByRecursion (λ s. AreApart first s.first) spans
 apart_all first [] none = tt
 apart_all first (s ∷ spans) none = (
   apart_one first s.first (λ p a b. omega (arith, none p a b)),
@@ -74,33 +74,33 @@ spans_split : (spans : List Span) (i : ℕ) (s : Span) → i < length spans → 
 spans_split spans i s lt is =
     sym (take-append-drop i spans) ∙ ap (λ xs. take i spans ++ xs) (drop_more spans i s lt ∙ ap (λ x. x ∷ drop (i + 1) spans) (sym is))
 
-covered_split : (place : ℕ) (spans : List Span) (i : ℕ) (s : Span) → i < length spans → s ≡ get_or spans i s → covered place (slots_of spans) ≡ covered place (slots_of (take i spans)) + (covers place s.first + covered place (slots_of (drop (i + 1) spans)))
+covered_split : (place : ℕ) (spans : List Span) (i : ℕ) (s : Span) → i < length spans → s ≡ get_or spans i s → covered place (bays_of spans) ≡ covered place (bays_of (take i spans)) + (covers place s.first + covered place (bays_of (drop (i + 1) spans)))
 covered_split place spans i s lt is =
-    ap (λ xs. covered place (slots_of xs)) (spans_split spans i s lt is)
+    ap (λ xs. covered place (bays_of xs)) (spans_split spans i s lt is)
     ∙ ap (covered place) (map-append (λ (o : Span). o.first) (take i spans) (s ∷ drop (i + 1) spans))
-    ∙ covered_append place (slots_of (take i spans)) (slots_of (s ∷ drop (i + 1) spans))
+    ∙ covered_append place (bays_of (take i spans)) (bays_of (s ∷ drop (i + 1) spans))
 
--- the slots of other chunks share no place with that of one
+-- the bays of other chunks share no place with that of one
 record IsAround (spans : List Span) (i : ℕ) (s : Span) : Type 0 where
   pub before : AllByRecursion (λ o. AreApart s.first o.first) (take i spans)
   pub after : AllByRecursion (λ o. AreApart s.first o.first) (drop (i + 1) spans)
 
-around : (spans : List Span) (i : ℕ) (s : Span) → i < length spans → s ≡ get_or spans i s → ((place : ℕ) → covered place (slots_of spans) ≤ 1) → IsAround spans i s
+around : (spans : List Span) (i : ℕ) (s : Span) → i < length spans → s ≡ get_or spans i s → ((place : ℕ) → covered place (bays_of spans) ≤ 1) → IsAround spans i s
 around spans i s lt is once = record {
   before = apart_all s.first (take i spans) (λ p a b. omega (arith, a, b, once p, covered_split p spans i s lt is));
   after = apart_all s.first (drop (i + 1) spans) (λ p a b. omega (arith, a, b, once p, covered_split p spans i s lt is));
 }
 
-same_slots : (spans : List Span) (i : ℕ) (s s' : Span) → i < length spans → s ≡ get_or spans i s → s'.first ≡ s.first → slots_of (set spans i s') ≡ slots_of spans
-same_slots spans i s s' lt is first =
+same_bays : (spans : List Span) (i : ℕ) (s s' : Span) → i < length spans → s ≡ get_or spans i s → s'.first ≡ s.first → bays_of (set spans i s') ≡ bays_of spans
+same_bays spans i s s' lt is first =
     map-set (λ (o : Span). o.first) spans i s'
-    ∙ ap (set (slots_of spans) i) (first ∙ ap (λ (o : Span). o.first) is ∙ sym (get_or-map (λ (o : Span). o.first) spans i s 0 lt))
-    ∙ set-get_or (slots_of spans) i 0
+    ∙ ap (set (bays_of spans) i) (first ∙ ap (λ (o : Span). o.first) is ∙ sym (get_or-map (λ (o : Span). o.first) spans i s 0 lt))
+    ∙ set-get_or (bays_of spans) i 0
 
--- how a slot that is taken stands to the others
+-- how a bay that is taken stands to the others
 pub record IsTaken (spans : List Span) (free free' : List ℕ) (most first : ℕ) : Type 0 where
-  pub apart : (place : ℕ) → covers place first + (covered place (slots_of spans) + covered place free') ≤ 1
-  pub made : (place : ℕ) → (length spans + 1 + length free') * MOST ≤ place → covers place first + (covered place (slots_of spans) + covered place free') ≡ 0
+  pub apart : (place : ℕ) → covers place first + (covered place (bays_of spans) + covered place free') ≤ 1
+  pub made : (place : ℕ) → (length spans + 1 + length free') * MOST ≤ place → covers place first + (covered place (bays_of spans) + covered place free') ≡ 0
   pub few : length spans + 1 + length free' ≤ most
   pub within : first + MOST ≤ most * MOST
 
@@ -136,7 +136,7 @@ module _ {T : Type 0} where
 
   -- ---- one chunk changed
 
-  -- a chunk's items give way to others, which are written in its slot
+  -- a chunk's items give way to others, which are written in its bay
   pub record IsChange (xs ys : List T) (spans spans' : List Span) (i : ℕ) (s s' : Span) (p : List T) : Type 0 where
     pub lt : i < length spans
     pub is : s ≡ get_or spans i s
@@ -170,7 +170,7 @@ module _ {T : Type 0} where
       ∙ ap (λ ps. ps ++ p ∷ drop (i + 1) (chunks_in xs spans)) (take-map (λ s. span_items xs s) i spans)
       ∙ ap (λ ps. chunks_in xs (take i spans) ++ p ∷ ps) (drop-map (λ s. span_items xs s) (i + 1) spans)
 
-  pub change_chunks : (xs ys : List T) (spans spans' : List Span) (i : ℕ) (s s' : Span) (p : List T) → AllByRecursion (IsSpan xs) spans → ((place : ℕ) → covered place (slots_of spans) ≤ 1) → IsChange xs ys spans spans' i s s' p → chunks_in ys spans' ≡ set (chunks_in xs spans) i p
+  pub change_chunks : (xs ys : List T) (spans spans' : List Span) (i : ℕ) (s s' : Span) (p : List T) → AllByRecursion (IsSpan xs) spans → ((place : ℕ) → covered place (bays_of spans) ≤ 1) → IsChange xs ys spans spans' i s s' p → chunks_in ys spans' ≡ set (chunks_in xs spans) i p
   change_chunks xs ys spans spans' i s s' p all once c =
       let one : suc i ≡ i + 1 = omega arith in
       let le : s.first ≤ length xs = omega (arith, c.within) in
@@ -186,7 +186,7 @@ module _ {T : Type 0} where
       ∙ ap (λ ps. chunks_in xs (take i spans) ++ p ∷ ps) after
       ∙ sym (set_chunks xs spans i p c.lt)
 
-  once : (xs : List T) (spans : List Span) (free : List ℕ) (most a b c : ℕ) → IsShelf xs spans free most a b c → (place : ℕ) → covered place (slots_of spans) ≤ 1
+  once : (xs : List T) (spans : List Span) (free : List ℕ) (most a b c : ℕ) → IsShelf xs spans free most a b c → (place : ℕ) → covered place (bays_of spans) ≤ 1
   once xs spans free most a b c shelf place = omega (arith, shelf.apart place)
 
   pub changed : (xs ys : List T) (spans spans' : List Span) (free : List ℕ) (most a b c : ℕ) (i : ℕ) (s s' : Span) (p : List T) (v : List (List T)) → chunks_in xs spans ≡ v → IsShelf xs spans free most a b c → IsChange xs ys spans spans' i s s' p → chunks_in ys spans' ≡ set v i p
@@ -206,7 +206,7 @@ module _ {T : Type 0} where
   changed_shelf xs ys spans spans' free most a b c a' b' c' i s s' p shelf la lb lc change =
       let here = span_of xs spans i s change.lt change.is shelf.spans_are in
       let size : length ys ≡ length xs = ap length change.places ∙ length_written xs s.first p change.within in
-      let slots : slots_of spans' ≡ slots_of spans = ap slots_of change.spans_are ∙ same_slots spans i s s' change.lt change.is change.first in
+      let bays : bays_of spans' ≡ bays_of spans = ap bays_of change.spans_are ∙ same_bays spans i s s' change.lt change.is change.first in
       let count : length spans' ≡ length spans = ap length change.spans_are ∙ length-set spans i s' in
       let new : IsSpan ys s' = record {
         within = omega (arith, size, change.first, change.len, change.within);
@@ -216,8 +216,8 @@ module _ {T : Type 0} where
       } in
       record {
         spans_are = subst (AllByRecursion (IsSpan ys)) (sym change.spans_are) (all_set (IsSpan ys) spans i s' (all_map (IsSpan xs) (IsSpan ys) (λ o. span_same xs ys o size) spans shelf.spans_are) new);
-        apart = λ place. omega (arith, ap (covered place) slots, shelf.apart place);
-        made = λ place far. omega (arith, ap (covered place) slots, shelf.made place (omega (arith, far, count)));
+        apart = λ place. omega (arith, ap (covered place) bays, shelf.apart place);
+        made = λ place far. omega (arith, ap (covered place) bays, shelf.made place (omega (arith, far, count)));
         few = omega (arith, count, shelf.few);
         fits = shelf.fits;
         places_room_is = omega (arith, la, shelf.places_room_is);
@@ -264,7 +264,7 @@ module _ {T : Type 0} where
       ∙ ap (λ ps. ps ++ [] ∷ chunks_in xs (drop i spans)) (sym (take-map (λ o. span_items xs o) i spans))
       ∙ ap (λ ps. take i (chunks_in xs spans) ++ [] ∷ ps) (sym (drop-map (λ o. span_items xs o) i spans))
 
-  pub taken : (xs : List T) (spans : List Span) (free free' : List ℕ) (most a b c first : ℕ) → IsShelf xs spans free most a b c → length spans < most → TakesSlot free free' (length spans) first → IsTaken spans free free' most first
+  pub taken : (xs : List T) (spans : List Span) (free free' : List ℕ) (most a b c first : ℕ) → IsShelf xs spans free most a b c → length spans < most → TakesBay free free' (length spans) first → IsTaken spans free free' most first
   taken xs spans free free' most a b c first shelf less takes = elim takes [
     | inl again ↦
         let count : length free ≡ length free' + 1 = ap length again ∙ length-append free' (first ∷ []) in
@@ -296,10 +296,10 @@ module _ {T : Type 0} where
   pub opened_shelf : (xs ys : List T) (spans : List Span) (free free' : List ℕ) (most a b c a' b' c' : ℕ) (i : ℕ) (s : Span) → IsShelf xs spans free most a b c → IsTaken spans free free' most s.first → s.len ≡ 0 → i ≤ length spans → length xs ≤ length ys → s.first + MOST ≤ length ys → a ≤ a' → b ≤ b' → c ≤ c' → IsShelf ys (insert spans i s) free' most a' b' c'
   opened_shelf xs ys spans free free' most a b c a' b' c' i s shelf taken none le more enough la lb lc =
       let count = length-insert spans i s le in
-      let whole : (place : ℕ) → covered place (slots_of spans) ≡ covered place (slots_of (take i spans)) + covered place (slots_of (drop i spans)) =
-      λ place. ap (λ xs. covered place (slots_of xs)) (sym (take-append-drop i spans)) ∙ ap (covered place) (map-append (λ (o : Span). o.first) (take i spans) (drop i spans)) ∙ covered_append place (slots_of (take i spans)) (slots_of (drop i spans)) in
-      let parts : (place : ℕ) → covered place (slots_of (insert spans i s)) ≡ covered place (slots_of (take i spans)) + (covers place s.first + covered place (slots_of (drop i spans))) =
-      λ place. ap (covered place) (map-append (λ (o : Span). o.first) (take i spans) (s ∷ drop i spans)) ∙ covered_append place (slots_of (take i spans)) (slots_of (s ∷ drop i spans)) in
+      let whole : (place : ℕ) → covered place (bays_of spans) ≡ covered place (bays_of (take i spans)) + covered place (bays_of (drop i spans)) =
+      λ place. ap (λ xs. covered place (bays_of xs)) (sym (take-append-drop i spans)) ∙ ap (covered place) (map-append (λ (o : Span). o.first) (take i spans) (drop i spans)) ∙ covered_append place (bays_of (take i spans)) (bays_of (drop i spans)) in
+      let parts : (place : ℕ) → covered place (bays_of (insert spans i s)) ≡ covered place (bays_of (take i spans)) + (covers place s.first + covered place (bays_of (drop i spans))) =
+      λ place. ap (covered place) (map-append (λ (o : Span). o.first) (take i spans) (s ∷ drop i spans)) ∙ covered_append place (bays_of (take i spans)) (bays_of (s ∷ drop i spans)) in
       let all = filled_spans xs ys spans more (omega (arith, enough)) shelf.spans_are in
       let new : IsSpan ys s = record {
         within = omega (arith, none, enough);
@@ -332,8 +332,8 @@ module _ {T : Type 0} where
       let count = ap length gone in
       let less = length-remove spans i lt in
       let more = ap length given ∙ length-append free (s.first ∷ []) in
-      let parts : (place : ℕ) → covered place (slots_of spans') ≡ covered place (slots_of (take i spans)) + covered place (slots_of (drop (i + 1) spans)) =
-      λ place. ap (λ xs. covered place (slots_of xs)) (gone ∙ ap (λ n. take i spans ++ drop n spans) one) ∙ ap (covered place) (map-append (λ (o : Span). o.first) (take i spans) (drop (i + 1) spans)) ∙ covered_append place (slots_of (take i spans)) (slots_of (drop (i + 1) spans)) in
+      let parts : (place : ℕ) → covered place (bays_of spans') ≡ covered place (bays_of (take i spans)) + covered place (bays_of (drop (i + 1) spans)) =
+      λ place. ap (λ xs. covered place (bays_of xs)) (gone ∙ ap (λ n. take i spans ++ drop n spans) one) ∙ ap (covered place) (map-append (λ (o : Span). o.first) (take i spans) (drop (i + 1) spans)) ∙ covered_append place (bays_of (take i spans)) (bays_of (drop (i + 1) spans)) in
       let kept : (place : ℕ) → covered place free' ≡ covered place free + (covers place s.first + 0) = λ place. ap (covered place) given ∙ covered_append place free (s.first ∷ []) in
       record {
         spans_are = subst (AllByRecursion (IsSpan xs)) (sym gone) (all_append (IsSpan xs) (take i spans) (drop (suc i) spans) (all_take (IsSpan xs) spans i shelf.spans_are) (all_drop (IsSpan xs) spans (suc i) shelf.spans_are));

@@ -1,4 +1,4 @@
--- Chunks in places of one vector: each has a slot, which is `MOST` places in a row.
+-- Chunks in places of one vector: each has a bay, which is `MOST` places in a row.
 use Rattle.std.specs.Prelude.{◌≡◌, ℕ, ◌+◌, ◌-◌, ◌*◌, ◌<◌, ◌≤◌, ◌^◌, List, [], ◌∷◌, ◌++◌, length, take, drop, map, refl, ◌⊎◌}
 use Rattle.std.specs.Coded.{Coded, code_by, coded×, coded_ℕ, coded_list}
 use Rattle.std.specs.List.{AllByRecursion}
@@ -34,38 +34,38 @@ span_items places span = stretch places span.first span.len
 abbrev pub chunks_in : {T : Type 0} → List T → List Span → List (List T)
 chunks_in places spans = map (λ s. span_items places s) spans
 
--- the first places of the slots of chunks
-abbrev pub slots_of : List Span → List ℕ
-slots_of spans = map (λ s. s.first) spans
+-- the first places of the bays of chunks
+abbrev pub bays_of : List Span → List ℕ
+bays_of spans = map (λ s. s.first) spans
 
--- 1 if a place is one of the slot with this first place, and else 0
+-- 1 if a place is one of the bay with this first place, and else 0
 abbrev pub covers : ℕ → ℕ → ℕ
 covers place first = 1 - ((first - place) + (place + 1 - (first + MOST)))
 
--- in how many slots a place is
+-- in how many bays a place is
 abbrev pub covered : ℕ → List ℕ → ℕ
 covered place [] = 0
-covered place (slot ∷ slots) = covers place slot + covered place slots
+covered place (bay ∷ bays) = covers place bay + covered place bays
 
--- a slot is taken: the one that was given back last, or else the next after so many that were made
-abbrev pub TakesSlot : List ℕ → List ℕ → ℕ → ℕ → Type 0
-TakesSlot free left made first = (free ≡ left ++ first ∷ []) ⊎ ((free ≡ []) × (left ≡ []) × (first ≡ made * MOST))
+-- a bay is taken: the one that was given back last, or else the next after so many that were made
+abbrev pub TakesBay : List ℕ → List ℕ → ℕ → ℕ → Type 0
+TakesBay free left made first = (free ≡ left ++ first ∷ []) ⊎ ((free ≡ []) × (left ≡ []) × (first ≡ made * MOST))
 
--- the items of a chunk stand in its slot, and the slot was made unless there is no place at all
+-- the items of a chunk stand in its bay, and the bay was made unless there is no place at all
 pub record IsSpan {T : Type 0} (places : List T) (span : Span) : Type 0 where
   pub within : span.first + span.len ≤ length places
   pub whole : 0 < length places → span.first + MOST ≤ length places
   pub short : span.len ≤ MOST
   pub fits : span.first + MOST < 2 ^ 64
 
--- what always holds of a shelf: slots never share a place, those that were made stand one after another,
+-- what always holds of a shelf: bays never share a place, those that were made stand one after another,
 -- and there is room for all that may be
 pub record IsShelf {T : Type 0} (places : List T) (spans : List Span) (free : List ℕ)
     (most places_room spans_room free_room : ℕ) : Type 0 where
   pub spans_are : AllByRecursion (IsSpan places) spans
-  pub apart : (place : ℕ) → covered place (slots_of spans) + covered place free ≤ 1
+  pub apart : (place : ℕ) → covered place (bays_of spans) + covered place free ≤ 1
   pub made : (place : ℕ) → (length spans + length free) * MOST ≤ place
-      → covered place (slots_of spans) + covered place free ≡ 0
+      → covered place (bays_of spans) + covered place free ≡ 0
   pub few : length spans + length free ≤ most
   pub fits : most * MOST < 2 ^ 64
   pub places_room_is : most * MOST ≤ places_room

@@ -7,7 +7,7 @@
 //! which `ChunkList::new` takes and `grow_room` makes larger: where there is room for an item, there
 //! are places for one more chunk, and no other call takes memory or fails.
 //!
-//! A chunk has a slot, which is `MOST` places in a row. A slot is made when a chunk first needs one,
+//! A chunk has a bay, which is `MOST` places in a row. A bay is made when a chunk first needs one,
 //! the next after those that were made, and one that is given back is taken again first. So the
 //! memory behind those that were ever needed at a time is never touched.
 //!
@@ -17,7 +17,7 @@
 //!                     [a b c d e f g h] [k l m] [p q]
 //! insert i after h    the first chunk is full, so a new one takes its second half
 //!                     [a b c d] [e f g h i] [k l m] [p q]
-//! remove k            the third has two left, and goes with the next into one; the other's slot is free
+//! remove k            the third has two left, and goes with the next into one; the other's bay is free
 //!                     [a b c d] [e f g h i] [l m p q]
 //! remove b, then c    the first has two left, and they go with the next into one
 //!                     [a d e f g h i] [l m p q]

@@ -3,7 +3,7 @@ ghost use Rattle.std.specs.Prelude.{◌≡◌, ◌+◌, ◌-◌, ◌<◌, ◌≤
 ghost use Rattle.std.specs.Prelude.{slice_set, IfOk, OnOk, vec_capacity, ◌*◌, ◌^◌};
 ghost use Rattle.std.specs.List.{insert, remove};
 ghost use Rattle.chunk_list.specs.Chunks.{IsChanged, IsDense, IsLast, chunk_at, chunk_items, size_of_two};
-ghost use Rattle.chunk_list.specs.Shelves.{TakesSlot};
+ghost use Rattle.chunk_list.specs.Shelves.{TakesBay};
 
 use crate::place::Place;
 use crate::span::{MOST, Span};
@@ -16,11 +16,11 @@ use std::marker::Model;
 /// part of it is not touched before a chunk needs it.
 #[derive(Drop)]
 pub(crate) struct Shelf<T> {
-    /// The slots that were made so far, one after another. Behind a chunk's items stand others.
+    /// The bays that were made so far, one after another. Behind a chunk's items stand others.
     places: Vec<T>,
-    /// The chunks in order, each in a slot of its own.
+    /// The chunks in order, each in a bay of its own.
     spans: Vec<Span>,
-    /// The first places of the slots that chunks gave back.
+    /// The first places of the bays that chunks gave back.
     free: Vec<usize>,
     /// How many chunks there may be.
     most: usize,
@@ -166,7 +166,7 @@ impl<T: Copy> Shelf<T> {
         ensures most { self.new.most ≡ self.old.most }
     {
         let span = self.spans[chunk];
-        // The first slot of all is made here, since before there is no item to fill it with.
+        // The first bay of all is made here, since before there is no item to fill it with.
         fill(&mut self.places, span.first + MOST, item);
         put_before(
             &mut self.places,
@@ -222,7 +222,7 @@ impl<T: Copy> Shelf<T> {
         ensures most { self.new.most ≡ self.old.most }
     {
         let item = self.places[self.spans[chunk].first];
-        let first = take_slot(&mut self.free, self.spans.len());
+        let first = take_bay(&mut self.free, self.spans.len());
         fill(&mut self.places, first + MOST, item);
         insert_span(&mut self.spans, chunk + 1, Span { first, len: 0 });
     }
@@ -267,7 +267,7 @@ impl<T: Copy> Shelf<T> {
         };
     }
 
-    /// Takes the chunk after one away, and its slot is free.
+    /// Takes the chunk after one away, and its bay is free.
     pub(crate) fn close_next(&mut self, chunk: usize)
         requires { chunk + 1 < length self.old.chunks }
         ensures chunks { self.new.chunks ≡ remove self.old.chunks (chunk + 1) }
@@ -291,10 +291,10 @@ fn insert_span(spans: &mut Vec<Span>, at: usize, span: Span)
     }
 }
 
-/// The first place of a slot: one that was given back, or else the next after those that were made.
-fn take_slot(free: &mut Vec<usize>, made: usize) -> usize
+/// The first place of a bay: one that was given back, or else the next after those that were made.
+fn take_bay(free: &mut Vec<usize>, made: usize) -> usize
     requires { made * MOST < 2 ^ 64 }
-    ensures slot { TakesSlot free.old.items free.new.items made result }
+    ensures bay { TakesBay free.old.items free.new.items made result }
     ensures capacity { vec_capacity free.new ≡ vec_capacity free.old }
 {
     match free.pop() {

@@ -3,7 +3,7 @@ ghost use Rattle.std.specs.Prelude.{◌≡◌, ◌+◌, ◌*◌, ◌/◌, ◌%�
 
 use std::marker::Model;
 
-/// A cell's number in its region: the slot of its segment times 64, and its place there.
+/// A cell's number in its region: the bay of its segment times 64, and its place there.
 #[derive(Clone, Copy, Debug, PartialEq, Eq)]
 pub struct CellNo {
     number: u32,
@@ -22,14 +22,14 @@ impl Model for CellNo {
 }
 
 impl CellNo {
-    /// The cell at a place of 64 in the segment of a slot.
-    pub fn at(slot: u32, place: u32) -> CellNo
-        requires slot { slot < 2 ^ 14 }
+    /// The cell at a place of 64 in the segment of a bay.
+    pub fn at(bay: u32, place: u32) -> CellNo
+        requires bay { bay < 2 ^ 14 }
         requires place { place < 64 }
-        ensures { result ≡ slot * 64 + place }
+        ensures { result ≡ bay * 64 + place }
     {
         CellNo {
-            number: slot * 64 + place,
+            number: bay * 64 + place,
         }
     }
 
@@ -41,8 +41,8 @@ impl CellNo {
         self.number
     }
 
-    /// The slot of the cell's segment.
-    pub fn slot(self) -> u32
+    /// The bay of the cell's segment.
+    pub fn bay(self) -> u32
         ensures { result ≡ self / 64 }
     {
         self.number / 64

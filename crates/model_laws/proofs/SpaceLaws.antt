@@ -319,8 +319,8 @@ fewer_records c (x ∷ xs) =
 pub compaction_takes_none : (s : Store) (r : ℕ) → IsStore s → s.compacted ≤ r → r ≤ s.current → counted_cells (compact s r) ≤ counted_cells s
 compaction_takes_none s r is from to = omega (arith, fewer_records r s.changes, ap (sum_by (λ (row : KeyValue). cost_delete row.key)) (rows_kept every_key r s.current s.changes to is.rises is.own))
 
-pub records_are_used_cells : (t : State Store) → record_cells t.store.changes + length t.leases ≡ used kept_store t - reserved_cells t.store.current t.store.changes
-records_are_used_cells t = omega arith
+pub records_are_filled_cells : (t : State Store) → record_cells t.store.changes + length t.leases ≡ used kept_store t - reserved_cells t.store.current t.store.changes
+records_are_filled_cells t = omega arith
 
 pub a_cell_each : (rs : List KeyValue) → length rs ≤ sum_by (λ row. cost_delete row.key) rs
 a_cell_each [] = omega arith

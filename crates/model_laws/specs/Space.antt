@@ -89,7 +89,7 @@ pub record SpaceLaws : Type 0 where
   pub compaction_takes_none : (s : Store) (r : ℕ) → IsStore s → s.compacted ≤ r → r ≤ s.current
       → counted_cells (compact s r) ≤ counted_cells s
   -- the records take the counted_cells in use without the reserved ones
-  pub records_are_used_cells : (t : State Store) → record_cells t.store.changes + length t.leases
+  pub records_are_filled_cells : (t : State Store) → record_cells t.store.changes + length t.leases
       ≡ used kept_store t - reserved_cells t.store.current t.store.changes
   -- there is a reserved cell for each live key at least
   pub keys_are_reserved : (s : Store) → live_keys s ≤ reserved_cells s.current s.changes

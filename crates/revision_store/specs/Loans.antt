@@ -2,7 +2,7 @@
 use Rattle.std.specs.Prelude.{◌≡◌, ℕ, ◌≤◌, refl}
 use Rattle.std.proofs.Common.{◌∙◌}
 use Rattle.std.proofs.Math.Nat.{le_refl, le_trans}
-use Rattle.cell_arena.specs.Region.{RegionState, used_cells}
+use Rattle.cell_arena.specs.Region.{RegionState, filled_cells}
 use Rattle.cell_arena.specs.Loan.{Loan, DrawsNone, IsBusy, Settles}
 use Rattle.cell_arena.proofs.Loans.{settles_none, settles_both}
 use Rattle.revision_store.specs.Recorded.{leases_of}
@@ -13,7 +13,7 @@ pub record KeepsRest (old : RegionState) (from : Loan) (new : RegionState) (to :
   pub freed : old.free ≤ new.free
   pub drawn : new.free ≤ old.free → new.share.drawn ≡ old.share.drawn
   pub none_drawn : DrawsNone old.share new.share
-  pub busy : IsBusy (used_cells old) old.share → IsBusy (used_cells new) new.share
+  pub busy : IsBusy (filled_cells old) old.share → IsBusy (filled_cells new) new.share
   pub settles : Settles old.share from new.share to
 
 abbrev pub rest_stays : (a : RegionState) (k : Loan) → KeepsRest a k a k

@@ -61,13 +61,13 @@ abbrev pub roomier : ℕ → StoreState → StoreState
 roomier segments store = record store { share = with_rooms segments store.share }
 
 -- how many cells are in use
-abbrev pub used_cells : StoreState → ℕ
-used_cells store = 64 * store.share.reserved - store.free
+abbrev pub filled_cells : StoreState → ℕ
+filled_cells store = 64 * store.share.reserved - store.free
 
 -- with so many cells reserved, of which those in use are not free
 abbrev pub with_cells : ℕ → StoreState → StoreState
 with_cells cells store = record store {
-  free = cells - used_cells store;
+  free = cells - filled_cells store;
   share = with_reserved (cells / 64) store.share;
 }
 

@@ -1,7 +1,7 @@
 //! Placing the record of a change.
 ghost use Rattle.std.specs.Prelude.{◌≡◌, ◌+◌, ◌≤◌, ℕ, None, pos};
 ghost use Rattle.std.specs.FinMap.{get};
-ghost use Rattle.cell_arena.specs.Region.{used_cells};
+ghost use Rattle.cell_arena.specs.Region.{filled_cells};
 ghost use Rattle.cell_arena.specs.Loan.{IsLent, Settles, DrawsFor};
 ghost use Rattle.key_index.specs.Order.{with_record};
 ghost use Rattle.revision_store.specs.Recorded.{ArePlain, cells_of, leases_of};
@@ -30,7 +30,7 @@ pub(crate) fn place<S: Segments>(
     ensures plain { ArePlain region.new.records }
     ensures free { region.new.free + cost_in (cells_of region.old.records) write.now ≡ region.old.free }
     ensures settles { Settles region.old.share (S.loan segments.old) region.new.share (S.loan segments.new) }
-    ensures draws { DrawsFor (used_cells region.new) region.old.share region.new.share }
+    ensures draws { DrawsFor (filled_cells region.new) region.old.share region.new.share }
 {
     match write {
         Write::Put(row) => region.place(

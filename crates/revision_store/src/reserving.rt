@@ -2,7 +2,7 @@
 ghost use Rattle.std.specs.Prelude.{◌≡◌, ◌/◌, ◌%◌, ◌≤◌, ◌^◌, OnOk, OnErr};
 ghost use Rattle.cell_arena.specs.Loan.{CanReserve, IsLent, Settles, returned};
 ghost use Rattle.revision_store.specs.Logged.{log_roomier, log_with, used_in};
-ghost use Rattle.revision_store.specs.Stored.{roomier, used_cells, with_cells};
+ghost use Rattle.revision_store.specs.Stored.{roomier, filled_cells, with_cells};
 
 use crate::log::Log;
 use crate::store::Store;
@@ -66,7 +66,7 @@ impl Store {
         requires whole { cells % 64 ≡ 0 }
         requires can { CanReserve (cells / 64) self.old.share }
         ensures cells { self.new ≡ with_cells cells self.old }
-        ensures fits { used_cells self.old ≤ cells }
+        ensures fits { filled_cells self.old ≤ cells }
     {
         self.log.set_cells(cells);
     }

@@ -20,10 +20,10 @@ impl Store {
     }
 
     /// How many cells are in use: those of the kept changes, and one for each lease.
-    pub fn used_cells(&self) -> u32
+    pub fn filled_cells(&self) -> u32
         ensures { result ≡ record_cells self.now.kept.changes + self.now.lease_cells }
     {
-        self.log.used_cells()
+        self.log.filled_cells()
     }
 
     /// Whether there are cells for all that the plan writes.
@@ -95,9 +95,9 @@ fn growth_of(write: &Write) -> u64
 
 impl Log {
     /// How many cells are in use.
-    fn used_cells(&self) -> u32
+    fn filled_cells(&self) -> u32
         ensures { result ≡ record_cells self.now.changes + self.now.lease_cells }
     {
-        self.region.used_cells()
+        self.region.filled_cells()
     }
 }

@@ -53,7 +53,7 @@ impl Store {
         if rows == 0 {
             return ROW;
         }
-        let most = weight_for(rows as u64, u64::from(self.used_cells()) * CELL_BYTES);
+        let most = weight_for(rows as u64, u64::from(self.filled_cells()) * CELL_BYTES);
         if most <= enough {
             return most;
         }

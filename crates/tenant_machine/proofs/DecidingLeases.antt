@@ -23,17 +23,17 @@ use Rattle.lease_book.specs.declared.book.Booked.{Booked}
 use Rattle.lease_book.specs.Granting.{IsGrant, grant_refusal}
 use Rattle.lease_book.specs.declared.granting.NewLease.{NewLease}
 use Rattle.revision_store.specs.Stored.{reads}
-use Rattle.tenant_machine.specs.Deciding.{Does, gate, granted, past_gate}
+use Rattle.tenant_machine.specs.Deciding.{Does, early_refusal, granted, past_early}
 use Rattle.tenant_machine.specs.Tenants.{MachineState, cells_used, tenant, told_book}
 use Rattle.tenant_machine.specs.Plans.{Plan}
 use Rattle.tenant_machine.specs.declared.planned.Effect.TheVariants.{Alarm, Nothing, Grant as GrantEffect}
 use Rattle.tenant_machine.proofs.DecidingOps.{does_as}
-use Rattle.tenant_machine.proofs.Gates.{done_past_gate, is_kept, passes, refused_past_gate}
+use Rattle.tenant_machine.proofs.EarlyRefusals.{done_past_gate, is_kept, passes, refused_past_gate}
 
 -- ---- a grant
 
--- past the gate a grant is refused for an ID that is taken alone
-grant_looked_up : (m : MachineState) (g : GrantReq) → gate (tenant m) (Grant g) ≡ None → grant_refusal m.leases g ≡ look_up kept_store (tenant m) (Grant g)
+-- a grant that is not refused early is refused for an ID that is taken alone
+grant_looked_up : (m : MachineState) (g : GrantReq) → early_refusal (tenant m) (Grant g) ≡ None → grant_refusal m.leases g ≡ look_up kept_store (tenant m) (Grant g)
 grant_looked_up m g let_through = by (int_lt max_ttl g.ttl) (nat_le last_revision m.store.kept.current) (nat_le last_lease_id m.leases.counter && int_eq g.id (pos 0)) (is_taken_id m.leases.leases g.id) (m.alarm && true) let_through
   where
     by : (long high used_up taken full : Bool) → first_refusal (first_refusal (refused_if long TtlTooLarge ∷ refused_if ((high && false) || used_up) UsedUp ∷ []) ∷ refused_if full NoSpace ∷ []) ≡ None
@@ -44,14 +44,14 @@ grant_looked_up m g let_through = by (int_lt max_ttl g.ttl) (nat_le last_revisio
     by false true true taken full h = absurd (cc)
     by false false true taken full h = absurd (cc)
 
-pub grant_refused : (m : MachineState) (g : GrantReq) (r : Refusal) (p : Plan) → gate (tenant m) (Grant g) ≡ None → grant_refusal m.leases g ≡ Some r → p ≡ record { effect = Nothing; reply = Refused r } → Does m p (past_gate (tenant m) (Grant g))
+pub grant_refused : (m : MachineState) (g : GrantReq) (r : Refusal) (p : Plan) → early_refusal (tenant m) (Grant g) ≡ None → grant_refusal m.leases g ≡ Some r → p ≡ record { effect = Nothing; reply = Refused r } → Does m p (past_early (tenant m) (Grant g))
 grant_refused m g r p let_through is planned =
     subst (Does m p) (sym (refused_past_gate (tenant m) (Grant g) r (sym (grant_looked_up m g let_through) ∙ is))) (does_as m p _ _ planned (record { reply = refl; state = refl }))
 
-pub grant_does : (m : MachineState) (g : GrantReq) (new : NewLease) (p : Plan) → gate (tenant m) (Grant g) ≡ None → IsGrant m.leases m.moment g new
+pub grant_does : (m : MachineState) (g : GrantReq) (new : NewLease) (p : Plan) → early_refusal (tenant m) (Grant g) ≡ None → IsGrant m.leases m.moment g new
     → (cells_used m.store.kept m.leases.leases + 1 ≤ m.quota → p ≡ record { effect = GrantEffect new; reply = granted m new.lease })
     → (m.quota < cells_used m.store.kept m.leases.leases + 1 → p ≡ record { effect = Alarm true; reply = Refused NoSpace })
-    → Does m p (past_gate (tenant m) (Grant g))
+    → Does m p (past_early (tenant m) (Grant g))
 grant_does m g new p let_through is admitted refused =
     let t = tenant m in
     let o = outcome kept_store t (Grant g) in

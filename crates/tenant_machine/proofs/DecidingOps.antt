@@ -25,11 +25,11 @@ use Rattle.revision_store.specs.Stored.{StoreState, changes_of, look, reads}
 use Rattle.revision_store.specs.declared.plan.Write.{Write}
 use Rattle.revision_store.specs.declared.planning.PlannedOp.{PlannedOp}
 use Rattle.txn_plan.specs.Planned.{lease_refusal}
-use Rattle.tenant_machine.specs.Deciding.{Does, answer, header_at, past_gate}
+use Rattle.tenant_machine.specs.Deciding.{Does, answer, header_at, past_early}
 use Rattle.tenant_machine.specs.Tenants.{MachineState, tenant}
 use Rattle.tenant_machine.specs.Plans.{Plan, used_after, written}
 use Rattle.tenant_machine.specs.declared.planned.Effect.TheVariants.{Alarm, Nothing, Write as WriteEffect}
-use Rattle.tenant_machine.proofs.Gates.{done_past_gate, is_kept, passes, refused_past_gate}
+use Rattle.tenant_machine.proofs.EarlyRefusals.{done_past_gate, is_kept, passes, refused_past_gate}
 
 -- ---- one operation
 
@@ -72,7 +72,7 @@ pub put_does : (m : MachineState) (q : PutReq) (writes : List Write) (reply : Re
     → look_up kept_store (tenant m) (Put q) ≡ None → IsPlanOf m.store (PutOp q) writes → reply ≡ answer m (op_reply (reads m.store) (m.store.kept.current + 1) (PutOp q))
     → (used_after m writes ≤ m.quota → p ≡ record { effect = WriteEffect writes (used_after m writes); reply = reply })
     → (m.quota < used_after m writes → p ≡ record { effect = Alarm true; reply = Refused NoSpace })
-    → Does m p (past_gate (tenant m) (Put q))
+    → Does m p (past_early (tenant m) (Put q))
 put_does m q writes reply p none plan told admitted refused =
     let t = tenant m in
     let o = outcome kept_store t (Put q) in
@@ -86,7 +86,7 @@ put_does m q writes reply p none plan told admitted refused =
           (does_as m p _ _ (refused past) (record { reply = refl; state = refl }))
     ]
 
-pub put_refused : (m : MachineState) (q : PutReq) (r : Refusal) (p : Plan) → look_up kept_store (tenant m) (Put q) ≡ Some r → p ≡ record { effect = Nothing; reply = Refused r } → Does m p (past_gate (tenant m) (Put q))
+pub put_refused : (m : MachineState) (q : PutReq) (r : Refusal) (p : Plan) → look_up kept_store (tenant m) (Put q) ≡ Some r → p ≡ record { effect = Nothing; reply = Refused r } → Does m p (past_early (tenant m) (Put q))
 put_refused m q r p is planned = subst (Does m p) (sym (refused_past_gate (tenant m) (Put q) r is)) (does_as m p _ _ planned (record { reply = refl; state = refl }))
 
 -- what the store answers to a put
@@ -102,12 +102,12 @@ module _ (m : MachineState) (store : StoreState) (q : PutReq) (answered : Result
   pub put_planned_does : (planned : PlannedOp) (reply : Reply) (p : Plan) → answered ≡ Ok planned → reply ≡ answer m planned.reply
       → (used_after m planned.plan ≤ m.quota → p ≡ record { effect = WriteEffect planned.plan (used_after m planned.plan); reply = reply })
       → (m.quota < used_after m planned.plan → p ≡ record { effect = Alarm true; reply = Refused NoSpace })
-      → Does m p (past_gate (tenant m) (Put q))
+      → Does m p (past_early (tenant m) (Put q))
   put_planned_does planned reply p is told admitted refused =
       let said = said_as (Ok planned) is in
       put_does m q planned.plan reply p (put_looked_up m q none ∙ said.refusal) said.plan (told ∙ ap (answer m) said.reply) admitted refused
 
-  pub put_refused_does : (r : Refusal) (p : Plan) → answered ≡ Err r → p ≡ record { effect = Nothing; reply = Refused r } → Does m p (past_gate (tenant m) (Put q))
+  pub put_refused_does : (r : Refusal) (p : Plan) → answered ≡ Err r → p ≡ record { effect = Nothing; reply = Refused r } → Does m p (past_early (tenant m) (Put q))
   put_refused_does r p is planned = put_refused m q r p (put_looked_up m q none ∙ (said_as (Err r) is).refusal) planned
 
 -- ---- a delete

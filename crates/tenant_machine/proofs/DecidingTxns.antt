@@ -28,12 +28,12 @@ use Rattle.revision_store.specs.Stored.{StoreState, changes_of, look, reads}
 use Rattle.revision_store.specs.declared.plan.Write.{Write}
 use Rattle.txn_plan.specs.Planned.{IsTxn, txn_refusal}
 use Rattle.txn_plan.specs.declared.transaction.PlannedTxn.{PlannedTxn}
-use Rattle.tenant_machine.specs.Deciding.{Does, header_at, past_gate, txn_outcome}
+use Rattle.tenant_machine.specs.Deciding.{Does, header_at, past_early, txn_outcome}
 use Rattle.tenant_machine.specs.Tenants.{MachineState, tenant}
 use Rattle.tenant_machine.specs.Plans.{Plan, written}
 use Rattle.tenant_machine.specs.declared.planned.Effect.TheVariants.{Nothing}
 use Rattle.tenant_machine.proofs.DecidingOps.{does_as}
-use Rattle.tenant_machine.proofs.Gates.{done_past_gate, refused_past_gate}
+use Rattle.tenant_machine.proofs.EarlyRefusals.{done_past_gate, refused_past_gate}
 
 -- ---- what a branch writes
 
@@ -93,11 +93,11 @@ module _ (m : MachineState) (store : StoreState) (q : TxnReq) (answered : Result
   pub is_txn : (planned : PlannedTxn) → answered ≡ Ok planned → IsTxn m.store q planned
   is_txn planned is = (said_as (Ok planned) is).planned
 
-  pub txn_planned_does : (planned : PlannedTxn) (p : Plan) → answered ≡ Ok planned → Does m p (txn_outcome m planned) → Does m p (past_gate (tenant m) (Txn q))
+  pub txn_planned_does : (planned : PlannedTxn) (p : Plan) → answered ≡ Ok planned → Does m p (txn_outcome m planned) → Does m p (past_early (tenant m) (Txn q))
   txn_planned_does planned p is does =
       let said = said_as (Ok planned) is in
       subst (Does m p) (done_txn m q planned said.planned ∙ sym (done_past_gate (tenant m) (Txn q) said.refusal)) does
 
-  pub txn_refused_does : (r : Refusal) (p : Plan) → answered ≡ Err r → p ≡ record { effect = Nothing; reply = Refused r } → Does m p (past_gate (tenant m) (Txn q))
+  pub txn_refused_does : (r : Refusal) (p : Plan) → answered ≡ Err r → p ≡ record { effect = Nothing; reply = Refused r } → Does m p (past_early (tenant m) (Txn q))
   txn_refused_does r p is planned =
       subst (Does m p) (sym (refused_past_gate (tenant m) (Txn q) r (said_as (Err r) is).refusal)) (does_as m p _ _ planned (record { reply = refl; state = refl }))

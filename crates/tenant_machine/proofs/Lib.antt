@@ -3,7 +3,7 @@ pub mod Counting
 pub mod DecidingOps
 pub mod DecidingSpace
 pub mod DecidingTxns
-pub mod Gates
+pub mod EarlyRefusals
 pub mod Holding
 pub mod Spoken
 mod KeysFew

@@ -22,12 +22,12 @@ use Rattle.tenant_machine.specs.Tenants.{MachineState, tenant}
 use Rattle.tenant_machine.specs.Plans.{Plan, after_effect, takes_memory, written}
 
 -- what refuses a step before anything is looked up: its fields, then numbers that are used up, then the alarm
-abbrev pub gate : State Store → Step → Option Refusal
-gate t step = first_refusal (early kept_store t step ∷ refused_if (t.alarm && may_add step) NoSpace ∷ [])
+abbrev pub early_refusal : State Store → Step → Option Refusal
+early_refusal t step = first_refusal (early kept_store t step ∷ refused_if (t.alarm && may_add step) NoSpace ∷ [])
 
--- a step that is refused before the quota is asked: the gate stops it, or what is looked up does
+-- a step that is refused before the quota is asked: early, or by what is looked up
 abbrev pub is_stopped : State Store → Step → Bool
-is_stopped t step = is_some (gate t step) || is_some (look_up kept_store t step)
+is_stopped t step = is_some (early_refusal t step) || is_some (look_up kept_store t step)
 
 -- a step that is never answered by want of memory: it takes none, or it is stopped
 abbrev pub is_sure : State Store → Step → Bool
@@ -35,8 +35,8 @@ is_sure t step = not (takes_memory step) || is_stopped t step
 
 -- what comes of a step that these let through: a refusal of what is looked up, or what it does, if
 -- it is within the quota
-abbrev pub past_gate : State Store → Step → Outcome Store
-past_gate t step = within_quota kept_store t step (decided kept_store t step (look_up kept_store t step))
+abbrev pub past_early : State Store → Step → Outcome Store
+past_early t step = within_quota kept_store t step (decided kept_store t step (look_up kept_store t step))
     (look_up kept_store t step)
 
 -- a plan does what is to come of a step

@@ -4,7 +4,7 @@ ghost use Rattle.etcd_model.specs.Store.{kept_store};
 ghost use Rattle.etcd_model.specs.Fields.{refused_if};
 ghost use Rattle.etcd_model.specs.Stepping.{look_up, used_up};
 ghost use Rattle.etcd_types.specs.declared.refusal.Refusal.TheVariants.{UsedUp};
-ghost use Rattle.tenant_machine.specs.Deciding.{Does, gate, is_sure, past_gate};
+ghost use Rattle.tenant_machine.specs.Deciding.{Does, early_refusal, is_sure, past_early};
 ghost use Rattle.tenant_machine.specs.Tenants.{tenant};
 ghost use Rattle.tenant_machine.specs.Plans.{Fits, Plans, takes_memory};
 
@@ -24,7 +24,7 @@ impl Machine {
         ensures fits { IfOk result (λ p. Fits self.now p) }
         ensures sure { is_sure (tenant self.now) step.now ≡ true → IsOk result }
     {
-        match self.gate(step) {
+        match self.early_refusal(step) {
             Some(refusal) => Ok(Planned::refused(refusal)),
             None => self.decide(alloc, step),
         }
@@ -32,8 +32,8 @@ impl Machine {
 
     /// What refuses a step before anything is looked up: its fields, then numbers that are used up, then
     /// the alarm.
-    fn gate(&self, step: &Step) -> Option<Refusal>
-        ensures { result ≡ gate (tenant self.now) step.now }
+    fn early_refusal(&self, step: &Step) -> Option<Refusal>
+        ensures { result ≡ early_refusal (tenant self.now) step.now }
     {
         if let Some(refusal) = fields(step) {
             Some(refusal)
@@ -54,10 +54,10 @@ impl Machine {
             || (self.leases.counter() >= LAST_LEASE_ID && step.chooses_id())
     }
 
-    /// Decides a step that the gate lets through. What takes no memory is lent no allocator.
+    /// Decides a step that nothing refuses early. What takes no memory is lent no allocator.
     fn decide(&self, alloc: Global, step: &Step) -> Mem<Planned>
-        requires gate { gate (tenant self.now) step.now ≡ None }
-        ensures does { IfOk result (λ p. Does self.now p (past_gate (tenant self.now) step.now)) }
+        requires early { early_refusal (tenant self.now) step.now ≡ None }
+        ensures does { IfOk result (λ p. Does self.now p (past_early (tenant self.now) step.now)) }
         ensures fits { IfOk result (λ p. Fits self.now p) }
         ensures sure { takes_memory step.now ≡ false → IsOk result }
         ensures stopped { is_some (look_up kept_store (tenant self.now) step.now) ≡ true → IsOk result }

@@ -16,7 +16,7 @@ ghost use Rattle.lease_book.specs.Granting.{Fits as FitsBook};
 ghost use Rattle.model_laws.specs.Space.{finished};
 ghost use Rattle.revision_store.specs.Plans.{key_at};
 ghost use Rattle.revision_store.specs.Stored.{cells as cells_in, reads};
-ghost use Rattle.tenant_machine.specs.Deciding.{Does, gate, granted, past_gate};
+ghost use Rattle.tenant_machine.specs.Deciding.{Does, early_refusal, granted, past_early};
 ghost use Rattle.tenant_machine.specs.Tenants.{cells_used, tenant};
 ghost use Rattle.tenant_machine.specs.Plans.{Fits};
 
@@ -32,8 +32,8 @@ impl Machine {
     /// A grant takes a cell. It is refused if its ID is in use, and if more cells were in use then than the
     /// quota has, which raises the alarm.
     pub(crate) fn plan_grant(&self, request: &GrantReq) -> Planned
-        requires { gate (tenant self.now) (Grant request.now) ≡ None }
-        ensures does { Does self.now result (past_gate (tenant self.now) (Grant request.now)) }
+        requires { early_refusal (tenant self.now) (Grant request.now) ≡ None }
+        ensures does { Does self.now result (past_early (tenant self.now) (Grant request.now)) }
         ensures fits { Fits self.now result }
     {
         match self.leases.plan_grant(self.moment, request) {
@@ -70,7 +70,7 @@ impl Machine {
 
     /// A lease that is kept alive lives its granted time from now on. One that is not there has a time of 0.
     pub(crate) fn plan_keep_alive(&self, id: i64) -> Planned
-        ensures does { Does self.now result (past_gate (tenant self.now) (Alive id)) }
+        ensures does { Does self.now result (past_early (tenant self.now) (Alive id)) }
         ensures fits { Fits self.now result }
     {
         match self.leases.lease(id) {
@@ -95,7 +95,7 @@ impl Machine {
 
     /// The end of a lease, with its keys. One that is not there is refused.
     pub(crate) fn plan_revoke(&self, id: i64) -> Planned
-        ensures does { Does self.now result (past_gate (tenant self.now) (Revoke id)) }
+        ensures does { Does self.now result (past_early (tenant self.now) (Revoke id)) }
         ensures fits { Fits self.now result }
     {
         if !self.leases.has(id) {
@@ -123,7 +123,7 @@ impl Machine {
     /// The seconds that a lease has left, of those that it was granted, with its keys if they are asked for.
     /// One that is not there has -1 seconds.
     pub(crate) fn plan_time_to_live(&self, alloc: Global, id: i64, asked: bool) -> Mem<Planned>
-        ensures does { IfOk result (λ p. Does self.now p (past_gate (tenant self.now) (TimeToLive id asked))) }
+        ensures does { IfOk result (λ p. Does self.now p (past_early (tenant self.now) (TimeToLive id asked))) }
         ensures fits { IfOk result (λ p. Fits self.now p) }
     {
         let header = self.header();
@@ -169,7 +169,7 @@ impl Machine {
 
     /// The IDs of all leases, ascending.
     pub(crate) fn plan_leases(&self, alloc: Global) -> Mem<Planned>
-        ensures does { IfOk result (λ p. Does self.now p (past_gate (tenant self.now) Leases)) }
+        ensures does { IfOk result (λ p. Does self.now p (past_early (tenant self.now) Leases)) }
         ensures fits { IfOk result (λ p. Fits self.now p) }
     {
         let ids = self.lease_ids(alloc)?;

@@ -131,12 +131,12 @@ impl Machine {
 
     /// The cells that records take: those that count against the quota, without the room that is
     /// held for deletes.
-    pub fn used_cells(&self) -> u32
+    pub fn filled_cells(&self) -> u32
         ensures { result
             ≡ used kept_store (tenant self.now) - reserved_cells self.now.store.kept.current
             self.now.store.kept.changes }
     {
-        self.store.used_cells()
+        self.store.filled_cells()
     }
 
     /// The revision of the last compaction, 0 before the first.
@@ -169,10 +169,10 @@ impl Machine {
         ensures settles { SettlesWith self.old (S.loan segments.old) self.new (S.loan segments.new) }
     {
         self.store.use_invariant();
-        let before = self.store.used_cells();
+        let before = self.store.filled_cells();
         self.store.compact(segments, revision);
         self.watchers.cut(&self.store);
-        let freed = before - self.store.used_cells();
+        let freed = before - self.store.filled_cells();
         self.quota.used -= u64::from(freed);
     }
 

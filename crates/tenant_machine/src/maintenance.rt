@@ -1,7 +1,7 @@
 //! Plans of the maintenance calls.
 ghost use Rattle.std.specs.Prelude.{◌≡◌};
 ghost use Rattle.etcd_types.specs.declared.step.Step.TheVariants.{Alarm, Status, Defragment};
-ghost use Rattle.tenant_machine.specs.Deciding.{Does, past_gate};
+ghost use Rattle.tenant_machine.specs.Deciding.{Does, past_early};
 ghost use Rattle.tenant_machine.specs.Tenants.{tenant};
 ghost use Rattle.tenant_machine.specs.Plans.{Fits};
 
@@ -15,7 +15,7 @@ impl Machine {
     /// No other alarm and no other member is there: what is asked of one lists nothing and changes
     /// nothing.
     pub(crate) fn plan_alarm(&self, request: &AlarmReq) -> Planned
-        ensures does { Does self.now result (past_gate (tenant self.now) (Alarm request.now)) }
+        ensures does { Does self.now result (past_early (tenant self.now) (Alarm request.now)) }
         ensures fits { Fits self.now result }
     {
         let is_on = self.quota.alarm();
@@ -38,7 +38,7 @@ impl Machine {
 
     /// The bytes of the quota, and those in use.
     pub(crate) fn plan_status(&self) -> Planned
-        ensures does { Does self.now result (past_gate (tenant self.now) Status) }
+        ensures does { Does self.now result (past_early (tenant self.now) Status) }
         ensures fits { Fits self.now result }
     {
         Planned::told(Reply::Status {
@@ -50,7 +50,7 @@ impl Machine {
 
     /// There is nothing to do: cells have no gaps.
     pub(crate) fn plan_defragment(&self) -> Planned
-        ensures does { Does self.now result (past_gate (tenant self.now) Defragment) }
+        ensures does { Does self.now result (past_early (tenant self.now) Defragment) }
         ensures fits { Fits self.now result }
     {
         Planned::told(Reply::Defragmented(self.header()))

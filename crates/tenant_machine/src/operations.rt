@@ -9,7 +9,7 @@ ghost use Rattle.etcd_model.specs.Fields.{is_empty, txn_fields};
 ghost use Rattle.etcd_model.specs.Stepping.{look_up};
 ghost use Rattle.etcd_model.specs.Store as kept;
 ghost use Rattle.revision_store.specs.Stored.{IsPlanFor};
-ghost use Rattle.tenant_machine.specs.Deciding.{Does, answer, header_at, past_gate, txn_outcome};
+ghost use Rattle.tenant_machine.specs.Deciding.{Does, answer, header_at, past_early, txn_outcome};
 ghost use Rattle.tenant_machine.specs.Tenants.{tenant};
 ghost use Rattle.tenant_machine.specs.Plans.{Fits, used_after, written};
 
@@ -22,7 +22,7 @@ use txn_plan::{PlannedTxn, lease_refusal};
 
 impl Machine {
     pub(crate) fn plan_range(&self, alloc: Global, request: &RangeReq) -> Mem<Planned>
-        ensures does { IfOk result (λ p. Does self.now p (past_gate (tenant self.now) (Range request.now))) }
+        ensures does { IfOk result (λ p. Does self.now p (past_early (tenant self.now) (Range request.now))) }
         ensures sure { is_some (look_up kept.kept_store (tenant self.now) (Range request.now)) ≡ true
             → IsOk result }
         ensures fits { IfOk result (λ p. Fits self.now p) }
@@ -36,7 +36,7 @@ impl Machine {
     /// A put, unless the lease that it names refuses it.
     pub(crate) fn plan_put(&self, alloc: Global, request: &PutReq) -> Mem<Planned>
         requires { self.now.store.kept.current < last_revision }
-        ensures does { IfOk result (λ p. Does self.now p (past_gate (tenant self.now) (Put request.now))) }
+        ensures does { IfOk result (λ p. Does self.now p (past_early (tenant self.now) (Put request.now))) }
         ensures sure { is_some (look_up kept.kept_store (tenant self.now) (Put request.now)) ≡ true
             → IsOk result }
         ensures fits { IfOk result (λ p. Fits self.now p) }
@@ -54,7 +54,7 @@ impl Machine {
     /// use as before.
     pub(crate) fn plan_delete(&self, alloc: Global, request: &DeleteReq) -> Mem<Planned>
         requires { self.now.store.kept.current < last_revision }
-        ensures does { IfOk result (λ p. Does self.now p (past_gate (tenant self.now) (Delete request.now))) }
+        ensures does { IfOk result (λ p. Does self.now p (past_early (tenant self.now) (Delete request.now))) }
         ensures fits { IfOk result (λ p. Fits self.now p) }
     {
         self.store.use_invariant();
@@ -63,7 +63,7 @@ impl Machine {
     }
 
     pub(crate) fn plan_compaction(&self, revision: i64) -> Planned
-        ensures does { Does self.now result (past_gate (tenant self.now) (Compact revision)) }
+        ensures does { Does self.now result (past_early (tenant self.now) (Compact revision)) }
         ensures fits { Fits self.now result }
     {
         match self.store.compact_refusal(revision) {
@@ -79,7 +79,7 @@ impl Machine {
     pub(crate) fn plan_txn(&self, alloc: Global, request: &TxnReq) -> Mem<Planned>
         requires fields { txn_fields request.now ≡ None }
         requires revisions { writes (Txn request.now) ≡ true → self.now.store.kept.current < last_revision }
-        ensures does { IfOk result (λ p. Does self.now p (past_gate (tenant self.now) (Txn request.now))) }
+        ensures does { IfOk result (λ p. Does self.now p (past_early (tenant self.now) (Txn request.now))) }
         ensures sure { is_some (look_up kept.kept_store (tenant self.now) (Txn request.now)) ≡ true
             → IsOk result }
         ensures fits { IfOk result (λ p. Fits self.now p) }

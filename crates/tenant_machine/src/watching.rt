@@ -3,7 +3,7 @@ ghost use Rattle.std.specs.Prelude.{◌≡◌, None, true, is_some, slice_set, I
 ghost use Rattle.etcd_types.specs.declared.step.Step.TheVariants.{CatchUp, DropWatch, Take, Watch};
 ghost use Rattle.etcd_model.specs.Stepping.{look_up};
 ghost use Rattle.etcd_model.specs.Store.{kept_store};
-ghost use Rattle.tenant_machine.specs.Deciding.{Does, opened, past_gate};
+ghost use Rattle.tenant_machine.specs.Deciding.{Does, opened, past_early};
 ghost use Rattle.tenant_machine.specs.Tenants.{tenant};
 ghost use Rattle.tenant_machine.specs.Plans.{Fits, FitsWatch, with_slots, with_watch};
 ghost use Rattle.watch_sync.specs.Slots.{FitsTake, slots_after, watches};
@@ -18,7 +18,7 @@ use watch_sync::{Hint, NewWatch, Taken};
 impl Machine {
     /// A watch gets the first free slot. It is refused if there is none.
     pub(crate) fn plan_watch(&self, alloc: Global, request: &WatchReq) -> Mem<Planned>
-        ensures does { IfOk result (λ p. Does self.now p (past_gate (tenant self.now) (Watch request.now))) }
+        ensures does { IfOk result (λ p. Does self.now p (past_early (tenant self.now) (Watch request.now))) }
         ensures sure { is_some (look_up kept_store (tenant self.now) (Watch request.now)) ≡ true
             → IsOk result }
         ensures fits { IfOk result (λ p. Fits self.now p) }
@@ -51,7 +51,7 @@ impl Machine {
 
     /// What the watch of a slot is told next, at the moment of the clock.
     pub(crate) fn plan_take(&self, alloc: Global, slot: u8) -> Mem<Planned>
-        ensures does { IfOk result (λ p. Does self.now p (past_gate (tenant self.now) (Take slot))) }
+        ensures does { IfOk result (λ p. Does self.now p (past_early (tenant self.now) (Take slot))) }
         ensures fits { IfOk result (λ p. Fits self.now p) }
     {
         let planned = self
@@ -65,7 +65,7 @@ impl Machine {
 
     /// The watch of a slot ends.
     pub(crate) fn plan_drop(&self, slot: u8) -> Planned
-        ensures does { Does self.now result (past_gate (tenant self.now) (DropWatch slot)) }
+        ensures does { Does self.now result (past_early (tenant self.now) (DropWatch slot)) }
         ensures fits { Fits self.now result }
     {
         Planned {
@@ -76,7 +76,7 @@ impl Machine {
 
     /// Watches that are behind go over so many changes at most. Nobody is told of it.
     pub(crate) fn plan_catch_up(&self, budget: u32) -> Planned
-        ensures does { Does self.now result (past_gate (tenant self.now) (CatchUp budget)) }
+        ensures does { Does self.now result (past_early (tenant self.now) (CatchUp budget)) }
         ensures fits { Fits self.now result }
     {
         Planned {

@@ -43,7 +43,7 @@ impl Machine {
         if keys == 0 {
             return 0;
         }
-        weight_for(keys, u64::from(self.used_cells()) * CELL_BYTES)
+        weight_for(keys, u64::from(self.filled_cells()) * CELL_BYTES)
     }
 }
 

@@ -54,7 +54,7 @@ impl Tenant {
 
     fn first_told(&mut self, alloc: Global) -> Mem<(bool, u32)> {
         let is_put = self.puts_first(alloc)?;
-        Ok((is_put, self.machine.used_cells()))
+        Ok((is_put, self.machine.filled_cells()))
     }
 }
 

@@ -11,7 +11,7 @@ invariant-copying g l = record {
   copying : IsCopying (table_at l.table) l._i (l.fn.cells - l._i) l.back l.source (chain_bytes (table_at l.initial.table) l.fn.cells l.fn.first);
   used : l.table.used ≡ l.initial.table.used + l._i;
   kept : SameRecords (table_at l.initial.table) (table_at l.table);
-  size : length l.table.slots.items ≡ length l.initial.table.slots.items;
+  size : length l.table.bays.items ≡ length l.initial.table.bays.items;
   settles : Settles (share_of l.initial.table) (g.S.Segments.loan l.initial.segments) (share_of l.table) (g.S.Segments.loan l.segments);
   draws : DrawsFor l.table.used (share_of l.initial.table) (share_of l.table);
 }

@@ -12,5 +12,5 @@ invariant-turning l = record {
   used : l.table.used ≡ l.initial.table.used;
   share : KeepsShare (share_of l.initial.table) (share_of l.table);
   kept : SameRecords (table_at l.initial.table) (table_at l.table);
-  size : length l.table.slots.items ≡ length l.initial.table.slots.items;
+  size : length l.table.bays.items ≡ length l.initial.table.bays.items;
 }

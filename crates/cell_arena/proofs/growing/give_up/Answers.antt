@@ -7,9 +7,9 @@ use Rattle.cell_arena.proofs.growing.give_up.Goals.{then-not-is_empty, else-not-
 
 pub giving-preserved : goal.giving-preserved
 giving-preserved g c =
-    let read : get_or c.args.table.slots.items c.giving.i c.replace-number.result ≡ c.replace-number.result = search rules in
-    let less : c.giving.i < length c.args.table.slots.items = search rules in
-    let sums = sum_by-drop_more busy_of c.args.table.slots.items c.giving.i c.replace-number.result less in
+    let read : get_or c.args.table.bays.items c.giving.i c.replace-number.result ≡ c.replace-number.result = search rules in
+    let less : c.giving.i < length c.args.table.bays.items = search rules in
+    let sums = sum_by-drop_more busy_of c.args.table.bays.items c.giving.i c.replace-number.result less in
     let here = ap busy_of read in
     record {
       size = search rules;

@@ -7,11 +7,11 @@ abbrev pub invariant-opening : goal.invariant-opening
 invariant-opening l = record {
   table : IsTable l.table;
   cells : SameCells l.fn.table l.table;
-  slots : length l.table.slots.items ≡ length l.fn.table.slots.items + l._i;
+  bays : length l.table.bays.items ≡ length l.fn.table.bays.items + l._i;
   reserved : l.table.reserved ≡ l.fn.table.reserved;
   drawn : l.table.drawn ≡ l.fn.table.drawn;
-  numbers : numbers_in l.table.slots.items ≡ numbers_in l.fn.table.slots.items;
+  numbers : numbers_in l.table.bays.items ≡ numbers_in l.fn.table.bays.items;
   used : l.table.used ≡ l.fn.table.used;
-  room : length l.fn.table.slots.items + l.more ≤ vec_capacity l.table.slots;
+  room : length l.fn.table.bays.items + l.more ≤ vec_capacity l.table.bays;
   order : HasRoom l.table.order (l.more - l._i);
 }

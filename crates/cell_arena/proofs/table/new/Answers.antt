@@ -12,7 +12,7 @@ making-preserved c = record {
 
 pub returns : goal.returns
 returns c =
-    let all : c.making._i ≡ c.args.slots = omega arith in
-    let size : length c.making.all.items ≡ c.args.slots = c.making.invariant.size ∙ all in
+    let all : c.making._i ≡ c.args.bays = omega arith in
+    let size : length c.making.all.items ≡ c.args.bays = c.making.invariant.size ∙ all in
     let order = c.in_ok-order.ensures in
     (bare_table _ c.making.invariant.bare (omega (arith, size, c.requires)) order.0 (order.1 ∙ sym size) refl refl refl (omega (arith, size)), c.making.invariant.bare, size, refl, refl, refl)

@@ -6,5 +6,5 @@ abbrev pub invariant-making : goal.invariant-making
 invariant-making l = record {
   bare : AllBare l.all.items;
   size : length l.all.items ≡ l._i;
-  room : vec_capacity l.all ≡ l.slots;
+  room : vec_capacity l.all ≡ l.bays;
 }

@@ -6,21 +6,21 @@ use Rattle.cell_arena.proofs.table.put_drawn.Goals as goal
 pub returns-clause-table : goal.returns-clause-table
 returns-clause-table g c =
     let at = first_empty c.args.table.now c.index-number.result.now c.requires.table (omega (arith, c.requires.some, c.requires.table.reserved)) c.index-number.ensures in
-    put_table c.args.table.now c.index-number.result.now c.store-place.new.slot _ c.requires.table c.requires.none_ready c.requires.some at.0 at.1 c.store-place.ensures.listed (c.store-place.ensures.free ∙ c.clean-slot.ensures.free) (c.store-place.ensures.length ∙ c.clean-slot.ensures.size) c.swap.ensures.order c.swap.ensures.count c.swap.ensures.places
+    put_table c.args.table.now c.index-number.result.now c.store-place.new.bay _ c.requires.table c.requires.none_ready c.requires.some at.0 at.1 c.store-place.ensures.listed (c.store-place.ensures.free ∙ c.clean-bay.ensures.free) (c.store-place.ensures.length ∙ c.clean-bay.ensures.size) c.swap.ensures.order c.swap.ensures.count c.swap.ensures.places
 
 pub returns-clause-written : goal.returns-clause-written
 returns-clause-written g c =
     let at = first_empty c.args.table.now c.index-number.result.now c.requires.table (omega (arith, c.requires.some, c.requires.table.reserved)) c.index-number.ensures in
-    rw c.at.ensures (drawn_written c.args.table.now c.index-number.result.now c.store-place.result c.clean-slot.result c.store-place.new.slot c.args.cell c.requires.table at.0 at.1 (omega (arith, c.store-place.ensures.within, c.clean-slot.ensures.size)) c.clean-slot.ensures.all c.store-place.ensures.written c.requires.used)
+    rw c.at.ensures (drawn_written c.args.table.now c.index-number.result.now c.store-place.result c.clean-bay.result c.store-place.new.bay c.args.cell c.requires.table at.0 at.1 (omega (arith, c.store-place.ensures.within, c.clean-bay.ensures.size)) c.clean-bay.ensures.all c.store-place.ensures.written c.requires.used)
 
 pub returns-clause-was_free : goal.returns-clause-was_free
 returns-clause-was_free g c =
     let at = first_empty c.args.table.now c.index-number.result.now c.requires.table (omega (arith, c.requires.some, c.requires.table.reserved)) c.index-number.ensures in
-    rw c.at.ensures (empty_was_free c.args.table.now c.index-number.result.now c.store-place.result c.store-place.new.slot c.requires.table at.0 at.1 (omega (arith, c.store-place.ensures.within, c.clean-slot.ensures.size)))
+    rw c.at.ensures (empty_was_free c.args.table.now c.index-number.result.now c.store-place.result c.store-place.new.bay c.requires.table at.0 at.1 (omega (arith, c.store-place.ensures.within, c.clean-bay.ensures.size)))
 
 pub returns-clause-settles : goal.returns-clause-settles
 returns-clause-settles g c =
     let at = first_empty c.args.table.now c.index-number.result.now c.requires.table (omega (arith, c.requires.some, c.requires.table.reserved)) c.index-number.ensures in
-    let old = get_or c.args.table.now.slots.items c.index-number.result.now c.store-place.new.slot in
-    settles_drawn c.args.table.now _ _ c.index-number.result.now _ old c.store-place.new.slot c.requires.table at.0 (again c.args.table.now.slots.items c.index-number.result.now c.store-place.new.slot at.0) at.1
-    (c.store-place.ensures.length ∙ c.clean-slot.ensures.size) (c.store-place.ensures.free ∙ c.clean-slot.ensures.free) (c.store-place.ensures.number ∙ c.clean-slot.ensures.number) c.draw.ensures
+    let old = get_or c.args.table.now.bays.items c.index-number.result.now c.store-place.new.bay in
+    settles_drawn c.args.table.now _ _ c.index-number.result.now _ old c.store-place.new.bay c.requires.table at.0 (again c.args.table.now.bays.items c.index-number.result.now c.store-place.new.bay at.0) at.1
+    (c.store-place.ensures.length ∙ c.clean-bay.ensures.size) (c.store-place.ensures.free ∙ c.clean-bay.ensures.free) (c.store-place.ensures.number ∙ c.clean-bay.ensures.number) c.draw.ensures

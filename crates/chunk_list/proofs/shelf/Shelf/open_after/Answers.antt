@@ -1,6 +1,6 @@
 use Rattle.std.proofs.Common.{◌≡◌, ◌+◌, ◌<◌, [], length, refl, ap, subst, ◌∙◌, arith}
 use Rattle.std.specs.List.{insert}
-use Rattle.chunk_list.specs.Shelves.{Shelved, chunks_in, TakesSlot}
+use Rattle.chunk_list.specs.Shelves.{Shelved, chunks_in, TakesBay}
 use Rattle.chunk_list.proofs.Shelves.{chunks_count, taken, opened_chunks, opened_shelf, filled_chunks}
 use Rattle.chunk_list.proofs.shelf.Shelf.open_after.Goals as goal
 
@@ -11,11 +11,11 @@ overflow_add-first g c =
     let v = c.args.self.now.chunks in
     let same : chunks_in xs spans ≡ v = ap (λ (w : Shelved g.row.T.Denot). w.chunks) c.self.view_is in
     let free = c.self.inside.free.items in
-    let first = c.take_slot-first.result in
+    let first = c.take_bay-first.result in
     let less : length spans < c.self.inside.most = omega (arith, ap length same, chunks_count xs spans, ap (λ (w : Shelved g.row.T.Denot). w.most) c.self.view_is, c.requires.room) in
     let count : c.len.result ≡ length spans = omega (arith, c.len.ensures) in
-    let slot = taken xs spans free c.take_slot-first.new.free.items c.self.inside.most _ _ _ first c.self.invariant less (subst (λ n. TakesSlot free c.take_slot-first.new.free.items n first) count c.take_slot-first.ensures.slot) in
-    omega (arith, slot.within, c.self.invariant.fits)
+    let bay = taken xs spans free c.take_bay-first.new.free.items c.self.inside.most _ _ _ first c.self.invariant less (subst (λ n. TakesBay free c.take_bay-first.new.free.items n first) count c.take_bay-first.ensures.bay) in
+    omega (arith, bay.within, c.self.invariant.fits)
 
 pub fill-requires : goal.fill-requires
 fill-requires g c =
@@ -24,11 +24,11 @@ fill-requires g c =
     let v = c.args.self.now.chunks in
     let same : chunks_in xs spans ≡ v = ap (λ (w : Shelved g.row.T.Denot). w.chunks) c.self.view_is in
     let free = c.self.inside.free.items in
-    let first = c.take_slot-first.result in
+    let first = c.take_bay-first.result in
     let less : length spans < c.self.inside.most = omega (arith, ap length same, chunks_count xs spans, ap (λ (w : Shelved g.row.T.Denot). w.most) c.self.view_is, c.requires.room) in
     let count : c.len.result ≡ length spans = omega (arith, c.len.ensures) in
-    let slot = taken xs spans free c.take_slot-first.new.free.items c.self.inside.most _ _ _ first c.self.invariant less (subst (λ n. TakesSlot free c.take_slot-first.new.free.items n first) count c.take_slot-first.ensures.slot) in
-    omega (arith, slot.within, c.self.invariant.places_room_is)
+    let bay = taken xs spans free c.take_bay-first.new.free.items c.self.inside.most _ _ _ first c.self.invariant less (subst (λ n. TakesBay free c.take_bay-first.new.free.items n first) count c.take_bay-first.ensures.bay) in
+    omega (arith, bay.within, c.self.invariant.places_room_is)
 
 pub invariant_of-self : goal.invariant_of-self
 invariant_of-self g c =
@@ -37,11 +37,11 @@ invariant_of-self g c =
     let v = c.args.self.now.chunks in
     let same : chunks_in xs spans ≡ v = ap (λ (w : Shelved g.row.T.Denot). w.chunks) c.self.view_is in
     let free = c.self.inside.free.items in
-    let first = c.take_slot-first.result in
+    let first = c.take_bay-first.result in
     let less : length spans < c.self.inside.most = omega (arith, ap length same, chunks_count xs spans, ap (λ (w : Shelved g.row.T.Denot). w.most) c.self.view_is, c.requires.room) in
     let count : c.len.result ≡ length spans = omega (arith, c.len.ensures) in
-    let slot = taken xs spans free c.take_slot-first.new.free.items c.self.inside.most _ _ _ first c.self.invariant less (subst (λ n. TakesSlot free c.take_slot-first.new.free.items n first) count c.take_slot-first.ensures.slot) in
-    rw c.insert_span.ensures.items (opened_shelf xs c.fill.new.places.items spans free c.take_slot-first.new.free.items c.self.inside.most _ _ _ _ _ _ (c.args.chunk + 1) (record { first = first; len = 0 }) c.self.invariant slot refl (omega (arith, ap length same, chunks_count xs spans, c.requires.chunk)) c.fill.ensures.more c.fill.ensures.enough (omega (arith, c.fill.ensures.capacity)) (omega (arith, c.insert_span.ensures.capacity)) (omega (arith, c.take_slot-first.ensures.capacity)))
+    let bay = taken xs spans free c.take_bay-first.new.free.items c.self.inside.most _ _ _ first c.self.invariant less (subst (λ n. TakesBay free c.take_bay-first.new.free.items n first) count c.take_bay-first.ensures.bay) in
+    rw c.insert_span.ensures.items (opened_shelf xs c.fill.new.places.items spans free c.take_bay-first.new.free.items c.self.inside.most _ _ _ _ _ _ (c.args.chunk + 1) (record { first = first; len = 0 }) c.self.invariant bay refl (omega (arith, ap length same, chunks_count xs spans, c.requires.chunk)) c.fill.ensures.more c.fill.ensures.enough (omega (arith, c.fill.ensures.capacity)) (omega (arith, c.insert_span.ensures.capacity)) (omega (arith, c.take_bay-first.ensures.capacity)))
 
 pub returns-clause-chunks : goal.returns-clause-chunks
 returns-clause-chunks g c =
@@ -50,5 +50,5 @@ returns-clause-chunks g c =
     let v = c.args.self.now.chunks in
     let same : chunks_in xs spans ≡ v = ap (λ (w : Shelved g.row.T.Denot). w.chunks) c.self.view_is in
     ap (chunks_in c.fill.new.places.items) c.insert_span.ensures.items
-    ∙ opened_chunks c.fill.new.places.items spans (c.args.chunk + 1) (record { first = c.take_slot-first.result; len = 0 }) refl
+    ∙ opened_chunks c.fill.new.places.items spans (c.args.chunk + 1) (record { first = c.take_bay-first.result; len = 0 }) refl
     ∙ ap (λ ps. insert ps (c.args.chunk + 1) []) (filled_chunks xs c.fill.new.places.items spans c.fill.ensures.kept c.self.invariant.spans_are ∙ same)

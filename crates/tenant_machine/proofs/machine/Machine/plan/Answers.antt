@@ -1,10 +1,10 @@
 use Rattle.std.proofs.Common.{◌≡◌, None, ap, is_some}
 use Rattle.etcd_model.specs.Stepping.{look_up}
 use Rattle.etcd_model.specs.Store.{kept_store}
-use Rattle.tenant_machine.specs.Deciding.{gate}
+use Rattle.tenant_machine.specs.Deciding.{early_refusal}
 use Rattle.tenant_machine.specs.Plans.{takes_memory}
 use Rattle.tenant_machine.specs.Tenants.{tenant}
-use Rattle.tenant_machine.proofs.Gates.{let_through_does, refused_does, sure_past_gate}
+use Rattle.tenant_machine.proofs.EarlyRefusals.{let_through_does, refused_does, sure_past_refusals}
 use Rattle.tenant_machine.proofs.Holding.{plans, plans_where}
 use Rattle.tenant_machine.proofs.machine.Machine.plan.Goals as goal
 
@@ -22,5 +22,5 @@ pub returns-in-None-clause-sure : goal.returns-in-None-clause-sure
 returns-in-None-clause-sure c =
     let t = tenant c.args.self.now in
     let step = c.args.step.now in
-    let none : gate t step ≡ None = cc in
-    sure_past_gate (takes_memory step) (is_some (gate t step)) (is_some (look_up kept_store t step)) (ap is_some none) c.decide.ensures.sure c.decide.ensures.stopped
+    let none : early_refusal t step ≡ None = cc in
+    sure_past_refusals (takes_memory step) (is_some (early_refusal t step)) (is_some (look_up kept_store t step)) (ap is_some none) c.decide.ensures.sure c.decide.ensures.stopped

@@ -14,7 +14,7 @@ use Rattle.etcd_model.specs.Operations.{first_refusal}
 use Rattle.etcd_model.specs.Stepping.{adds, decided, early, look_up, machine, outcome, unless_alarmed, within_quota}
 use Rattle.etcd_model.specs.Store.{Store, kept_store}
 use Rattle.etcd_model.specs.Tenant.{Outcome, reads, stays, used}
-use Rattle.tenant_machine.specs.Deciding.{Does, gate, past_gate}
+use Rattle.tenant_machine.specs.Deciding.{Does, early_refusal, past_early}
 use Rattle.tenant_machine.specs.Tenants.{MachineState, tenant}
 use Rattle.tenant_machine.specs.Plans.{Plan}
 use Rattle.tenant_machine.specs.declared.planned.Effect.TheVariants.{Nothing}
@@ -24,7 +24,7 @@ alone_refusal None = refl
 alone_refusal (Some r) = refl
 
 module _ (t : State Store) (step : Step) where
-  -- ---- the gate
+  -- ---- what refuses a step early
 
   -- the machine, where this is what goes before the alarm
   abbrev after_early : Option Refusal → Outcome Store
@@ -38,7 +38,7 @@ module _ (t : State Store) (step : Step) where
       alarmed true o is = ap (λ y. stays kept_store t (Refused y)) (same_Some NoSpace r is)
       alarmed false o is = absurd (cc)
 
-  let_through_early : (e : Option Refusal) → first_refusal (e ∷ refused_if (t.alarm && may_add step) NoSpace ∷ []) ≡ None → after_early e ≡ past_gate t step
+  let_through_early : (e : Option Refusal) → first_refusal (e ∷ refused_if (t.alarm && may_add step) NoSpace ∷ []) ≡ None → after_early e ≡ past_early t step
   let_through_early (Some x) is = absurd (cc)
   let_through_early None is =
       calm (t.alarm && may_add step) (within_quota kept_store t step (decided kept_store t step (first_refusal (look_up kept_store t step ∷ []))) (look_up kept_store t step)) is
@@ -48,19 +48,19 @@ module _ (t : State Store) (step : Step) where
       calm true o is = absurd (cc)
       calm false o is = refl
 
-  pub refused_by_gate : (r : Refusal) → gate t step ≡ Some r → machine kept_store t step ≡ stays kept_store t (Refused r)
-  refused_by_gate r is = refused_early r (early kept_store t step) is
+  pub refused_at_first : (r : Refusal) → early_refusal t step ≡ Some r → machine kept_store t step ≡ stays kept_store t (Refused r)
+  refused_at_first r is = refused_early r (early kept_store t step) is
 
-  pub let_through : gate t step ≡ None → machine kept_store t step ≡ past_gate t step
+  pub let_through : early_refusal t step ≡ None → machine kept_store t step ≡ past_early t step
   let_through is = let_through_early (early kept_store t step) is
 
-  -- ---- past the gate
+  -- ---- a step that is not refused early
 
-  pub refused_past_gate : (r : Refusal) → look_up kept_store t step ≡ Some r → past_gate t step ≡ stays kept_store t (Refused r)
+  pub refused_past_gate : (r : Refusal) → look_up kept_store t step ≡ Some r → past_early t step ≡ stays kept_store t (Refused r)
   refused_past_gate r is = ap (λ (o : Option Refusal). within_quota kept_store t step (decided kept_store t step o) o) is
 
   -- what is not refused is done, unless it adds and passes the quota
-  pub done_past_gate : look_up kept_store t step ≡ None → past_gate t step ≡ within_quota kept_store t step (outcome kept_store t step) None
+  pub done_past_gate : look_up kept_store t step ≡ None → past_early t step ≡ within_quota kept_store t step (outcome kept_store t step) None
   done_past_gate is = ap (λ (o : Option Refusal). within_quota kept_store t step (decided kept_store t step o) o) is
 
 -- ---- the quota
@@ -89,18 +89,18 @@ passes t step o adding past =
 
 -- ---- plans
 
-pub refused_does : (m : MachineState) (step : Step) (r : Refusal) (p : Plan) → gate (tenant m) step ≡ Some r → p ≡ record { effect = Nothing; reply = Refused r } → Does m p (machine kept_store (tenant m) step)
+pub refused_does : (m : MachineState) (step : Step) (r : Refusal) (p : Plan) → early_refusal (tenant m) step ≡ Some r → p ≡ record { effect = Nothing; reply = Refused r } → Does m p (machine kept_store (tenant m) step)
 refused_does m step r p is planned =
     subst (λ (q : Plan). Does m q (machine kept_store (tenant m) step)) (sym planned)
-    (subst (Does m (record { effect = Nothing; reply = Refused r })) (sym (refused_by_gate (tenant m) step r is)) (record { reply = refl; state = refl }))
+    (subst (Does m (record { effect = Nothing; reply = Refused r })) (sym (refused_at_first (tenant m) step r is)) (record { reply = refl; state = refl }))
 
-pub let_through_does : {E : Type 0} (m : MachineState) (step : Step) (result : Result Plan E) → gate (tenant m) step ≡ None
-    → IfOk result (λ p. Does m p (past_gate (tenant m) step)) → IfOk result (λ p. Does m p (machine kept_store (tenant m) step))
+pub let_through_does : {E : Type 0} (m : MachineState) (step : Step) (result : Result Plan E) → early_refusal (tenant m) step ≡ None
+    → IfOk result (λ p. Does m p (past_early (tenant m) step)) → IfOk result (λ p. Does m p (machine kept_store (tenant m) step))
 let_through_does m step result is does = subst (λ (o : Outcome Store). IfOk result (λ p. Does m p o)) (sym (let_through (tenant m) step is)) does
 
--- a step that is sure, and that the gate lets through, takes no memory or is refused by what is looked up
-pub sure_past_gate : {P : Type 0} (takes gated found : Bool) → gated ≡ false → (takes ≡ false → P) → (found ≡ true → P) → (not takes || (gated || found)) ≡ true → P
-sure_past_gate false gated found b free told h = free refl
-sure_past_gate true gated true b free told h = told refl
-sure_past_gate true false false b free told h = absurd (cc)
-sure_past_gate true true false b free told h = absurd (cc)
+-- a step that is sure, and that is not refused early, takes no memory or is refused by what is looked up
+pub sure_past_refusals : {P : Type 0} (takes gated found : Bool) → gated ≡ false → (takes ≡ false → P) → (found ≡ true → P) → (not takes || (gated || found)) ≡ true → P
+sure_past_refusals false gated found b free told h = free refl
+sure_past_refusals true gated true b free told h = told refl
+sure_past_refusals true false false b free told h = absurd (cc)
+sure_past_refusals true true false b free told h = absurd (cc)

@@ -1,5 +1,5 @@
 use Rattle.cell_arena.proofs.FreeList.{IsCleaning}
-use Rattle.cell_arena.proofs.slot.clean.Given as goal
+use Rattle.cell_arena.proofs.bay.clean.Given as goal
 
 abbrev pub invariant-listing : goal.invariant-listing
 invariant-listing l = IsCleaning l.cells.items l.place l.first

@@ -1,6 +1,6 @@
 use Rattle.std.proofs.Common.{◌≡◌, ℕ, arith, subst}
 use Rattle.cell_arena.proofs.FreeList.{IsCleaning, cleaned_more, cleaned_all, listed_from}
-use Rattle.cell_arena.proofs.slot.clean.Goals as goal
+use Rattle.cell_arena.proofs.bay.clean.Goals as goal
 
 pub listing-preserved : goal.listing-preserved
 listing-preserved c = rw c.link_to-first.ensures (cleaned_more _ _ _ (omega arith) c.listing.invariant)

@@ -1,5 +1,0 @@
-use Rattle.cell_arena.proofs.FreeList.{listed_rewritten}
-use Rattle.cell_arena.proofs.slot.rewrite.Goals as goal
-
-pub returns-clause-listed : goal.returns-clause-listed
-returns-clause-listed c = listed_rewritten c.args.slot.now c.args.place c.args.cell c.requires.listed c.requires.used c.requires.stays
