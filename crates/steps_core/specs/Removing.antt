@@ -1,20 +1,16 @@
 -- The end of a tenant: what speaks against it, and what it leaves.
-use Rattle.std.specs.Prelude.{◌≡◌, ℕ, not, List, Option, Some, None, if◌then◌else◌}
+use Rattle.std.specs.Prelude.{◌≡◌, ℕ, List, Option, Some, None}
 use Rattle.std.specs.Str.{bytes_eq}
 use Rattle.std.specs.Map.{remove_entry}
 use Rattle.tenant_machine.specs.Tenants.{MachineState}
 use Rattle.tenant_rules.specs.declared.fault.OperatorFault.{OperatorFault}
-use Rattle.tenant_rules.specs.declared.fault.OperatorFault.TheVariants.{Name, NoTenant}
 use Rattle.steps_core.specs.Hosts.{HostState, machine_at, has_tenant}
-use Rattle.tenant_rules.specs.Rules.{is_name}
+use Rattle.tenant_rules.specs.Rules.{removal_fault}
 use Rattle.steps_core.specs.Reserving.{ChangesOnly}
 
 -- the first reason not to remove a tenant, or none
 abbrev pub remove_fault : HostState → List ℕ → Option OperatorFault
-remove_fault h name =
-    if not (is_name name) then Some Name
-    else if not (has_tenant h name) then Some NoTenant
-    else None
+remove_fault h name = removal_fault name (has_tenant h name)
 
 -- the tenant is gone and reserves nothing, the others stand in their order, and nothing else has changed
 pub record Removes (old : HostState) (name : List ℕ) (new : HostState) : Type 0 where

@@ -1,11 +1,10 @@
 -- Another quota for a tenant: what speaks against it, and what it leaves.
-use Rattle.std.specs.Prelude.{◌≡◌, ℕ, ◌+◌, not, Bool, List, nat_lt, Option, Some, None, if◌then◌else◌}
+use Rattle.std.specs.Prelude.{◌≡◌, ℕ, ◌+◌, Bool, List, nat_lt, Option, Some}
 use Rattle.tenant_machine.specs.Tenants.{MachineState}
 use Rattle.tenant_machine.specs.Reserving.{reservation, resized}
 use Rattle.tenant_rules.specs.declared.fault.OperatorFault.{OperatorFault}
-use Rattle.tenant_rules.specs.declared.fault.OperatorFault.TheVariants.{Name, Limits, NoTenant, Short}
 use Rattle.steps_core.specs.Hosts.{HostState, machine_at, has_tenant, names_of, reserved_segments}
-use Rattle.tenant_rules.specs.Rules.{is_name, is_quota}
+use Rattle.tenant_rules.specs.Rules.{quota_fault}
 use Rattle.steps_core.specs.Reserving.{reserved_at, wanted_at, ChangesOnly}
 
 -- the tenant would reserve so many more segments that fewer are unreserved
@@ -15,12 +14,7 @@ lacks_segments h name quota =
 
 -- the first reason not to give a tenant another quota, or none
 abbrev pub resize_fault : HostState → List ℕ → ℕ → Option OperatorFault
-resize_fault h name quota =
-    if not (is_name name) then Some Name
-    else if not (is_quota quota) then Some Limits
-    else if not (has_tenant h name) then Some NoTenant
-    else if lacks_segments h name quota then Some Short
-    else None
+resize_fault h name quota = quota_fault name quota (has_tenant h name) (lacks_segments h name quota)
 
 -- the tenant has the quota and reserves what it takes with it, and nothing else has changed
 pub record Resizes (old : HostState) (name : List ℕ) (quota : ℕ) (new : HostState) : Type 0 where
