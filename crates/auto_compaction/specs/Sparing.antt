@@ -1,7 +1,8 @@
 -- Which revisions a standing order lets go.
-use Rattle.std.specs.Prelude.{◌≡◌, ℕ, ℤ, pos, ◌-◌, ◌≤◌, ◌+ℤ◌, ◌&&◌, Bool, true, false, nat_le, List, []}
+use Rattle.std.specs.Prelude.{◌≡◌, ◌⊎◌, ℕ, ℤ, pos, ◌-◌, ◌<◌, ◌≤◌, ◌+ℤ◌, ◌-ℤ◌, ◌&&◌, Bool, true, false, nat_le, int_le, List, [], ◌∷◌, ◌++◌, length}
 use Rattle.std.specs.VecDeque.{deque_capacity}
 use Rattle.std.specs.List.{HoldsAt}
+use Rattle.std.specs.Ordering.{int_eq}
 use Rattle.auto_compaction.specs.declared.order.Note.{Note}
 use Rattle.auto_compaction.specs.declared.order.StandingOrder.{StandingOrder}
 use Rattle.auto_compaction.specs.declared.retention.Retention.{Retention}
@@ -21,6 +22,29 @@ abbrev pub MayGo : Retention → List Note → ℕ → ℤ → ℤ → Type 0
 MayGo All notes moment current at = ⊥
 MayGo (Seconds s) notes moment current at = HoldsAt (IsNotedAs s moment at) notes 0
 MayGo (Revisions n) notes moment current at = at +ℤ pos n ≡ current
+
+-- The notes are those that were there, of which the oldest may have gone, and behind them one of a moment with its revision
+-- if there was room.
+abbrev pub IsNoted : List Note → Note → List Note → Type 0
+IsNoted old note new =
+    (gone : List Note) × (left : List Note) × (old ≡ gone ++ left) × ((new ≡ left) ⊎ (new ≡ left ++ note ∷ []))
+
+-- the longest time between two compactions, in seconds
+abbrev pub max_period : ℕ
+max_period = 3600
+
+-- a revision above 0, at which the tenant was not compacted last
+abbrev pub IsChange : ℤ → ℤ → Type 0
+IsChange last at = (int_le at (pos 0) ≡ false) × (int_eq at last ≡ false)
+
+-- At a moment, with its current revision, a tenant is to be compacted: by time, if it may be again, and the oldest note is old
+-- enough; by number, if more revisions came than are kept. Where it was done before, it is not.
+abbrev pub IsDue : StandingOrder → List Note → ℕ → ℤ → Retention → Type 0
+IsDue order notes moment current All = ⊥
+IsDue order notes moment current (Seconds s) =
+    (order.compacts ≤ moment) × (0 < length notes) × (at : ℤ) × HoldsAt (IsNotedAs s moment at) notes 0 × IsChange order.last at
+IsDue order notes moment current (Revisions n) =
+    (int_le current (pos n) ≡ false) × IsChange order.last (current -ℤ pos n)
 
 -- notes of 30 days, one each six minutes, and one that is older
 abbrev pub max_notes : ℕ

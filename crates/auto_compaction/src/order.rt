@@ -7,9 +7,11 @@
 //!
 //! The worked example for 100 seconds, with a put each ten seconds from revision 2 on: revisions 1, 2, 3, .. are noted at the
 //! seconds 10, 20, 30, ..; at 110 the one of second 10 is 100 seconds old, and the tenant is compacted there; again at 210.
-ghost use Rattle.std.specs.Prelude.{◌≡◌, ◌<◌, ◌≤◌, ◌+ℤ◌, pos, IfSome, IfOk};
+ghost use Rattle.std.specs.Prelude.{◌≡◌, ◌<◌, ◌≤◌, ◌+◌, ◌+ℤ◌, ℤ, pos, length, max, Some, IfSome, IfOk, IsSome};
 ghost use Rattle.std.specs.List.{HoldsAt};
-ghost use Rattle.auto_compaction.specs.Sparing.{is_old, is_due, max_notes, IsNew, IsNotedAs, MayGo};
+ghost use Rattle.auto_compaction.specs.declared.retention.Retention.TheVariants.{Seconds, Revisions};
+ghost use Rattle.auto_compaction.specs.Sparing.{is_old, is_due, max_notes, max_period, IsChange, IsDue, IsNew, IsNoted};
+ghost use Rattle.auto_compaction.specs.Sparing.{IsNotedAs, MayGo};
 
 use crate::retention::{MAX_RETENTION, Retention};
 use etcd_types::Mem;
@@ -110,6 +112,13 @@ impl StandingOrder {
         })
     }
 
+    /// The number of the tenant.
+    pub fn tenant(&self) -> u64
+        ensures { result ≡ self.now.tenant }
+    {
+        self.tenant
+    }
+
     /// The tenant's revision is to be looked at.
     pub fn is_due(&self, moment: u64) -> bool
         ensures { result ≡ is_due self.now moment }
@@ -122,7 +131,11 @@ impl StandingOrder {
     pub fn look(&mut self, moment: u64, revision: i64) -> Option<DueRevision>
         ensures spares { IfSome result
             (λ due. MayGo self.new.retention self.new.notes.items moment revision due.revision) }
+        ensures due { IsDue self.old self.new.notes.items moment revision self.old.retention → IsSome result }
         ensures whose { IfSome result (λ due. due.tenant ≡ self.old.tenant) }
+        ensures notes { IsNoted self.old.notes.items (record { moment = moment; revision = revision }) self.new.notes.items }
+        ensures next { self.new.next ≤ max self.old.next (moment + max_period) }
+        ensures again { self.new.compacts ≤ max self.old.compacts (moment + max_period) }
         ensures stays { self.new.retention ≡ self.old.retention }
         ensures tenant { self.new.tenant ≡ self.old.tenant }
     {
@@ -142,6 +155,10 @@ impl StandingOrder {
 
     fn look_at_time(&mut self, moment: u64, revision: i64, seconds: u64) -> Option<i64>
         ensures oldest { IfSome result (λ at. HoldsAt (IsNotedAs seconds moment at) self.new.notes.items 0) }
+        ensures due { IsDue self.old self.new.notes.items moment revision (Seconds seconds) → IsSome result }
+        ensures notes { IsNoted self.old.notes.items (record { moment = moment; revision = revision }) self.new.notes.items }
+        ensures next { self.new.next ≤ moment + max_period }
+        ensures again { self.new.compacts ≤ max self.old.compacts (moment + max_period) }
         ensures order { self.new.retention ≡ self.old.retention }
         ensures whose { self.new.tenant ≡ self.old.tenant }
     {
@@ -157,7 +174,9 @@ impl StandingOrder {
 
     /// What was noted first, if that is old enough.
     fn oldest(&self, seconds: u64, moment: u64) -> Option<i64>
-        ensures { IfSome result (λ at. HoldsAt (IsNotedAs seconds moment at) self.now.notes.items 0) }
+        ensures is { IfSome result (λ at. HoldsAt (IsNotedAs seconds moment at) self.now.notes.items 0) }
+        ensures due { (at : ℤ) → 0 < length self.now.notes.items
+            → HoldsAt (IsNotedAs seconds moment at) self.now.notes.items 0 → result ≡ Some at }
     {
         let oldest = self.notes.front()?;
         if oldest.is_old(seconds, moment) {
@@ -169,6 +188,10 @@ impl StandingOrder {
 
     fn look_at_count(&mut self, moment: u64, revision: i64, count: u64) -> Option<i64>
         ensures counted { IfSome result (λ at. at +ℤ pos count ≡ revision) }
+        ensures due { IsDue self.old self.new.notes.items moment revision (Revisions count) → IsSome result }
+        ensures notes { self.new.notes ≡ self.old.notes }
+        ensures next { self.new.next ≤ moment + max_period }
+        ensures again { self.new.compacts ≡ self.old.compacts }
         ensures order { self.new.retention ≡ self.old.retention }
         ensures whose { self.new.tenant ≡ self.old.tenant }
     {
@@ -183,6 +206,9 @@ impl StandingOrder {
     /// A revision at which the tenant was not compacted last.
     fn changed(&mut self, revision: i64) -> Option<i64>
         ensures told { IfSome result (λ at. at ≡ revision) }
+        ensures due { IsChange self.old.last revision → IsSome result }
+        ensures next { self.new.next ≡ self.old.next }
+        ensures again { self.new.compacts ≡ self.old.compacts }
         ensures order { self.new.retention ≡ self.old.retention }
         ensures whose { self.new.tenant ≡ self.old.tenant }
         ensures notes { self.new.notes ≡ self.old.notes }
@@ -206,7 +232,9 @@ impl StandingOrder {
 }
 
 /// Keeps a note, and lets go those before the last that is old enough.
-fn keep(notes: &mut VecDeque<Note>, note: Note, seconds: u64) {
+fn keep(notes: &mut VecDeque<Note>, note: Note, seconds: u64)
+    ensures { IsNoted notes.old.items note notes.new.items }
+{
     for _ in 0..notes.len() {
         match notes.get(1) {
             Some(second) if second.is_old(seconds, note.moment) => {}
@@ -220,7 +248,8 @@ fn keep(notes: &mut VecDeque<Note>, note: Note, seconds: u64) {
 
 /// How many seconds lie between two looks at the revision.
 fn step_of(seconds: u64) -> u64
-    ensures { 0 < result }
+    ensures some { 0 < result }
+    ensures most { result ≤ max_period }
 {
     (seconds.min(MAX_PERIOD) / NOTES_A_PERIOD).max(1)
 }
