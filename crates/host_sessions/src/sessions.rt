@@ -1,6 +1,6 @@
 //! Listens, and serves a registry.
 use host_config::Config;
-use std::alloc::{AllocGlobal, Global};
+use std::alloc::AllocGlobal;
 use std::io;
 use std::net::{Net, SocketAddr};
 use std::random::RandomSource;
@@ -107,8 +107,8 @@ impl Sessions {
     {
         let alloc = rt.alloc();
         let opened = Sessions::open(rt, listening, registry, seats.len())?;
-        let calls = opened.run(rt, seated(alloc, seats, gate)?)?;
-        seats_of(alloc, calls)
+        let calls = opened.run(rt, SeatedCalls::all(alloc, seats, gate)?)?;
+        Ok(SeatedCalls::into_seats(alloc, calls)?)
     }
 
     /// The same of a server that was opened, while other work is done on this thread, as that of an operator who has the
@@ -136,8 +136,8 @@ impl Sessions {
         requires { W.IsAlwaysCallable work }
     {
         let alloc = rt.alloc();
-        let calls = opened.run_beside(rt, seated(alloc, seats, gate)?, work)?;
-        seats_of(alloc, calls)
+        let calls = opened.run_beside(rt, SeatedCalls::all(alloc, seats, gate)?, work)?;
+        Ok(SeatedCalls::into_seats(alloc, calls)?)
     }
 
     /// Serves what a function brings, over streams of any kind by `serve_one`, until it returns; all connections
@@ -167,8 +167,8 @@ impl Sessions {
     {
         let alloc = rt.alloc();
         let keys = registry.keys(alloc)?;
-        let calls = serve_with(rt, keys, seated(alloc, seats, gate)?, bring)?;
-        seats_of(alloc, calls)
+        let calls = serve_with(rt, keys, SeatedCalls::all(alloc, seats, gate)?, bring)?;
+        Ok(SeatedCalls::into_seats(alloc, calls)?)
     }
 
     /// Serves one connection over any stream, by the jobs that `serve` uses. It waits for its peer however long that
@@ -180,33 +180,4 @@ impl Sessions {
     {
         serve_one(rt, jobs, io)
     }
-}
-
-/// Calls by these seats, in their order.
-fn seated<'x, G: Gate>(
-    alloc: Global,
-    seats: Vec<Seat>,
-    gate: &'x G,
-) -> Result<Vec<SeatedCalls<'x, G>>, ServeFault> {
-    let mut calls = Vec::with_capacity(alloc, seats.len())?;
-    for seat in seats {
-        if calls.push(SeatedCalls::new(seat, gate)).is_err() {
-            return Err(ServeFault::Memory);
-        }
-    }
-    Ok(calls)
-}
-
-/// The seats by which calls were made, in their order.
-fn seats_of<G: Gate>(
-    alloc: Global,
-    calls: Vec<SeatedCalls<'_, G>>,
-) -> Result<Vec<Seat>, ServeFault> {
-    let mut seats = Vec::with_capacity(alloc, calls.len())?;
-    for own in calls {
-        if seats.push(own.into_seat()).is_err() {
-            return Err(ServeFault::Memory);
-        }
-    }
-    Ok(seats)
 }

@@ -1,11 +1,12 @@
 -- What a call on a tenant is answered: the written machine's reply to its step, or why there is none.
-use Rattle.std.specs.Prelude.{◌≡◌, ℕ, Bool, if◌then◌else◌}
+use Rattle.std.specs.Prelude.{◌≡◌, ℕ, ℤ, pos, Bool, if◌then◌else◌}
 use Rattle.etcd_types.specs.declared.step.Step.{Step}
 use Rattle.etcd_types.specs.declared.reply.Reply.{Reply}
 use Rattle.etcd_types.specs.declared.refusal.Refusal.{Refusal}
 use Rattle.etcd_types.specs.declared.refusal.Refusal.TheVariants as refusal
 use Rattle.etcd_model.specs.declared.state.History.{History}
 use Rattle.etcd_model.specs.declared.state.State.{State}
+use Rattle.etcd_model.specs.History.{current}
 use Rattle.etcd_model.specs.Machine.{machine}
 use Rattle.etcd_model.specs.ReplyText.{reply_status, reply_body}
 use Rattle.tenant_audit.specs.Audits.{LeadsTo, Log}
@@ -34,6 +35,14 @@ pub record IsTold (number : ℕ) (step : Step) (slip : Slip) : Type 0 where
   pub reply : Reply
   pub is : IsReply number step reply
   pub told : Tells slip reply
+
+-- the current revision in a state to which some acts have led from an opening of that number
+pub record IsRevision (number : ℕ) (revision : ℤ) : Type 0 where
+  pub log : Log
+  pub state : State History
+  pub tenant : log.opening.number ≡ number
+  pub leads : LeadsTo log state
+  pub is : revision ≡ pos (current state.store)
 
 -- why a call has no receipt: the tenant was removed, or there is no memory
 abbrev pub IsUncalled : Refusal → Type 0

@@ -2,7 +2,7 @@
 ghost use Rattle.std.specs.Prelude.{◌≡◌, ℕ, List, IfErr, IfOk};
 ghost use Rattle.etcd_types.specs.declared.step.Step.{Step};
 ghost use Rattle.tenant_audit.specs.Receipts.{Slip};
-ghost use Rattle.tenant_calls.specs.Answers.{IsTold, IsUncalled};
+ghost use Rattle.tenant_calls.specs.Answers.{IsRevision, IsTold, IsUncalled};
 ghost use Rattle.tenant_calls.specs.Counts.{Counts, IsNoMore, IsOneMore};
 
 use crate::receipt::CallReceipt;
@@ -66,7 +66,9 @@ pub trait TenantCalls: Drop {
         ensures unmade { IfErr result (λ _. IsNoMore (made self.old) (made self.new)) };
 
     /// The tenant's current revision. It is refused as `call` is.
-    fn revision<R: Wait>(&self, rt: &R, key: &Self::Key) -> Result<i64, Refusal>;
+    fn revision<R: Wait>(&self, rt: &R, key: &Self::Key) -> Result<i64, Refusal>
+        ensures is { IfOk result (λ revision. IsRevision (Self.Key.number_of key.now) revision) }
+        ensures refused { IfErr result (λ r. IsUncalled r) };
 
     /// Which takes of its watches may not be quiet; none if it was removed.
     fn hint<R: Wait>(&self, rt: &R, key: &Self::Key) -> Option<Self::Hint>;

@@ -14,7 +14,7 @@ use Rattle.std.specs.Prelude.{◌⊎◌}
 use Rattle.std.specs.Str.{bytes_eq}
 use Rattle.std.specs.Map.{lookup}
 use Rattle.std.specs.Cmp.Lexicographic.{bytes_decides}
-use Rattle.tenant_registry.specs.Registries.{IsLent, is_among, tenants_of}
+use Rattle.tenant_registry.specs.Registries.{HasKeyOut, is_among, tenants_of}
 
 -- the first of the tenants that are left becomes a sheet
 pub given_step : {A : Type 0} (ss : List Sheet) (s : Sheet) (name : Vec ℕ A) (t : Tenant) (left rest : List (Vec ℕ A × Tenant)) (all : List (List ℕ × Opening))
@@ -36,7 +36,7 @@ given_all ss left all same none = sym (no_more (given_of ss)) ∙ ap (λ es. giv
 
 -- a fault of these sheets is one of the tenants that they are of
 pub tells_fault : {B : Type 0} (r : Result B CloseFault) (given : List (List ℕ × Opening)) (seats : List SeatState) (ss : List Sheet) → given_of ss ≡ given → AreLawful ss
-    → IfErr r (λ f. IsFault ss seats f) → IfErr r (λ f. HasFault given seats f ⊎ IsLent given f)
+    → IfErr r (λ f. IsFault ss seats f) → IfErr r (λ f. HasFault given seats f ⊎ HasKeyOut given f)
 tells_fault (Ok x) given seats ss names lawful h = h
 tells_fault (Err f) given seats ss names lawful h = inl (record { sheets = ss; names = names; lawful = lawful; is = h })
 

@@ -189,7 +189,7 @@ kept_step m n a b left rest seat step p reply kept plans after is settles made =
     by false e = kept_later m n a left rest step p kept (is_shut a e) plans after settles
 
 -- the state that lies under a lock
-leads : (m : MachineState) (a : Log) (left : StockState) (kept : IsKept m a left) → LeadsTo a (state_after_acts (end_of a) kept.later)
+pub leads : (m : MachineState) (a : Log) (left : StockState) (kept : IsKept m a left) → LeadsTo a (state_after_acts (end_of a) kept.later)
 leads m a left kept = record { lawful = kept.lawful; later = kept.later; none = kept.none; is = refl }
 
 -- what is promised of that
@@ -217,18 +217,18 @@ serves old m n a b left rest seat step p reply told turn served view kept plans 
     subst (λ (o : Content). Serves o seat step served (record { machine = n; audit = b; left = rest })) view there
 
 -- what a step under the lock is to its caller
-pub is_served : {E : Type 0} (old new : Option Content) (number seat : ℕ) (step : Step) (r : Result Served E) → IfOk r (λ served. ServesThere old number seat step served new) → IfOk r (λ served. IsServed number seat step served)
-is_served old new number seat step (Ok served) h = record {
+pub is_served : {E : Type 0} (old new : Option Content) (opening : Opening) (seat : ℕ) (step : Step) (r : Result Served E) → IfOk r (λ served. ServesThere old opening seat step served new) → IfOk r (λ served. IsServed opening seat step served)
+is_served old new opening seat step (Ok served) h = record {
   log = h.before.audit;
   state = h.serves.state;
   reply = h.serves.reply;
-  tenant = h.number_is;
+  tenant = h.opening_is;
   leads = h.serves.leads;
   answer = h.serves.answer;
-  receipt = h.serves.receipt ∙ ap (λ n. slip_of n seat (turn_of h.before.audit) step h.serves.reply) h.number_is;
+  receipt = h.serves.receipt ∙ ap (λ o. slip_of o.number seat (turn_of h.before.audit) step h.serves.reply) h.opening_is;
   mine = h.serves.mine;
 }
-is_served old new number seat step (Err e) h = h
+is_served old new opening seat step (Err e) h = h
 
 -- ---- another quota
 

@@ -1,11 +1,13 @@
 -- What a server's thread is told is what the registry's receipt has.
 use Rattle.std.specs.Prelude.{Option, Some, None}
-use Rattle.std.proofs.Common.{◌≡◌, ◌∙◌, ◌+◌, ◌-◌, ◌^◌, ◌<◌, ◌≤◌, ◌⊎◌, inl, inr, ap, refl, min, ℕ, List, [], ◌∷◌, ◌++◌, length, length-append, arith}
+use Rattle.std.proofs.Common.{◌≡◌, ◌∙◌, ◌+◌, ◌-◌, ◌^◌, ◌<◌, ◌≤◌, ◌⊎◌, inl, inr, ap, refl, min, ℕ, List, [], ◌∷◌, ◌++◌, length, length-append, map, append_assoc, sym, arith}
+use Rattle.std.proofs.lemmas.List.{map-append}
 use Rattle.std.proofs.Math.Nat.{min-eq_left}
 use Rattle.std.proofs.lemmas.Bool.{cases_lt}
 use Rattle.etcd_types.specs.declared.step.Step.{Step}
 use Rattle.etcd_model.specs.Machine.{machine}
 use Rattle.tenant_audit.specs.declared.tally.MadeCall.{MadeCall}
+use Rattle.tenant_audit.specs.declared.audit.Opening.{Opening}
 use Rattle.tenant_audit.specs.Receipts.{Slip}
 use Rattle.tenant_audit.specs.Seats.{SeatState, Keeps, KeepsLists, calls_on, missed_on}
 use Rattle.tenant_calls.specs.Answers.{IsTold}
@@ -13,11 +15,11 @@ use Rattle.tenant_calls.specs.Counts.{IsNoMore, IsOneMore}
 use Rattle.tenant_registry.specs.Counting.{calls_counted}
 use Rattle.tenant_registry.specs.Serving.{IsReceipt}
 
-pub told_of : (number seat : ℕ) (step : Step) (slip : Slip) → IsReceipt seat step slip → slip.number ≡ number → IsTold number step slip
-told_of number seat step slip i same = record {
+pub told_of : (opening : Opening) (seat : ℕ) (step : Step) (slip : Slip) → IsReceipt opening seat step slip → IsTold opening.number step slip
+told_of opening seat step slip i = record {
   asked = ap (λ s. s.step) i.text;
   reply = (machine i.state step).reply;
-  is = record { log = i.log; state = i.state; tenant = i.tenant ∙ same; leads = i.leads; is = refl };
+  is = record { log = i.log; state = i.state; tenant = ap (λ o. o.number) i.tenant; leads = i.leads; is = refl };
   told = record {
     status = ap (λ s. s.status) i.text;
     body = ap (λ s. s.body) i.text;
@@ -55,3 +57,16 @@ one_more None name step slip old new adds = record {
 
 pub no_more : (old new : SeatState) → KeepsLists old new → IsNoMore (calls_counted old) (calls_counted new)
 no_more old new keeps = λ t. ap (λ l. length l + missed_on t new) (keeps.calls t) ∙ ap (λ k. length (calls_on t old) + k) (keeps.missed t)
+
+-- ---- seats, one after another
+
+-- one seat more calls
+pub calls_more : {A B : Type 0} (f : A → B) (old new : List A) (call : A) (seat : B) (left rest all : List B) → new ≡ old ++ call ∷ [] → f call ≡ seat → left ≡ seat ∷ rest → map f old ++ left ≡ all → map f new ++ rest ≡ all
+calls_more {A = A} {B = B} f old new call seat left rest all grew same cut held =
+    ap (λ (calls : List A). map f calls ++ rest) grew ∙ ap (λ (seats : List B). seats ++ rest) (map-append f old (call ∷ [])) ∙ append_assoc (map f old) (f call ∷ []) rest
+    ∙ ap (λ s. map f old ++ s ∷ rest) same ∙ ap (λ seats. map f old ++ seats) (sym cut) ∙ held
+
+-- and one more is back
+pub seats_more : {A B : Type 0} (f : A → B) (old new : List B) (call : A) (seat : B) (left rest : List A) (all : List B) → new ≡ old ++ seat ∷ [] → seat ≡ f call → left ≡ call ∷ rest → old ++ map f left ≡ all → new ++ map f rest ≡ all
+seats_more {A = A} {B = B} f old new call seat left rest all grew same cut held =
+    ap (λ (seats : List B). seats ++ map f rest) grew ∙ append_assoc old (seat ∷ []) (map f rest) ∙ ap (λ s. old ++ s ∷ map f rest) same ∙ ap (λ (calls : List A). old ++ map f calls) (sym cut) ∙ held

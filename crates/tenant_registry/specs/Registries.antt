@@ -60,14 +60,14 @@ abbrev pub is_taken : RegistryState → List ℕ → Bool
 is_taken r name = has_tenant r name || was_removed r name
 
 -- a tenant of which somebody has a key, and which can't be closed
-abbrev pub IsLent : List (List ℕ × Opening) → CloseFault → Type 0
-IsLent given (fault.Double number) = ⊥
-IsLent given (fault.Opening tenant) = ⊥
-IsLent given (fault.Mismatch tenant audit seats) = ⊥
-IsLent given (fault.Missed tenant) = ⊥
-IsLent given (fault.Differs tenant turn) = ⊥
-IsLent given (fault.Lent tenant) = is_among given tenant.items ≡ true
-IsLent given fault.Memory = ⊥
+abbrev pub HasKeyOut : List (List ℕ × Opening) → CloseFault → Type 0
+HasKeyOut given (fault.Double number) = ⊥
+HasKeyOut given (fault.Opening tenant) = ⊥
+HasKeyOut given (fault.Mismatch tenant audit seats) = ⊥
+HasKeyOut given (fault.Missed tenant) = ⊥
+HasKeyOut given (fault.Differs tenant turn) = ⊥
+HasKeyOut given (fault.Lent tenant) = is_among given tenant.items ≡ true
+HasKeyOut given fault.Memory = ⊥
 
 -- ---- refusals
 

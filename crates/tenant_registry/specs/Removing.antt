@@ -1,11 +1,10 @@
 -- The end of a tenant.
-use Rattle.std.specs.Prelude.{ℕ, ◌+◌, ◌≡◌, not, List, [], ◌∷◌, ◌++◌, Option, Some, None, if◌then◌else◌}
+use Rattle.std.specs.Prelude.{ℕ, ◌+◌, ◌≡◌, List, [], ◌∷◌, ◌++◌, Option}
 use Rattle.std.specs.List.Sorted.{IsPermutation}
 use Rattle.std.specs.Str.{bytes_eq}
 use Rattle.std.specs.Map.{remove_entry}
 use Rattle.tenant_rules.specs.declared.fault.OperatorFault.{OperatorFault}
-use Rattle.tenant_rules.specs.declared.fault.OperatorFault.TheVariants.{Name, NoTenant}
-use Rattle.tenant_rules.specs.Rules.{is_name}
+use Rattle.tenant_rules.specs.Rules.{removal_fault}
 use Rattle.etcd_model.specs.Pool.{StockState}
 use Rattle.tenant_registry.specs.Keeping.{Content, segments_of}
 use Rattle.tenant_registry.specs.Registries.{RegistryState, has_tenant}
@@ -17,10 +16,7 @@ pub record GivesBack (from : StockState) (old : Content) (to : StockState) : Typ
 
 -- the first reason not to remove a tenant
 abbrev pub remove_fault : RegistryState → List ℕ → Option OperatorFault
-remove_fault r name =
-    if not (is_name name) then Some Name
-    else if not (has_tenant r name) then Some NoTenant
-    else None
+remove_fault r name = removal_fault name (has_tenant r name)
 
 -- the tenant is gone, its name stays taken, and the others stand in their order
 abbrev pub without : RegistryState → List ℕ → RegistryState

@@ -1,11 +1,11 @@
 -- Another quota for a tenant, under its lock and the free stock's.
-use Rattle.std.specs.Prelude.{◌≡◌, ℕ, ◌+◌, ◌++◌, not, Bool, List, nat_lt, Option, Some, None, if◌then◌else◌}
+use Rattle.std.specs.Prelude.{◌≡◌, ℕ, ◌+◌, ◌++◌, Bool, List, nat_lt, Option, None, if◌then◌else◌}
 use Rattle.std.specs.List.Sorted.{IsPermutation}
 use Rattle.etcd_model.specs.Pool.{StockState}
 use Rattle.tenant_machine.specs.Reserving.{reservation, roomier}
 use Rattle.tenant_rules.specs.declared.fault.OperatorFault.{OperatorFault}
-use Rattle.tenant_rules.specs.declared.fault.OperatorFault.TheVariants.{Name, Limits, NoTenant, Short, Memory}
-use Rattle.tenant_rules.specs.Rules.{is_name, is_quota}
+use Rattle.tenant_rules.specs.declared.fault.OperatorFault.TheVariants.{Short, Memory}
+use Rattle.tenant_rules.specs.Rules.{quota_fault}
 use Rattle.tenant_machine.specs.Reserving.{resized}
 use Rattle.tenant_audit.specs.Audits.{turn_of, with_change_at}
 use Rattle.tenant_registry.specs.Adding.{unmade}
@@ -55,12 +55,7 @@ pub record ResizedState : Type 0 where
 
 -- the first reason not to give a tenant another quota; whether segments lack, the locks alone tell
 abbrev pub resize_fault : RegistryState → List ℕ → ℕ → Bool → Option OperatorFault
-resize_fault r name quota short =
-    if not (is_name name) then Some Name
-    else if not (is_quota quota) then Some Limits
-    else if not (has_tenant r name) then Some NoTenant
-    else if short then Some Short
-    else None
+resize_fault r name quota short = quota_fault name quota (has_tenant r name) short
 
 -- nothing speaks against it
 abbrev pub CanResize : RegistryState → List ℕ → ℕ → Type 0

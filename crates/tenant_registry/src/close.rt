@@ -2,7 +2,7 @@
 ghost use Rattle.std.specs.Prelude.{◌≡◌, ◌≤◌, ◌⊎◌, [], length, true, IfErr, IfOk, IfSome, vec_capacity};
 ghost use Rattle.tenant_audit.specs.Audits.{IsLawful};
 ghost use Rattle.tenant_audit.specs.Closed.{AreClosed, AreLawful, HasFault, audits_of, given_of};
-ghost use Rattle.tenant_registry.specs.Registries.{IsLent, is_among, tenants_of};
+ghost use Rattle.tenant_registry.specs.Registries.{HasKeyOut, is_among, tenants_of};
 
 use crate::tenant::{Lock, Tenant};
 use indexmap::IndexMap;
@@ -22,7 +22,7 @@ pub(crate) fn close(
     ensures ok { IfOk result
         (λ closed. AreClosed (tenants_of tenants.entries) seats.items (audits_of closed.audits.items)) }
     ensures fault { IfErr result (λ f. HasFault (tenants_of tenants.entries) seats.items f
-        ⊎ IsLent (tenants_of tenants.entries) f) }
+        ⊎ HasKeyOut (tenants_of tenants.entries) f) }
 {
     match sheets_of(tenants, sheets) {
         Ok(sheets) => settle(alloc, sheets, seats),

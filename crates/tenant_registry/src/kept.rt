@@ -1,5 +1,5 @@
 //! What lies under a tenant's lock, how a step is served there, and another quota.
-ghost use Rattle.std.specs.Prelude.{◌≡◌, ◌+◌, ◌++◌, ◌≤◌, false, None, IfErr, IfOk, IfSome, IsOk, OnOk, OnErr};
+ghost use Rattle.std.specs.Prelude.{◌≡◌, ◌+◌, ◌++◌, ◌≤◌, true, false, None, IfErr, IfOk, IfSome, IsOk, OnOk, OnErr};
 ghost use Rattle.std.specs.List.Sorted.{IsPermutation};
 ghost use Rattle.cell_arena.specs.Loan.{segments_for};
 ghost use Rattle.etcd_model.specs.Held.{Holds};
@@ -8,18 +8,20 @@ ghost use Rattle.tenant_machine.specs.Reserving.{reservation};
 ghost use Rattle.tenant_machine.specs.Tenants.{tenant};
 ghost use Rattle.tenant_rules.specs.declared.fault.OperatorFault.TheVariants.{Short};
 ghost use Rattle.tenant_audit.specs.Audits.{IsAllowed, IsLawful, opened_log, opening_of};
-ghost use Rattle.tenant_audit.specs.Receipts.{is_cancel, refusal_of, slip_of, slot_of};
+ghost use Rattle.tenant_audit.specs.Receipts.{slip_of};
+ghost use Rattle.tenant_calls.specs.Answers.{IsRevision};
 ghost use Rattle.tenant_registry.specs.Keeping.{segments_of};
 ghost use Rattle.tenant_registry.specs.Removing.{GivesBack};
 ghost use Rattle.tenant_registry.specs.Resizing.{HoldsSame, Resizes, Stays, lacks_segments, unresized};
 ghost use Rattle.tenant_audit.specs.Seats.{AddsCall, AddsMissed, HasRoomOn, call_at};
 ghost use Rattle.tenant_registry.specs.Serving.{Serves};
 
+use crate::replies::{is_cancel, refusal_of, slot_of, told_revision};
 use crate::usage::Usage;
 use etcd_types::{Mem, Refusal, Reply, Step};
 use gateway_text::write_reply;
 use segment_pool::Stock;
-use std::alloc::Global;
+use std::alloc::{AllocError, Global};
 use std::marker::Model;
 use tenant_audit::{Audit, MadeCall, Opening, Seat};
 use tenant_machine::{Hint, Machine, segments_for};
@@ -171,33 +173,6 @@ impl Receipt {
             canceled: is_cancel(reply),
             refusal: refusal_of(reply),
         })
-    }
-}
-
-/// The slot of the watch that was created.
-fn slot_of(reply: &Reply) -> Option<u8>
-    ensures { result ≡ slot_of reply.now }
-{
-    match reply {
-        Reply::Created { slot, .. } => Some(*slot),
-        _ => None,
-    }
-}
-
-/// The reply ends a watch.
-fn is_cancel(reply: &Reply) -> bool
-    ensures { result ≡ is_cancel reply.now }
-{
-    matches!(reply, Reply::Canceled { .. })
-}
-
-/// Why a call was refused that was replied so.
-fn refusal_of(reply: &Reply) -> Option<Refusal>
-    ensures { result ≡ refusal_of reply.now }
-{
-    match reply {
-        Reply::Refused(refusal) => Some(*refusal),
-        _ => None,
     }
 }
 
@@ -354,6 +329,13 @@ impl Kept {
         self.audit.opening()
     }
 
+    /// It was opened so.
+    pub(crate) fn is_of(&self, opening: Opening) -> bool
+        ensures { result ≡ true → self.now.audit.opening ≡ opening }
+    {
+        self.opening() == opening
+    }
+
     /// Serves one step of the machine. Unless the audit is full, it keeps the step with its reply. All memory
     /// is taken before the commit, and if there is none, nothing changes.
     pub fn serve(&mut self, seat: u8, step: Step) -> Mem<Served>
@@ -369,6 +351,20 @@ impl Kept {
         let reply = self.machine.commit(&mut self.left, planned);
         self.audit.keep(seat, kept, reply);
         Ok(served)
+    }
+
+    /// Its current revision.
+    pub(crate) fn revision(&self) -> Mem<i64>
+        ensures { IfOk result (λ revision. IsRevision self.now.audit.opening.number revision) }
+    {
+        let planned = self.machine.plan(self.alloc, &Step::Status)?;
+        let told = told_revision(planned.reply());
+        drop(planned);
+        match told {
+            Some(revision) => Ok(revision),
+            // A status tells it always.
+            None => Err(AllocError),
+        }
     }
 
     /// Which takes of its watches may not be quiet.

@@ -12,6 +12,7 @@ mod kept;
 mod key;
 mod registry;
 mod removing;
+mod replies;
 mod seated;
 mod tenant;
 mod usage;

@@ -7,19 +7,20 @@ ghost use Rattle.tenant_registry.specs.Adding.{CanAdd, IsUnadded, new_fault, new
 ghost use Rattle.tenant_registry.specs.Adding.{segments_fault, with_segments};
 ghost use Rattle.tenant_audit.specs.Audits.{IsLawful};
 ghost use Rattle.tenant_audit.specs.Closed.{AreClosed, HasFault, audits_of};
-ghost use Rattle.tenant_registry.specs.Registries.{IsLent, has_tenant, is_taken, names_of, no_seat, number_in};
+ghost use Rattle.tenant_registry.specs.Calling.{shown};
+ghost use Rattle.tenant_registry.specs.Registries.{HasKeyOut, has_tenant, is_taken, names_of, no_seat, number_in};
 ghost use Rattle.tenant_registry.specs.Registries.{opening_in, unserved};
 ghost use Rattle.tenant_registry.specs.Removing.{remove_fault, without};
 ghost use Rattle.tenant_registry.specs.Resizing.{CanResize, IsUnresized};
 ghost use Rattle.tenant_audit.specs.Seats.{Keeps, KeepsLists};
-ghost use Rattle.tenant_registry.specs.Serving.{IsReceipt, IsServed, ServesThere};
+ghost use Rattle.tenant_registry.specs.Serving.{IsReceipt, IsReceiptOf, IsServed, ServesThere};
 ghost use Rattle.tenant_calls.specs.Answers.{IsUncalled};
 
 use crate::adding::{TenantConfig, admit, check, left_of};
 use crate::close::close;
 use crate::gate::{Gate, pass};
 use crate::kept::{Kept, Receipt, Resized, Served};
-use crate::key::Key;
+use crate::key::{Key, keys_to};
 use crate::removing::{is_one_of, take_out};
 use crate::tenant::{Lock, Tenant};
 use etcd_types::limits::{MAX_SEATS, MAX_SEGMENTS};
@@ -30,7 +31,7 @@ use std::alloc::Global;
 use std::marker::Model;
 use std::rt::Clock;
 use std::sync::{Mutex, Wait};
-use tenant_audit::{Audit, CloseFault, Closed, Seat, Sheet};
+use tenant_audit::{Audit, CloseFault, Closed, Opening, Seat, Sheet};
 use tenant_rules::{OperatorFault, is_name, is_quota};
 
 /// Why no seat is given.
@@ -276,12 +277,19 @@ impl Registry {
     pub fn key(&self, tenant: Vec<u8>) -> Mem<Option<Key>>
         ensures name { IfOk result (λ told. IfSome told (λ key. key.name ≡ tenant.items)) }
         ensures there { IfOk result
-            (λ told. option_map (λ key. key.number) told ≡ number_in self.now tenant.items) }
+            (λ told. option_map (λ key. key.opening) told ≡ opening_in self.now tenant.items) }
     {
         match self.tenants.get(tenant.as_slice()) {
             Some(held) => Ok(Some(Key::new(tenant, held)?)),
             None => Ok(None),
         }
+    }
+
+    /// A key to each tenant, in the order in which they were added.
+    pub fn keys(&self, alloc: Global) -> Mem<Vec<Key>>
+        ensures { IfOk result (λ keys. shown keys.items ≡ self.now.tenants) }
+    {
+        keys_to(alloc, &self.tenants)
     }
 
     /// A seat with no calls, under a number that no other of this registry has. There are 64.
@@ -311,8 +319,8 @@ impl Registry {
         tenant: &[u8],
         step: Step,
     ) -> Result<Receipt, Refusal>
-        ensures tenant { IfOk result (λ receipt. number_in self.now tenant.now ≡ Some receipt.number) }
-        ensures receipt { IfOk result (λ receipt. IsReceipt seat.old.number step receipt) }
+        ensures receipt { IfOk result
+            (λ receipt. IsReceiptOf self.now tenant.now seat.old.number step receipt) }
         ensures keeps { IfOk result
             (λ receipt. Keeps receipt.turn tenant.now step receipt seat.old seat.new) }
         ensures refused { IfErr result (λ r. r ≡ unserved self.now tenant.now) }
@@ -322,8 +330,7 @@ impl Registry {
         let Some(held) = self.tenants.get(tenant) else {
             return Err(Refusal::NoTenant);
         };
-        let number = held.opening.number;
-        match serve(rt, seat, gate, &held.kept, number, tenant, step) {
+        match serve(rt, seat, gate, &held.kept, held.opening, tenant, step) {
             Ok(receipt) => Ok(receipt),
             // A tenant that is there is under its lock.
             Err(_) => Err(Refusal::Memory),
@@ -335,7 +342,7 @@ impl Registry {
     pub fn close(self, seats: Vec<Seat>) -> Result<Closed, CloseFault>
         ensures ok { IfOk result
             (λ closed. AreClosed self.tenants seats.items (audits_of closed.audits.items)) }
-        ensures fault { IfErr result (λ f. HasFault self.tenants seats.items f ⊎ IsLent self.tenants f) }
+        ensures fault { IfErr result (λ f. HasFault self.tenants seats.items f ⊎ HasKeyOut self.tenants f) }
     {
         let Registry {
             tenants,
@@ -365,18 +372,17 @@ fn supply_free(alloc: Global, supply: &mut Supply, free: &mut Stock, count: u32)
     Ok(())
 }
 
-/// One step of the tenant of that number, which the seat keeps. The seat's memory is taken before the lock.
+/// One step of the tenant that was opened so, which the seat keeps. The seat's memory is taken before the lock.
 pub(crate) fn serve<R: Wait + Clock, G: Gate>(
     rt: &R,
     seat: &mut Seat,
     gate: &G,
     kept: &Lock,
-    number: u64,
+    opening: Opening,
     tenant: &[u8],
     step: Step,
 ) -> Result<Receipt, Refusal>
-    ensures tenant { IfOk result (λ receipt. receipt.number ≡ number) }
-    ensures receipt { IfOk result (λ receipt. IsReceipt seat.old.number step receipt) }
+    ensures receipt { IfOk result (λ receipt. IsReceipt opening seat.old.number step receipt) }
     ensures keeps { IfOk result (λ receipt. Keeps receipt.turn tenant.now step receipt seat.old seat.new) }
     ensures refused { IfErr result (λ r. IsUncalled r) }
     ensures err { OnErr result (KeepsLists seat.old seat.new) }
@@ -385,49 +391,50 @@ pub(crate) fn serve<R: Wait + Clock, G: Gate>(
         return Err(Refusal::Memory);
     }
     let by = seat.number();
-    let served = serve_locked(rt, gate, kept, number, tenant, by, step)?;
+    let served = serve_locked(rt, gate, kept, opening, tenant, by, step)?;
     Ok(served.keep(seat, tenant))
 }
 
-/// Serves a step of the tenant of that number under its lock, once the gate lets it pass.
+/// Serves a step of the tenant that was opened so under its lock, once the gate lets it pass.
 fn serve_locked<R: Wait + Clock, G: Gate>(
     rt: &R,
     gate: &G,
     kept: &Lock,
-    number: u64,
+    opening: Opening,
     tenant: &[u8],
     seat: u8,
     step: Step,
 ) -> Result<Served, Refusal>
-    ensures served { IfOk result (λ served. IsServed number seat step served) }
+    ensures served { IfOk result (λ served. IsServed opening seat step served) }
     ensures refused { IfErr result (λ r. IsUncalled r) }
 {
     let mut kept = kept.lock(rt);
     pass(rt, gate, tenant);
-    serve_there(&mut *kept, number, seat, step)
+    serve_there(&mut *kept, opening, seat, step)
 }
 
-/// Serves a step of the tenant of that number, if it is under the lock.
+/// Serves a step of the tenant that was opened so, if it is under the lock.
 fn serve_there(
     kept: &mut Option<Kept>,
-    number: u64,
+    opening: Opening,
     seat: u8,
     step: Step,
 ) -> Result<Served, Refusal>
     ensures served { IfOk result
-        (λ served. ServesThere kept.old number seat step served kept.new) }
+        (λ served. ServesThere kept.old opening seat step served kept.new) }
     ensures refused { IfErr result (λ r. IsUncalled r) }
     ensures err { OnErr result (kept.new ≡ kept.old) }
 {
     let Some(kept) = kept else {
         return Err(Refusal::NoTenant);
     };
-    if kept.opening().number != number {
-        return Err(Refusal::NoTenant);
-    }
-    match kept.serve(seat, step) {
-        Ok(served) => Ok(served),
-        Err(_) => Err(Refusal::Memory),
+    if kept.is_of(opening) {
+        match kept.serve(seat, step) {
+            Ok(served) => Ok(served),
+            Err(_) => Err(Refusal::Memory),
+        }
+    } else {
+        Err(Refusal::NoTenant)
     }
 }
 
@@ -446,6 +453,7 @@ fn resize<R: Wait>(
 {
     let mut kept = tenant.kept.lock(rt);
     let mut free = free.lock(rt);
+    // A tenant that is there is under its lock.
     let Some(kept) = &mut *kept else {
         return Err(OperatorFault::Memory);
     };

@@ -1,16 +1,14 @@
 //! How the threads of a server call tenants: by keys, each with a seat of its own.
-ghost use Rattle.std.specs.Prelude.{◌≡◌, IfErr, IfOk};
-ghost use Rattle.tenant_calls.specs.Answers.{IsTold, IsUncalled};
+ghost use Rattle.std.specs.Prelude.{◌≡◌, map, IfErr, IfOk};
+ghost use Rattle.tenant_calls.specs.Answers.{IsRevision, IsTold, IsUncalled};
 ghost use Rattle.tenant_calls.specs.Counts.{IsNoMore, IsOneMore};
 ghost use Rattle.tenant_registry.specs.Counting.{calls_counted};
 
 use crate::gate::Gate;
 use crate::kept::Receipt;
 use crate::key::Key;
-use crate::registry::Registry;
-use etcd_types::limits::MAX_TENANTS;
 use etcd_types::{Mem, Refusal, Step};
-use std::alloc::{AllocError, Global};
+use std::alloc::Global;
 use std::rt::Clock;
 use std::sync::Wait;
 use tenant_audit::Seat;
@@ -30,6 +28,28 @@ impl<'x, G> SeatedCalls<'x, G> {
         ensures { result.seat ≡ seat }
     {
         SeatedCalls { seat, gate }
+    }
+
+    /// Calls with each of these seats, in their order.
+    pub fn all(alloc: Global, seats: Vec<Seat>, gate: &'x G) -> Mem<Vec<SeatedCalls<'x, G>>>
+        ensures { IfOk result (λ calls. map (λ own. own.seat) calls.items ≡ seats.items) }
+    {
+        let mut calls = Vec::with_capacity(alloc, seats.len())?;
+        for seat in seats {
+            calls.push(SeatedCalls::new(seat, gate))?;
+        }
+        Ok(calls)
+    }
+
+    /// The seats, in the order of those that called with them.
+    pub fn into_seats(alloc: Global, calls: Vec<SeatedCalls<'x, G>>) -> Mem<Vec<Seat>>
+        ensures { IfOk result (λ seats. seats.items ≡ map (λ own. own.seat) calls.entry.items) }
+    {
+        let mut seats = Vec::with_capacity(alloc, calls.len())?;
+        for own in calls {
+            seats.push(own.into_seat())?;
+        }
+        Ok(seats)
     }
 
     /// The seat, with the calls that were made.
@@ -98,7 +118,7 @@ impl<G: Gate> TenantCalls for SeatedCalls<'_, G> {
 
     #[tactic(auto, using(crate::proofs::SeatedLemmas::told_of, crate::proofs::SeatedLemmas::one_more, crate::proofs::SeatedLemmas::no_more))]
     fn call<R: Wait + Clock>(&mut self, rt: &R, key: &Key, step: Step) -> Result<Receipt, Refusal>
-        ensures given { IfOk result (λ receipt. IsTold key.now.number step receipt) }
+        ensures given { IfOk result (λ receipt. IsTold key.now.opening.number step receipt) }
         ensures refused { IfErr result (λ r. IsUncalled r) }
         ensures made { IfOk result
             (λ _. IsOneMore key.now.name (calls_counted self.old.seat) (calls_counted self.new.seat)) }
@@ -108,11 +128,11 @@ impl<G: Gate> TenantCalls for SeatedCalls<'_, G> {
         Ok(receipt)
     }
 
-    fn revision<R: Wait>(&self, rt: &R, key: &Key) -> Result<i64, Refusal> {
-        match key.usage(rt) {
-            Ok(usage) => Ok(usage.revision),
-            Err(refusal) => Err(refusal),
-        }
+    fn revision<R: Wait>(&self, rt: &R, key: &Key) -> Result<i64, Refusal>
+        ensures is { IfOk result (λ revision. IsRevision key.now.opening.number revision) }
+        ensures refused { IfErr result (λ r. IsUncalled r) }
+    {
+        key.revision(rt)
     }
 
     fn hint<R: Wait>(&self, rt: &R, key: &Key) -> Option<WatchHint> {
@@ -129,21 +149,4 @@ impl<G: Gate> TenantCalls for SeatedCalls<'_, G> {
     }
 
     ghost tells = { λ number step slip given. given };
-}
-
-impl Registry {
-    /// A key to each tenant, in the order in which they were added.
-    pub fn keys(&self, alloc: Global) -> Mem<Vec<Key>> {
-        let mut keys = Vec::new(alloc);
-        for place in 0..MAX_TENANTS {
-            let Some(name) = self.name_at(place) else {
-                break;
-            };
-            let Some(key) = self.key(Vec::from_slice(alloc, name)?)? else {
-                return Err(AllocError);
-            };
-            keys.push(key)?;
-        }
-        Ok(keys)
-    }
 }

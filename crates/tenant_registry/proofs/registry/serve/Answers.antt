@@ -7,5 +7,5 @@ use Rattle.tenant_registry.proofs.registry.serve.Goals as goal
 pub returns-clause-keeps : goal.returns-clause-keeps
 returns-clause-keeps g c =
     subst (λ (r : Slip). Keeps r.turn c.args.tenant.now c.args.step r c.args.seat.now c.keep.new.seat) (sym c.keep.ensures.receipt)
-    (keeps_served c.args.number c.number-by.result c.args.step c.in_ok-served.served c.args.tenant.now c.args.seat.now c.prepare.new.self c.keep.new.seat
+    (keeps_served c.args.opening c.number-by.result c.args.step c.in_ok-served.served c.args.tenant.now c.args.seat.now c.prepare.new.self c.keep.new.seat
     c.in_ok-served.ensures.served c.prepare.ensures.keeps c.keep.ensures.call c.keep.ensures.missed)

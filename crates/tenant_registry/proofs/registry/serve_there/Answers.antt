@@ -1,5 +1,4 @@
-use Rattle.std.proofs.Common.{◌∙◌, sym, ap, refl}
-use Rattle.tenant_audit.specs.declared.audit.Opening.{Opening}
+use Rattle.std.proofs.Common.{refl}
 use Rattle.tenant_registry.proofs.registry.serve_there.Goals as goal
 
 pub returns-in-Ok-clause-served : goal.returns-in-Ok-clause-served
@@ -8,6 +7,6 @@ returns-in-Ok-clause-served c = record {
   after = c.serve.new.self;
   there = c.in-Some.is;
   stays = refl;
-  number_is = sym (ap (λ (o : Opening). o.number) c.opening.ensures) ∙ c.if-opening-number.false;
+  opening_is = c.is_of.ensures c.if-is_of.true;
   serves = c.in-Ok.ensures.ok;
 }

@@ -9,9 +9,9 @@ use std::sync::Wait;
 use std::sync::atomic::{AtomicBool, Ordering};
 use std::thread::{self, Threads};
 use std::time::Duration;
-use tenant_registry::{CloseFault, Closed, Gate, Receipt, Registry, Seat};
+use tenant_registry::{CloseFault, Closed, Entry, Gate, Receipt, Registry, Seat};
 
-/// A caller's seat, with the receipts of its calls on the first tenant.
+/// A caller's seat, with the receipts of its calls.
 #[derive(Drop)]
 struct Work {
     seat: Seat,
@@ -27,9 +27,10 @@ fn make_calls<R: Wait + Clock + Abort>(
 ) -> Work {
     let mut receipts = Vec::new(alloc);
     for _ in 0..50 {
-        let receipt = call(rt, alloc, registry, &mut seat, b"one");
-        receipts.push(receipt).expect(rt, "memory");
-        call(rt, alloc, registry, &mut seat, b"two");
+        for tenant in [b"one", b"two"] {
+            let receipt = call(rt, alloc, registry, &mut seat, tenant);
+            receipts.push(receipt).expect(rt, "memory");
+        }
     }
     Work { seat, receipts }
 }
@@ -65,21 +66,34 @@ fn parted(rt: &impl Abort, alloc: Global, work: Vec<Work>) -> (Vec<Seat>, Vec<Ve
     (seats, all)
 }
 
-/// The first tenant's entries of a seat have the texts of its receipts, in order.
-fn told_in_order(alloc: Global, closed: &Closed, number: usize, receipts: &[Receipt]) -> Mem<bool> {
-    let mut told = receipts.iter();
-    let Some(first) = closed.audits.first() else {
-        return Ok(false);
-    };
-    for entry in &first.1.entries {
-        if usize::from(entry.seat) == number {
-            match told.next() {
-                Some(receipt) if is_text(alloc, &entry.reply, receipt)? => {}
-                _ => return Ok(false),
+/// The entry at a receipt's turn, in its tenant's audit.
+fn entry_of<'a>(closed: &'a Closed, receipt: &Receipt) -> Option<&'a Entry> {
+    let place = receipt.number().checked_sub(1)?;
+    let (_, audit) = closed.audits.get(place as usize)?;
+    audit.entries.get(receipt.turn()? as usize)
+}
+
+/// Each receipt of a seat has its entry at its turn, with its text, and no other entry is the seat's.
+fn told_at_turns(alloc: Global, closed: &Closed, number: usize, receipts: &[Receipt]) -> Mem<bool> {
+    for receipt in receipts {
+        match entry_of(closed, receipt) {
+            Some(entry) if usize::from(entry.seat) == number => {
+                if !is_text(alloc, &entry.reply, receipt)? {
+                    return Ok(false);
+                }
+            }
+            _ => return Ok(false),
+        }
+    }
+    let mut entries = 0usize;
+    for (_, audit) in &closed.audits {
+        for entry in &audit.entries {
+            if usize::from(entry.seat) == number {
+                entries = entries.saturating_add(1);
             }
         }
     }
-    Ok(told.next().is_none())
+    Ok(entries == receipts.len())
 }
 
 /// Each tenant's audit has the calls of four seats, and a new tenant answers them so.
@@ -92,7 +106,7 @@ fn assert_lawful<R: Wait + Clock + Abort>(rt: &R, alloc: Global, closed: &Closed
 
 fn assert_told(rt: &impl Abort, alloc: Global, closed: &Closed, receipts: &[Vec<Receipt>]) {
     for (number, told) in receipts.iter().enumerate() {
-        let so = told_in_order(alloc, closed, number, told.as_slice());
+        let so = told_at_turns(alloc, closed, number, told.as_slice());
         assert!(rt; so.expect(rt, "memory"));
     }
 }

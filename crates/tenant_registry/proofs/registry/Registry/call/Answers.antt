@@ -1,12 +1,15 @@
 use Rattle.std.proofs.Common.{◌∙◌, ap, sym, Bool, cond, Some, true≢false}
 use Rattle.std.specs.Option.{option_copied}
 use Rattle.etcd_types.specs.declared.refusal.Refusal.TheVariants.{Memory, NoTenant}
-use Rattle.tenant_registry.proofs.RegistryLemmas.{number_there, told_there}
+use Rattle.tenant_registry.proofs.RegistryLemmas.{opening_there, told_there}
 use Rattle.tenant_registry.proofs.registry.Registry.call.Goals as goal
 
-pub returns-in-Ok-clause-tenant : goal.returns-in-Ok-clause-tenant
-returns-in-Ok-clause-tenant g c =
-    number_there c.args.tenant.now c.self.inside.tenants.entries c.self.inside.given _ _ _ _ _ c.self.view_is c.in-Some.ensures.value ∙ ap Some (sym c.in-Ok.ensures.tenant)
+pub returns-in-Ok-clause-receipt : goal.returns-in-Ok-clause-receipt
+returns-in-Ok-clause-receipt g c = record {
+  opening = c.in-Some.held.now.opening;
+  there = opening_there c.args.tenant.now c.self.inside.tenants.entries c.self.inside.given _ _ _ _ _ c.self.view_is c.in-Some.ensures.value;
+  is = c.in-Ok.ensures.receipt;
+}
 
 pub returns-in-Ok-clause-nobody : goal.returns-in-Ok-clause-nobody
 returns-in-Ok-clause-nobody g c none =
