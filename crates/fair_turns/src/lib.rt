@@ -35,5 +35,5 @@ pub use counts::TenantCounts;
 pub use durations::{Durations, ENDS};
 pub use scheduler::{BESIDE_WORKERS, Scheduler, TenantTurns, Turn, Turns, Work};
 pub use stopwatch::Stopwatch;
-pub use taken_text::TakenText;
+pub use taken_text::{TakenText, WatchTake};
 pub use watch_texts::{NoRoom, ServedWatch, TextRoom, WatchEnds, WatchTexts};

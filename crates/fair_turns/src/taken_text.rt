@@ -1,7 +1,7 @@
-//! A text that was taken of a tenant's watch.
+//! What a take of a tenant's watch got, and the text that its client is told of it.
 //!
-//! It is made of the receipt of that take alone, and goes to the watch's client as it is.
-ghost use Rattle.std.specs.Prelude.{◌≡◌, IfSome};
+//! A text is made of the receipt of that take alone, and goes to the watch's client as it is.
+ghost use Rattle.std.specs.Prelude.{◌≡◌, [], true, false, IfSome};
 ghost use Rattle.etcd_types.specs.declared.step.Step.TheVariants.{Take};
 ghost use Rattle.tenant_calls.specs.Answers.{IsTold};
 ghost use Rattle.fair_turns.specs.Watching.{IsTaken};
@@ -9,10 +9,50 @@ ghost use Rattle.fair_turns.specs.Watching.{IsTaken};
 use crate::budget::{Budget, MadeText};
 use tenant_calls::CallReceipt;
 
+/// What a take of a watch got. It can't be let go, so nothing that was taken is lost: its text is put in, or the watch ends with
+/// it, or there is nothing to tell.
+pub struct WatchTake<T: CallReceipt> {
+    receipt: T,
+}
+
+impl<T: CallReceipt> WatchTake<T> {
+    /// That of this receipt.
+    pub fn new(receipt: T) -> WatchTake<T>
+        ensures { result.receipt ≡ receipt }
+    {
+        WatchTake { receipt }
+    }
+
+    /// The watch was found cancelled.
+    pub fn is_cancel(&self) -> bool
+        ensures { result ≡ (T.slip_of self.now.receipt).canceled }
+    {
+        self.receipt.canceled()
+    }
+
+    /// There is nothing to tell.
+    pub fn is_quiet(&self) -> bool
+        ensures { result ≡ true → (T.slip_of self.now.receipt).body ≡ [] }
+    {
+        self.receipt.body().is_empty()
+    }
+
+    /// Lets go of what has nothing to tell.
+    pub fn end(self)
+        requires quiet { (T.slip_of self.receipt).body ≡ [] }
+        requires open { (T.slip_of self.receipt).canceled ≡ false }
+    {
+        let WatchTake { receipt } = self;
+        drop(receipt);
+    }
+}
+
 /// A text that was taken of a tenant's watch.
 pub struct TakenText {
     tenant: u64,
     slot: u8,
+    /// How many texts of its watch came before.
+    number: u64,
     text: MadeText,
     ghost is: { ∥ IsTaken tenant slot text.bytes.items ∥₁ },
 }
@@ -22,6 +62,7 @@ impl Drop for TakenText {
         let TakenText {
             tenant: _,
             slot: _,
+            number: _,
             text: _,
         } = self;
     }
@@ -33,16 +74,24 @@ impl TakenText {
     pub(crate) fn new<T: CallReceipt>(
         tenant: u64,
         slot: u8,
-        receipt: T,
+        number: u64,
+        take: WatchTake<T>,
         budget: &Budget,
     ) -> TakenText
-        requires { IsTold tenant (Take slot) (T.slip_of receipt) }
+        requires { IsTold tenant (Take slot) (T.slip_of take.receipt) }
         ensures tenant { result.tenant ≡ tenant }
         ensures slot { result.slot ≡ slot }
-        ensures text { result.text.bytes.items ≡ (T.slip_of receipt).body }
+        ensures number { result.number ≡ number }
+        ensures text { result.text.bytes.items ≡ (T.slip_of take.receipt).body }
     {
+        let WatchTake { receipt } = take;
         let text = budget.charge(None, receipt.into_body());
-        TakenText { tenant, slot, text }
+        TakenText {
+            tenant,
+            slot,
+            number,
+            text,
+        }
     }
 
     /// How many bytes it has.
@@ -50,13 +99,14 @@ impl TakenText {
         self.text.len()
     }
 
-    /// The text, if it is of this slot of that tenant.
-    pub(crate) fn of(self, tenant: u64, slot: u8) -> Option<TakenText>
+    /// The text, if it is the one of this number of the watch in this slot of that tenant.
+    pub(crate) fn of(self, tenant: u64, slot: u8, number: u64) -> Option<TakenText>
         ensures same { IfSome result (λ text. text ≡ self) }
         ensures tenant { IfSome result (λ text. text.tenant ≡ tenant) }
         ensures slot { IfSome result (λ text. text.slot ≡ slot) }
+        ensures number { IfSome result (λ text. text.number ≡ number) }
     {
-        if self.tenant == tenant && self.slot == slot {
+        if self.tenant == tenant && self.slot == slot && self.number == number {
             Some(self)
         } else {
             None
@@ -70,6 +120,7 @@ impl TakenText {
         let TakenText {
             tenant: _,
             slot: _,
+            number: _,
             text,
         } = self;
         text

@@ -3,7 +3,7 @@
 //! The next text is taken from the registry only when the client has read the last one, so a client that is slow
 //! holds one text, and one that stops reading holds up nobody. A second place is for the text that is taken right
 //! before a compaction.
-ghost use Rattle.std.specs.Prelude.{◌≡◌, IfOk, IfSome};
+ghost use Rattle.std.specs.Prelude.{◌≡◌, ◌+◌, false, IfOk, IfSome};
 ghost use Rattle.etcd_types.specs.declared.step.Step.TheVariants.{Take};
 ghost use Rattle.futures.specs.Task.{IsArmed, Keeps};
 ghost use Rattle.futures.specs.Poll.{IfReady, OnPending};
@@ -12,12 +12,12 @@ ghost use Rattle.fair_turns.specs.Watching.{IsTaken};
 
 use crate::budget::Budget;
 use crate::scheduler::TenantTurns;
-use crate::taken_text::TakenText;
+use crate::taken_text::{TakenText, WatchTake};
 use etcd_types::Mem;
 use futures::ready;
 use futures::task::{Context, Poll};
 use std::alloc::{AllocError, Global};
-use std::sync::atomic::{AtomicBool, Ordering};
+use std::sync::atomic::{AtomicBool, AtomicU64, Ordering};
 use std::sync::{Arc, Wait};
 use tenant_calls::CallReceipt;
 use tokio::sync::mpsc;
@@ -61,6 +61,8 @@ impl<R: Wait + Drop> Drop for WatchEnds<R> {
 pub struct ServedWatch {
     tenant: u64,
     slot: u8,
+    /// How many texts were put in.
+    told: AtomicU64,
     texts: mpsc::Sender<TakenText>,
     may_have_more: Arc<AtomicBool>,
 }
@@ -70,6 +72,7 @@ impl Drop for ServedWatch {
         let ServedWatch {
             tenant: _,
             slot: _,
+            told: _,
             texts: _,
             may_have_more: _,
         } = self;
@@ -81,6 +84,8 @@ pub struct WatchTexts<R: Wait + Drop> {
     rt: R,
     tenant: u64,
     slot: u8,
+    /// How many texts were told.
+    told: u64,
     texts: mpsc::Receiver<TakenText>,
     may_have_more: Arc<AtomicBool>,
     turns: Arc<TenantTurns>,
@@ -91,6 +96,7 @@ pub struct WatchTexts<R: Wait + Drop> {
 pub struct TextRoom<'a> {
     tenant: u64,
     slot: u8,
+    number: u64,
     permit: mpsc::Permit<'a, TakenText>,
 }
 
@@ -125,6 +131,7 @@ impl<R: Wait + Drop> WatchEnds<R> {
         let served = ServedWatch {
             tenant,
             slot,
+            told: AtomicU64::new(0),
             texts: sender,
             may_have_more,
         };
@@ -132,6 +139,7 @@ impl<R: Wait + Drop> WatchEnds<R> {
             rt,
             tenant,
             slot,
+            told: 0,
             texts: receiver,
             may_have_more: asked_for_more,
             turns,
@@ -169,10 +177,30 @@ impl ServedWatch {
             Ok(permit) => Ok(TextRoom {
                 tenant: self.tenant,
                 slot: self.slot,
+                number: self.told.load(Ordering::Relaxed),
                 permit,
             }),
             Err(TrySendError::OutOfMemory(())) => Err(NoRoom::Memory),
             Err(_) => Err(NoRoom::Unread),
+        }
+    }
+
+    /// A text was put in.
+    pub fn count_text(&self) {
+        let _ = self.told.fetch_add(1, Ordering::Relaxed);
+    }
+
+    /// Ends the watch with the text of the take that found it cancelled: how many bytes it has. Where there is no room for it,
+    /// its client sees the end alone.
+    pub fn end<T: CallReceipt>(self, take: WatchTake<T>, budget: &Budget) -> usize
+        requires { IsTold self.tenant (Take self.slot) (T.slip_of take.receipt) }
+    {
+        let number = self.told.load(Ordering::Relaxed);
+        let text = TakenText::new(self.tenant, self.slot, number, take, budget);
+        let length = text.len();
+        match self.texts.try_send(text) {
+            Ok(()) => length,
+            Err(_) => 0,
         }
     }
 
@@ -190,17 +218,19 @@ impl ServedWatch {
 }
 
 impl TextRoom<'_> {
-    /// Puts in the text of the receipt that a take of the watch's slot got, with its share of the tenant's budget: how many
-    /// bytes it has.
-    pub fn put<T: CallReceipt>(self, receipt: T, budget: &Budget) -> usize
-        requires { IsTold self.tenant (Take self.slot) (T.slip_of receipt) }
+    /// Puts in the text that a take of the watch's slot got, with its share of the tenant's budget: how many bytes it has. The
+    /// watch is open.
+    pub fn put<T: CallReceipt>(self, take: WatchTake<T>, budget: &Budget) -> usize
+        requires told { IsTold self.tenant (Take self.slot) (T.slip_of take.receipt) }
+        requires open { (T.slip_of take.receipt).canceled ≡ false }
     {
         let TextRoom {
             tenant,
             slot,
+            number,
             permit,
         } = self;
-        let text = TakenText::new(tenant, slot, receipt, budget);
+        let text = TakenText::new(tenant, slot, number, take, budget);
         let length = text.len();
         permit.send(text);
         length
@@ -208,11 +238,13 @@ impl TextRoom<'_> {
 }
 
 impl<R: Wait + Drop> WatchTexts<R> {
-    /// The next text, or the end of the watch.
+    /// The next text, or the end of the watch. Where one is missing, the watch ends: no text is passed over.
     #[tactic(auto, using(crate::proofs::AnswerLemmas::of_the_same_watch))]
     pub fn poll_text(&mut self, cx: &mut Context<'_>) -> Poll<Option<TakenText>>
         ensures taken { IfReady result (λ told. IfSome told (λ taken.
             ∥ IsTaken self.old.tenant self.old.slot taken.text.bytes.items ∥₁)) }
+        ensures next { IfReady result (λ told. IfSome told (λ taken. taken.number ≡ self.old.told)) }
+        ensures counted { IfReady result (λ told. IfSome told (λ _. self.new.told ≡ self.old.told + 1)) }
         ensures tenant { self.new.tenant ≡ self.old.tenant }
         ensures slot { self.new.slot ≡ self.old.slot }
         ensures registered { OnPending result (IsArmed cx.new) }
@@ -225,7 +257,12 @@ impl<R: Wait + Drop> WatchTexts<R> {
         let Some(taken) = taken else {
             return Poll::Ready(None);
         };
-        Poll::Ready(taken.of(self.tenant, self.slot))
+        let number = self.told;
+        let Some(told) = number.checked_add(1) else {
+            return Poll::Ready(None);
+        };
+        self.told = told;
+        Poll::Ready(taken.of(self.tenant, self.slot, number))
     }
 }
 
@@ -235,6 +272,7 @@ impl<R: Wait + Drop> Drop for WatchTexts<R> {
             rt,
             tenant: _,
             slot: _,
+            told: _,
             texts,
             may_have_more: _,
             turns,

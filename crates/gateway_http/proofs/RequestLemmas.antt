@@ -10,8 +10,8 @@ use Rattle.fair_turns.specs.declared.answer.Answer.{Answer}
 use Rattle.fair_turns.specs.Answers.{Answers, Unasked, Refuses}
 use Rattle.tenant_scheduler.specs.declared.request.Route.{Route}
 use Rattle.tenant_scheduler.specs.declared.caller.told.Told.{Told}
-use Rattle.tenant_scheduler.specs.declared.pending.Begun.{Begun}
-use Rattle.tenant_scheduler.specs.declared.pending.Begun.TheVariants.{Pending, Answered}
+use Rattle.tenant_scheduler.specs.declared.begun.Begun.{Begun}
+use Rattle.tenant_scheduler.specs.declared.begun.Begun.TheVariants.{Pending, Answered}
 use Rattle.tenant_scheduler.specs.declared.caller.unserved.PendingCall.{PendingCall}
 use Rattle.tenant_scheduler.specs.Begins.{IsBegun}
 use Rattle.tenant_scheduler.specs.Requests.{IsAnswerOf}

@@ -1,5 +1,5 @@
 -- What the body of a response gives: its text, piece by piece, and behind it, text by text, what is taken of a watch.
-use Rattle.std.specs.Prelude.{◌≡◌, ⊤, ℕ, List, [], ◌∷◌, ◌++◌, length, Option, Some, None, Result, Ok, Err}
+use Rattle.std.specs.Prelude.{◌≡◌, ◌+◌, ⊤, ℕ, List, [], ◌∷◌, ◌++◌, length, Option, Some, None, Result, Ok, Err}
 use Rattle.futures.specs.Runs.{Runs}
 use Rattle.http_body.specs.declared.frame.Frame.{Frame}
 use Rattle.http_body.specs.Frame.{data_frame}
@@ -56,3 +56,14 @@ abbrev pub GivesNext : {R E : Type 0} → ResponseBody R → Option (Result (Lis
 GivesNext old (Some (Ok piece)) new = IsPiece (text_of old.first) (watch_of old.following) piece (text_of new.first)
 GivesNext old (Some (Err e)) new = ⊤
 GivesNext old None new = text_of old.first ≡ None
+
+-- how many texts of its watch a body was told
+abbrev pub told_of : {R : Type 0} → Option (WatchTexts R) → ℕ
+told_of (Some texts) = texts.told
+told_of None = 0
+
+-- behind the text each piece is the next text of the watch, and none is passed over
+abbrev pub Counts : {R E : Type 0} → ResponseBody R → Option (Result (List ℕ) E) → ResponseBody R → Type 0
+Counts old (Some (Ok piece)) new = text_of old.first ≡ None → told_of new.following ≡ told_of old.following + 1
+Counts old (Some (Err e)) new = ⊤
+Counts old None new = ⊤

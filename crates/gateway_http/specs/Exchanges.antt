@@ -9,7 +9,7 @@ use Rattle.http.specs.Request.{head_of, body_of}
 use Rattle.http_uri.specs.Uri.{uri_path}
 use Rattle.fair_turns.specs.declared.answer.Answer.{Answer}
 use Rattle.tenant_scheduler.specs.declared.caller.told.Told.{Told}
-use Rattle.tenant_scheduler.specs.declared.pending.Begun.TheVariants.{Pending, Answered}
+use Rattle.tenant_scheduler.specs.declared.begun.Begun.TheVariants.{Pending, Answered}
 use Rattle.tenant_scheduler.specs.Requests.{IsAnswerOf}
 use Rattle.gateway_http.specs.declared.exchange.Stage.{Stage}
 use Rattle.gateway_http.specs.declared.reading.Reading.{Reading}

@@ -1,5 +1,5 @@
 -- What a request that was read comes to.
-use Rattle.std.specs.Prelude.{◌≡◌, ◌≢◌, ◌<◌, ⊤, ℕ, List, map, Option, Some, None, Result, Ok, Err, codes}
+use Rattle.std.specs.Prelude.{◌≡◌, ◌≢◌, ◌<◌, ◌≤◌, ⊤, ℕ, List, map, Option, Some, None, Result, Ok, Err, codes}
 use Rattle.std.specs.Char.{to_ascii_lowercase}
 use Rattle.http_header.specs.FieldValue.{FieldValue}
 use Rattle.http_header.specs.HeaderMap.{Entries, get}
@@ -10,8 +10,8 @@ use Rattle.etcd_types.specs.declared.refusal.Refusal.TheVariants as refusal
 use Rattle.etcd_model.specs.Calls.{Target, call_of, target_of}
 use Rattle.fair_turns.specs.Answers.{Refuses}
 use Rattle.tenant_scheduler.specs.declared.request.Route.{Route}
-use Rattle.tenant_scheduler.specs.declared.pending.Begun.{Begun}
-use Rattle.tenant_scheduler.specs.declared.pending.Begun.TheVariants.{Pending, Answered}
+use Rattle.tenant_scheduler.specs.declared.begun.Begun.{Begun}
+use Rattle.tenant_scheduler.specs.declared.begun.Begun.TheVariants.{Pending, Answered}
 use Rattle.tenant_scheduler.specs.Begins.{IsBegun}
 use Rattle.gateway_http.specs.declared.reading.Loss.{Loss}
 use Rattle.gateway_http.specs.declared.reading.Loss.TheVariants as loss
@@ -41,18 +41,23 @@ abbrev pub IsCoded : Option FieldValue → Type 0
 IsCoded (Some coding) = map to_ascii_lowercase coding.bytes ≢ codes "chunked"
 IsCoded None = ⊥
 
+-- it has none
+abbrev pub IsPlain : Option FieldValue → Type 0
+IsPlain (Some coding) = map to_ascii_lowercase coding.bytes ≡ codes "chunked"
+IsPlain None = ⊤
+
 -- the most bytes that a body comes to have, of which so many are announced, or none are
 abbrev pub most_of : Option ℕ → ℕ
 most_of (Some announced) = announced
 most_of None = max_body
 
--- why a body is thrown away by its head, which has these headers: it has a coding that is not offered, or too many bytes are
--- announced
+-- why a body is thrown away by its head, which has these headers: it has a coding that is not offered, or else too many bytes
+-- are announced; any other body is kept
 abbrev pub IsLossOf : Entries FieldValue → ℕ → Option Loss → Type 0
 IsLossOf headers most (Some loss.Coded) = IsCoded (get headers (codes "transfer-encoding"))
-IsLossOf headers most (Some loss.TooLarge) = max_body < most
+IsLossOf headers most (Some loss.TooLarge) = IsPlain (get headers (codes "transfer-encoding")) × (max_body < most)
 IsLossOf headers most (Some loss.NoMemory) = ⊥
-IsLossOf headers most None = ⊤
+IsLossOf headers most None = IsPlain (get headers (codes "transfer-encoding")) × (most ≤ max_body)
 
 -- what is told of a body that was thrown away
 abbrev pub loss_told : Loss → Refusal

@@ -1,5 +1,5 @@
 //! A request while its body is read.
-ghost use Rattle.std.specs.Prelude.{◌≡◌, [], true, codes};
+ghost use Rattle.std.specs.Prelude.{◌≡◌, [], true, false, codes};
 ghost use Rattle.futures.specs.Task.{IsArmed, Keeps};
 ghost use Rattle.futures.specs.Poll.{OnPending};
 ghost use Rattle.etcd_types.specs.Limits.{max_body};
@@ -7,7 +7,7 @@ ghost use Rattle.http_body.specs.Frame.{bytes_in};
 ghost use Rattle.http_header.specs.HeaderMap.{get};
 ghost use Rattle.hyper.specs.Incoming.{size_left};
 ghost use Rattle.gateway_http.specs.Readings.{IsKept, IsLost, ReadsOn, ReadsWhole};
-ghost use Rattle.gateway_http.specs.Requests.{IsCoded, IsLossOf, IsTakenUp, loss_told, most_of};
+ghost use Rattle.gateway_http.specs.Requests.{IsCoded, IsLossOf, IsPlain, IsTakenUp, loss_told, most_of};
 
 use crate::stall::Stall;
 use bytes::Bytes;
@@ -314,7 +314,8 @@ pub(crate) fn loss_of(headers: &HeaderMap, bound: usize) -> Option<Loss>
 
 /// A body comes with a length or in chunks; no other coding is offered.
 fn is_coded(headers: &HeaderMap) -> bool
-    ensures { result ≡ true → IsCoded (get headers.now (codes "transfer-encoding")) }
+    ensures coded { result ≡ true → IsCoded (get headers.now (codes "transfer-encoding")) }
+    ensures plain { result ≡ false → IsPlain (get headers.now (codes "transfer-encoding")) }
 {
     match headers.get(header::TRANSFER_ENCODING) {
         Some(coding) => !coding.as_bytes().eq_ignore_ascii_case(b"chunked"),

@@ -5,7 +5,7 @@ ghost use Rattle.futures.specs.Poll.{IfReady, OnPending};
 ghost use Rattle.http_header.specs.HeaderMap.{insert};
 ghost use Rattle.fair_turns.specs.Answers.{bytes_of};
 ghost use Rattle.http_body.specs.SizeHint.{exact};
-ghost use Rattle.gateway_http.specs.Bodies.{GivesNext, bytes_left, length_left, run_of, text_of, watch_of};
+ghost use Rattle.gateway_http.specs.Bodies.{Counts, GivesNext, bytes_left, length_left, run_of, text_of, watch_of};
 ghost use Rattle.gateway_http.specs.Responses.{Sends};
 
 use crate::exchange::Standing;
@@ -101,6 +101,7 @@ impl<R: Wait + Clock + Drop> ResponseBody<R> {
     /// The next piece: of the first text, and behind it the texts of a watch, each once.
     fn poll_piece(&mut self, cx: &mut Context<'_>) -> Poll<Option<Result<Piece, AllocError>>>
         ensures given { IfReady result (λ told. GivesNext self.old told self.new) }
+        ensures counted { IfReady result (λ told. Counts self.old told self.new) }
         ensures text { OnPending result (text_of self.new.first ≡ text_of self.old.first) }
         ensures watch { watch_of self.new.following ≡ watch_of self.old.following }
         ensures registered { OnPending result (IsArmed cx.new) }

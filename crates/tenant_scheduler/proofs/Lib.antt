@@ -1,4 +1,5 @@
 -- Proofs of this crate.
 pub mod MakeLemmas
+pub mod OrderLemmas
 pub mod RequestLemmas
 pub mod WatchLemmas

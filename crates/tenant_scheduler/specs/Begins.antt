@@ -2,8 +2,8 @@
 use Rattle.std.specs.Prelude.{◌≡◌, ℕ, List}
 use Rattle.etcd_types.specs.declared.refusal.Refusal.TheVariants.{Memory}
 use Rattle.fair_turns.specs.Answers.{Refuses}
-use Rattle.tenant_scheduler.specs.declared.pending.Begun.{Begun}
-use Rattle.tenant_scheduler.specs.declared.pending.Begun.TheVariants.{Pending, Answered}
+use Rattle.tenant_scheduler.specs.declared.begun.Begun.{Begun}
+use Rattle.tenant_scheduler.specs.declared.begun.Begun.TheVariants.{Pending, Answered}
 use Rattle.tenant_scheduler.specs.declared.caller.unserved.PendingCall.{PendingCall}
 use Rattle.tenant_scheduler.specs.declared.request.Route.{Route}
 

@@ -1,12 +1,12 @@
 //! A thread's way to the tenants.
 ghost use Rattle.std.specs.Prelude.{◌≡◌, ◌<◌, length, vec_capacity, IfErr, IfOk};
 ghost use Rattle.etcd_types.specs.declared.step.Step.{Step};
-ghost use Rattle.etcd_types.specs.declared.step.Step.TheVariants.{DropWatch, Take};
+ghost use Rattle.etcd_types.specs.declared.step.Step.TheVariants.{CatchUp, Compact, DropWatch, Take, Tick};
 ghost use Rattle.fair_turns.specs.Answers.{Conveys, IsAnswer};
-ghost use Rattle.tenant_calls.specs.Answers.{IsTold, IsUncalled};
+ghost use Rattle.tenant_calls.specs.Answers.{IsRevision, IsTold, IsUncalled};
 ghost use Rattle.tenant_calls.specs.Counts.{IsNoMore};
 ghost use Rattle.tenant_scheduler.specs.Makes.{IsCounted, IsMade};
-ghost use Rattle.tenant_scheduler.specs.OwnSteps.{IsOwnMade, step_of, tenant_of};
+ghost use Rattle.tenant_scheduler.specs.OwnSteps.{IsMoment, IsOrdered, IsOwnMade};
 ghost use Rattle.tenant_scheduler.specs.Requests.{IsStepOf};
 ghost use Rattle.tenant_scheduler.specs.Watches.{IsListed};
 
@@ -18,7 +18,7 @@ use crate::clock::Moment;
 use crate::request::NamedTenant;
 use auto_compaction::DueRevision;
 use etcd_types::{Refusal, Step};
-use fair_turns::{Answer, LONGEST_ROW, MadeText, ServedWatch, Share, WatchEnds};
+use fair_turns::{Answer, LONGEST_ROW, MadeText, ServedWatch, Share, WatchEnds, WatchTake};
 use std::alloc::Global;
 use std::rt::Clock;
 use std::sync::Wait;
@@ -26,40 +26,6 @@ use tenant_calls::{CallReceipt, TenantCalls, TenantKey};
 pub use told::{Told, Unanswered};
 pub use unserved::PendingCall;
 pub(crate) use unserved::{JobAnswer, Unserved};
-
-/// A step that a thread makes by itself, once, and not for a client.
-#[derive(Drop)]
-pub(crate) enum OwnStep {
-    /// The tenant's clock comes to this second.
-    Tick(Moment),
-    /// Watches of the tenant of that number catch up over so many changes, if they are behind.
-    CatchUp { tenant: u64, budget: u32 },
-    /// A standing order drops the tenant's history before this revision.
-    Compact(DueRevision),
-}
-
-impl OwnStep {
-    /// The number of the tenant whose step it is.
-    fn tenant(&self) -> u64
-        ensures { result ≡ tenant_of self.now }
-    {
-        match self {
-            OwnStep::Tick(moment) => moment.tenant(),
-            OwnStep::CatchUp { tenant, budget: _ } => *tenant,
-            OwnStep::Compact(due) => due.tenant(),
-        }
-    }
-
-    fn step(&self) -> Step
-        ensures { result ≡ step_of self.now }
-    {
-        match self {
-            OwnStep::Tick(moment) => Step::Tick(moment.seconds()),
-            OwnStep::CatchUp { tenant: _, budget } => Step::CatchUp(*budget),
-            OwnStep::Compact(due) => Step::Compact(due.revision()),
-        }
-    }
-}
 
 /// What a thread calls tenants by.
 #[derive(Drop)]
@@ -76,14 +42,47 @@ impl<R: Wait + Clock + Drop, C: TenantCalls> Caller<R, C> {
         Caller { rt, calls }
     }
 
-    /// One step of this thread's own, of the tenant that has the key, if it is that tenant's.
-    pub(crate) fn call(&mut self, key: &Option<C::Key>, step: OwnStep) -> Result<(), Refusal>
+    /// The tenant's clock comes to a moment, which its ticks have counted, if the key is to it.
+    pub(crate) fn tick(&mut self, clients: &Clients<C::Key>, moment: Moment) -> Result<(), Refusal>
+        requires { IsMoment clients.now.running moment }
         ensures refused { IfErr result (λ r. IsUncalled r) }
-        ensures made { IfOk result (λ _. IsOwnMade C.Key.number_of C.Key.name_of C.gives key.now (tenant_of step) (step_of step)
+        ensures made { IfOk result (λ _. IsOwnMade C.Key.number_of C.Key.name_of C.gives clients.now.key
+            moment.tenant (Tick moment.seconds) (C.made self.old.calls) (C.made self.new.calls)) }
+        ensures unmade { IfErr result (λ _. IsNoMore (C.made self.old.calls) (C.made self.new.calls)) }
+    {
+        self.own(&clients.key, moment.tenant(), Step::Tick(moment.seconds()))?;
+        Ok(())
+    }
+
+    /// Watches of the tenant of that number catch up over so many changes, if they are behind and the key is to it.
+    pub(crate) fn catch_up(
+        &mut self,
+        key: &Option<C::Key>,
+        number: u64,
+        budget: u32,
+    ) -> Result<(), Refusal>
+        ensures refused { IfErr result (λ r. IsUncalled r) }
+        ensures made { IfOk result (λ _. IsOwnMade C.Key.number_of C.Key.name_of C.gives key.now number (CatchUp budget)
             (C.made self.old.calls) (C.made self.new.calls)) }
         ensures unmade { IfErr result (λ _. IsNoMore (C.made self.old.calls) (C.made self.new.calls)) }
     {
-        self.own(key, step.tenant(), step.step())?;
+        self.own(key, number, Step::CatchUp(budget))?;
+        Ok(())
+    }
+
+    /// A tenant's history goes before a revision that its standing order lets go, if the key is to it.
+    pub(crate) fn compact(
+        &mut self,
+        clients: &Clients<C::Key>,
+        due: DueRevision,
+    ) -> Result<(), Refusal>
+        requires { IsOrdered clients.now.standing clients.now.running due }
+        ensures refused { IfErr result (λ r. IsUncalled r) }
+        ensures made { IfOk result (λ _. IsOwnMade C.Key.number_of C.Key.name_of C.gives clients.now.key
+            due.tenant (Compact due.revision) (C.made self.old.calls) (C.made self.new.calls)) }
+        ensures unmade { IfErr result (λ _. IsNoMore (C.made self.old.calls) (C.made self.new.calls)) }
+    {
+        self.own(&clients.key, due.tenant(), Step::Compact(due.revision()))?;
         Ok(())
     }
 
@@ -110,13 +109,14 @@ impl<R: Wait + Clock + Drop, C: TenantCalls> Caller<R, C> {
         key: &Option<C::Key>,
         number: u64,
         slot: u8,
-    ) -> Result<C::Receipt, Refusal>
-        ensures given { IfOk result (λ receipt. C.gives number (Take slot) (C.Receipt.slip_of receipt)) }
+    ) -> Result<WatchTake<C::Receipt>, Refusal>
+        ensures given { IfOk result (λ take. C.gives number (Take slot) (C.Receipt.slip_of take.receipt)) }
         ensures made { IfOk result (λ _. IsOwnMade C.Key.number_of C.Key.name_of C.gives key.now number (Take slot)
             (C.made self.old.calls) (C.made self.new.calls)) }
         ensures unmade { IfErr result (λ _. IsNoMore (C.made self.old.calls) (C.made self.new.calls)) }
     {
-        self.own(key, number, Step::Take(slot))
+        let receipt = self.own(key, number, Step::Take(slot))?;
+        Ok(WatchTake::new(receipt))
     }
 
     /// One step of this thread's own, of the tenant of that number, if the key is to it.
@@ -267,12 +267,15 @@ impl<R: Wait + Clock + Drop, C: TenantCalls> Caller<R, C> {
         Ok(clients.budget.reserve(weight))
     }
 
-    /// The current revision of the tenant that has the key.
-    pub(crate) fn revision(&self, key: &Option<C::Key>) -> Result<i64, Refusal> {
-        match key {
-            Some(key) => self.calls.revision(&self.rt, key),
-            None => Err(Refusal::NoTenant),
-        }
+    /// The current revision of the tenant of that number, if the key is to it.
+    pub(crate) fn revision(&self, key: &Option<C::Key>, number: u64) -> Result<i64, Refusal>
+        ensures is { IfOk result (λ revision. IsRevision number revision) }
+        ensures refused { IfErr result (λ r. IsUncalled r) }
+    {
+        let Some(key) = key_of(key, number) else {
+            return Err(Refusal::NoTenant);
+        };
+        self.calls.revision(&self.rt, key)
     }
 
     /// Which takes of a tenant's watches may not be quiet.

@@ -1,9 +1,13 @@
 //! The catch-up worker: moves watches on that are behind, and compacts by standing orders.
-use crate::caller::{Caller, OwnStep};
+ghost use Rattle.std.specs.Prelude.{◌≡◌, IfSome};
+ghost use Rattle.tenant_scheduler.specs.OwnSteps.{IsOrdered};
+
+use crate::caller::Caller;
 use crate::clients::Clients;
 use crate::pump::take_all;
 use crate::serving::ServingThread;
 use crate::tenants::ServedTenant;
+use auto_compaction::DueRevision;
 use fair_turns::{Scheduler, Stopwatch, Work};
 use std::rt::Clock;
 use std::sync::Wait;
@@ -42,7 +46,7 @@ pub(crate) fn catch_up<R: Wait + Clock + Copy + Drop, C: TenantCalls>(
     }
 }
 
-/// Compacts a tenant where its standing order says so. As before a client's compaction, watches are taken first.
+/// Compacts a tenant where its standing order says so, and has the pump tell its watches.
 fn keep_order<R: Wait + Clock + Drop, C: TenantCalls>(
     rt: &R,
     caller: &mut Caller<R, C>,
@@ -50,23 +54,48 @@ fn keep_order<R: Wait + Clock + Drop, C: TenantCalls>(
     tenant: &ServedTenant<R, C::Key>,
 ) {
     let mut clients = tenant.clients.lock(rt);
+    if compact_as_ordered(caller, &mut *clients) {
+        clients.schedule_takes(rt, scheduler, tenant.turns());
+    }
+}
+
+/// Compacts a tenant if its standing order says so, and tells whether it did. As before a client's compaction, watches are
+/// taken first.
+#[tactic(auto, using(crate::proofs::OrderLemmas::still_ordered))]
+fn compact_as_ordered<R: Wait + Clock + Drop, C: TenantCalls>(
+    caller: &mut Caller<R, C>,
+    clients: &mut Clients<C::Key>,
+) -> bool
+    ensures order { clients.new.standing.retention ≡ clients.old.standing.retention }
+    ensures tenant { clients.new.standing.tenant ≡ clients.old.standing.tenant }
+{
+    let Some(due) = due_revision(caller, clients) else {
+        return false;
+    };
+    if take_all(caller, clients) && caller.compact(clients, due).is_ok() {
+        return true;
+    }
+    clients.standing.put_off();
+    false
+}
+
+/// The revision at which a tenant is to be compacted now, if it is. Where its revision can't be read, the next tick tries
+/// again.
+fn due_revision<R: Wait + Clock + Drop, C: TenantCalls>(
+    caller: &Caller<R, C>,
+    clients: &mut Clients<C::Key>,
+) -> Option<DueRevision>
+    ensures ordered { IfSome result (λ due. IsOrdered clients.new.standing clients.new.running due) }
+    ensures order { clients.new.standing.retention ≡ clients.old.standing.retention }
+    ensures tenant { clients.new.standing.tenant ≡ clients.old.standing.tenant }
+{
     let moment = clients.running.seconds();
     if !clients.standing.is_due(moment) {
-        return;
+        return None;
     }
-    // Where there is no memory to look at it, the next tick tries again.
-    let Ok(revision) = caller.revision(&clients.key) else {
-        return;
-    };
-    let Some(due) = clients.standing.look(moment, revision) else {
-        return;
-    };
-    let compacts = OwnStep::Compact(due);
-    if take_all(caller, &mut *clients) && caller.call(&clients.key, compacts).is_ok() {
-        clients.schedule_takes(rt, scheduler, tenant.turns());
-    } else {
-        clients.standing.put_off();
-    }
+    let number = clients.standing.tenant();
+    let revision = caller.revision(&clients.key, number).ok()?;
+    clients.standing.look(moment, revision)
 }
 
 /// Steps a tenant's CatchUp, and goes on for a while as long as a watch is far behind.
@@ -78,12 +107,11 @@ fn move_on<R: Wait + Clock + Drop, C: TenantCalls>(
     let clients = tenant.clients.lock(rt);
     let stopwatch = Stopwatch::start(rt);
     for _ in 0..STEPS_A_TURN {
-        let step = OwnStep::CatchUp {
-            tenant: tenant.number(),
-            budget: BUDGET,
-        };
         // What is behind stays right without it.
-        if caller.call(&clients.key, step).is_err() {
+        if caller
+            .catch_up(&clients.key, tenant.number(), BUDGET)
+            .is_err()
+        {
             return;
         }
         if !is_far_behind(caller, &*clients) || stopwatch.is_past(rt, MILLIS_A_TURN) {

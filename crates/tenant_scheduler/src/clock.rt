@@ -1,15 +1,17 @@
 //! The clock: a tick a second to each tenant.
 mod running;
+mod server_clock;
 
-use crate::caller::{Caller, OwnStep};
+use crate::caller::Caller;
 use crate::serving::ServingThread;
 use crate::tenants::ServedTenant;
 use crossbeam_channel::RecvTimeoutError;
 use fair_turns::{Scheduler, Turn, Work};
 pub(crate) use running::{Moment, Running};
+use server_clock::{ServerClock, ServerMoment};
 use std::rt::Clock;
 use std::sync::Wait;
-use std::time::{Duration, Instant};
+use std::time::Duration;
 use tenant_calls::TenantCalls;
 
 /// How many seconds lie between two ticks of a tenant that is not busy.
@@ -27,17 +29,13 @@ pub(crate) fn keep_time<R: Wait + Clock + Copy + Drop, C: TenantCalls>(
         shared,
     } = thread;
     let (rt, place) = (*rt, *place);
-    let Ok(start) = Instant::now(&rt) else {
+    let Some(mut clock) = ServerClock::start(&rt) else {
         return;
     };
-    let mut now = Duration::from_secs(0);
     let mut due = Duration::from_secs(SECONDS_A_TICK);
     for _ in rt.forever() {
-        let turn = shared
-            .turns
-            .clock
-            .recv_timeout(&rt, due.saturating_sub(now));
-        now = start.elapsed(&rt).unwrap_or(due);
+        let turn = shared.turns.clock.recv_timeout(&rt, clock.until(due));
+        let now = clock.read(&rt);
         shared.beats.beat(&rt, place);
         match turn {
             Ok(Turn::On(tenant)) => {
@@ -49,7 +47,7 @@ pub(crate) fn keep_time<R: Wait + Clock + Copy + Drop, C: TenantCalls>(
             Ok(Turn::Over) | Err(RecvTimeoutError::Disconnected) => break,
             Err(RecvTimeoutError::Timeout) => {
                 shared.schedule_all(&rt, Work::Tick);
-                due = next_due(due, now);
+                due = next_due(due, now.since_start());
             }
         }
     }
@@ -72,11 +70,11 @@ fn tick<R: Wait + Clock + Drop, C: TenantCalls>(
     caller: &mut Caller<R, C>,
     scheduler: &Scheduler,
     tenant: &ServedTenant<R, C::Key>,
-    now: Duration,
+    now: ServerMoment,
 ) {
     let mut clients = tenant.clients.lock(rt);
     let moment = clients.running.tick(now);
-    let _ = caller.call(&clients.key, OwnStep::Tick(moment));
+    let _ = caller.tick(&*clients, moment);
     clients.schedule_takes(rt, scheduler, tenant.turns());
     if clients.standing.is_due(clients.running.seconds()) {
         scheduler.schedule(rt, tenant.turns(), Work::CatchUp);

@@ -2,7 +2,7 @@
 //!
 //! How a call goes through:
 //!
-//! 1. `Jobs::tenant` finds the tenant that the call names (`jobs`, `entrances`). `Begun::new` (`pending`) reads the step of a
+//! 1. `Jobs::tenant` finds the tenant that the call names (`jobs`, `entrances`). `Begun::new` (`begun`) reads the step of a
 //!    short body. A brief step becomes an *inline call*, for the event loop whose connection it came by; any other step, and a
 //!    long body as it is, becomes a *job* in its tenant's queue (`job_queue`).
 //! 2. A tenant is served by one thread at a time, which has the *turn* there. Whose turn it is, and what a tenant's clients
@@ -20,6 +20,7 @@
 //! `clients`). Tenants come and go meanwhile (`tenants`).
 #![tactic(auto)]
 
+mod begun;
 mod caller;
 mod catch_up;
 mod clients;
@@ -28,7 +29,6 @@ mod entrances;
 mod inline_calls;
 mod job_queue;
 mod jobs;
-mod pending;
 mod pump;
 mod request;
 mod serving;
@@ -36,10 +36,10 @@ mod shared;
 mod tenants;
 mod worker;
 
+pub use begun::Begun;
 pub use caller::{PendingCall, Told, Unanswered};
 pub use inline_calls::InlineCalls;
 pub use jobs::{Jobs, LoopCalls};
-pub use pending::Begun;
 pub use request::{NamedTenant, RequestBody, Route};
 pub use serving::{Service, ServingThread};
 pub use shared::{Shared, open};

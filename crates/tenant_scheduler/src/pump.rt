@@ -1,17 +1,21 @@
 //! The pump: from a tenant's watches to their clients.
-ghost use Rattle.std.specs.Prelude.{◌≡◌};
+ghost use Rattle.std.specs.Prelude.{◌≡◌, IfOk, IfSome};
+ghost use Rattle.etcd_types.specs.declared.step.Step.TheVariants.{Take};
+ghost use Rattle.tenant_calls.specs.Answers.{IsTold};
 ghost use Rattle.tenant_scheduler.specs.Makes.{IsOnlyOn};
 
 use crate::caller::Caller;
 use crate::clients::Clients;
 use crate::serving::ServingThread;
 use crate::tenants::ServedTenant;
+use etcd_types::Mem;
 use fair_turns::{
-    Budget, NoRoom, Scheduler, ServedWatch, Stopwatch, TenantCounts, TenantTurns, Work,
+    Budget, NoRoom, Scheduler, ServedWatch, Stopwatch, TenantCounts, TenantTurns, WatchTake, Work,
 };
+use std::alloc::AllocError;
 use std::rt::Clock;
 use std::sync::Wait;
-use tenant_calls::{CallReceipt, TakeHint, TenantCalls};
+use tenant_calls::{TakeHint, TenantCalls};
 
 /// After how many milliseconds a turn ends, once the take at hand is served.
 const MILLIS_A_TURN: u64 = 1;
@@ -147,7 +151,9 @@ pub(crate) fn take_all<R: Wait + Clock + Drop, C: TenantCalls>(
     caller: &mut Caller<R, C>,
     clients: &mut Clients<C::Key>,
 ) -> bool
-    ensures { IsOnlyOn C.Key.name_of clients.old.key (C.made caller.old.calls) (C.made caller.new.calls) }
+    ensures others { IsOnlyOn C.Key.name_of clients.old.key (C.made caller.old.calls) (C.made caller.new.calls) }
+    ensures order { clients.new.standing ≡ clients.old.standing }
+    ensures time { clients.new.running ≡ clients.old.running }
 {
     if clients.watches.is_empty() {
         return true;
@@ -163,7 +169,7 @@ pub(crate) fn take_all<R: Wait + Clock + Drop, C: TenantCalls>(
     all_answered
 }
 
-/// Takes for the watch at a place, if it is meant, and goes on to the next one. One that was cancelled leaves its
+/// Takes for the watch at a place, if it is meant, and goes on to the next one. One that was cancelled ends, and leaves its
 /// place to the last. It is `false` where the take found no memory.
 fn take_at<R: Wait + Clock + Drop, C: TenantCalls>(
     caller: &mut Caller<R, C>,
@@ -173,30 +179,38 @@ fn take_at<R: Wait + Clock + Drop, C: TenantCalls>(
     meant: Meant,
 ) -> bool
     ensures key { clients.new.key ≡ clients.old.key }
+    ensures order { clients.new.standing ≡ clients.old.standing }
+    ensures time { clients.new.running ≡ clients.old.running }
     ensures others { IsOnlyOn C.Key.name_of clients.old.key (C.made caller.old.calls) (C.made caller.new.calls) }
 {
     let Some(watch) = clients.watches.get(*at) else {
         return true;
     };
-    let taken = if meant.has(hint, &clients.budget, watch) {
-        take(
-            caller,
-            &clients.key,
-            &clients.budget,
-            &clients.counts,
-            watch,
-        )
-    } else {
-        TakeOutcome::Open
-    };
-    if let TakeOutcome::Ended = taken {
-        if *at < clients.watches.len() {
-            let _ = clients.watches.swap_remove(*at);
-        }
-    } else {
+    if !meant.has(hint, &clients.budget, watch) {
         *at = at.saturating_add(1);
+        return true;
     }
-    !matches!(taken, TakeOutcome::NoMemory)
+    match take(
+        caller,
+        &clients.key,
+        &clients.budget,
+        &clients.counts,
+        watch,
+    ) {
+        Ok(Some(canceled)) => {
+            let watch = clients.watches.swap_remove(*at);
+            clients.counts.add_out(watch.end(canceled, &clients.budget));
+            true
+        }
+        Ok(None) => {
+            *at = at.saturating_add(1);
+            true
+        }
+        Err(_) => {
+            *at = at.saturating_add(1);
+            false
+        }
+    }
 }
 
 /// Which watches are taken for.
@@ -219,16 +233,7 @@ impl Meant {
     }
 }
 
-/// What a take leaves of a watch.
-#[derive(Clone, Copy)]
-enum TakeOutcome {
-    Open,
-    /// It was cancelled, and its client has been told.
-    Ended,
-    NoMemory,
-}
-
-/// Takes once, if there is room for a text.
+/// Takes once, if there is room for a text, and puts it in. A take that found the watch cancelled comes back: the watch ends by it.
 #[tactic(auto, using(crate::proofs::MakeLemmas::only_own, crate::proofs::MakeLemmas::only_none))]
 fn take<R: Wait + Clock + Drop, C: TenantCalls>(
     caller: &mut Caller<R, C>,
@@ -236,27 +241,29 @@ fn take<R: Wait + Clock + Drop, C: TenantCalls>(
     budget: &Budget,
     counts: &TenantCounts,
     watch: &ServedWatch,
-) -> TakeOutcome
-    ensures { IsOnlyOn C.Key.name_of key.now (C.made caller.old.calls) (C.made caller.new.calls) }
+) -> Mem<Option<WatchTake<C::Receipt>>>
+    ensures others { IsOnlyOn C.Key.name_of key.now (C.made caller.old.calls) (C.made caller.new.calls) }
+    ensures canceled { IfOk result (λ told. IfSome told (λ take.
+        IsTold watch.now.tenant (Take watch.now.slot) (C.Receipt.slip_of take.receipt))) }
 {
     let room = match watch.room() {
         Ok(room) => room,
-        Err(NoRoom::Unread) => return TakeOutcome::Open,
-        Err(NoRoom::Memory) => return TakeOutcome::NoMemory,
+        Err(NoRoom::Unread) => return Ok(None),
+        Err(NoRoom::Memory) => return Err(AllocError),
     };
-    let Ok(receipt) = caller.take(key, watch.tenant(), watch.slot()) else {
-        return TakeOutcome::NoMemory;
+    let Ok(take) = caller.take(key, watch.tenant(), watch.slot()) else {
+        return Err(AllocError);
     };
-    if receipt.body().is_empty() {
-        return TakeOutcome::Open;
+    if take.is_cancel() {
+        return Ok(Some(take));
     }
-    let taken = if receipt.canceled() {
-        TakeOutcome::Ended
+    if take.is_quiet() {
+        take.end();
     } else {
-        TakeOutcome::Open
-    };
-    counts.add_out(room.put(receipt, budget));
-    taken
+        counts.add_out(room.put(take, budget));
+        watch.count_text();
+    }
+    Ok(None)
 }
 
 /// Frees the slots of the watches whose clients have gone. Where one finds no memory, it stays for the next

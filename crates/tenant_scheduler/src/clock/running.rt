@@ -1,14 +1,16 @@
 //! A tenant's time, as its ticks count it.
-ghost use Rattle.std.specs.Prelude.{◌≡◌, ◌+◌, ◌/◌, ◌≤◌};
-ghost use Rattle.std.specs.Duration.{as_nanos};
+ghost use Rattle.std.specs.Prelude.{◌≡◌, ◌+◌, min, Some};
+ghost use Rattle.std.specs.Duration.{as_nanos, max_nanos};
+ghost use Rattle.tenant_scheduler.specs.OwnSteps.{IsMoment, counted, second_of};
 
 use super::SECONDS_A_TICK;
+use super::server_clock::ServerMoment;
 use std::time::Duration;
 
 /// How many seconds one tick moves a tenant's moment by, at the most.
 const MAX_SECONDS_A_TICK: u64 = 2;
 
-/// A second of a tenant's time, for one tick. The tenant's clock alone tells one, and there is no other tick.
+/// A second of a tenant's time, for one tick.
 #[derive(Drop)]
 pub(crate) struct Moment {
     tenant: u64,
@@ -39,7 +41,7 @@ pub(crate) struct Running {
     /// The number of the tenant.
     tenant: u64,
     /// When the last tick came, on the server's clock.
-    ticked: Option<Duration>,
+    ticked: Option<ServerMoment>,
     ran: Duration,
 }
 
@@ -55,14 +57,15 @@ impl Running {
         }
     }
 
-    /// The moment of a tick that comes now, in whole seconds.
-    pub(super) fn tick(&mut self, now: Duration) -> Moment
-        ensures whose { result.tenant ≡ self.old.tenant }
-        ensures moment { result.seconds ≡ as_nanos self.new.ran / 1_000_000_000 }
-        ensures bound { as_nanos self.new.ran ≤ as_nanos self.old.ran + 2_000_000_000 }
+    /// The moment of a tick that comes now, in whole seconds. Ticks that come often pass no more time than the server's clock.
+    pub(super) fn tick(&mut self, now: ServerMoment) -> Moment
+        ensures moment { IsMoment self.new result }
+        ensures whose { self.new.tenant ≡ self.old.tenant }
+        ensures ran { as_nanos self.new.ran ≡ min (as_nanos self.old.ran + counted self.old.ticked now) max_nanos }
+        ensures noted { self.new.ticked ≡ Some now }
     {
         let passed = match self.ticked {
-            Some(ticked) => now.saturating_sub(ticked),
+            Some(ticked) => now.since_start().saturating_sub(ticked.since_start()),
             None => Duration::from_secs(SECONDS_A_TICK),
         };
         let most = Duration::from_secs(MAX_SECONDS_A_TICK);
@@ -77,7 +80,7 @@ impl Running {
 
     /// The second of the last tick.
     pub(crate) fn seconds(&self) -> u64
-        ensures { result ≡ as_nanos self.now.ran / 1_000_000_000 }
+        ensures { result ≡ second_of self.now }
     {
         self.ran.as_secs()
     }
