@@ -46,6 +46,14 @@ impl HostFault {
             _ => HostFault::Listen,
         }
     }
+
+    /// What it is that the configuration could not be read to its end.
+    pub(crate) fn of_input(error: &io::Error) -> HostFault {
+        match error.kind() {
+            io::ErrorKind::OutOfMemory => HostFault::Memory,
+            _ => HostFault::Io,
+        }
+    }
 }
 
 impl From<AllocError> for HostFault {

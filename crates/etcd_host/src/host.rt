@@ -160,7 +160,9 @@ fn configured<R: Input>(rt: &R, alloc: Global) -> Result<Config, HostFault> {
     let mut text = Vec::new(alloc);
     // One byte more than the longest shows that it is too long.
     let mut reader = rt.reader().take(MAX_CONFIG as u64 + 1);
-    reader.read_to_end(&mut text)?;
+    if let Err(error) = reader.read_to_end(&mut text) {
+        return Err(HostFault::of_input(&error));
+    }
     Ok(read_config(alloc, text.as_slice())?)
 }
 
