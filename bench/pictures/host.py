@@ -89,7 +89,7 @@ def draw_threads(drawing):
     scheduler = Zone(drawing, "tenant_scheduler")
     scheduler.frame(20, 270, 410, 434, THREADS, "turns, queues and threads")
     scheduler.stop((64, 306, 322, 96), "2", "A brief call takes the turn, if nobody has it", [
-        ("tenant_scheduler", "pending", "Begun::new"), ("gateway_json", "call", "read_step"),
+        ("tenant_scheduler", "begun", "Begun::new"), ("gateway_json", "call", "read_step"),
         ("fair_turns", "scheduler", "Scheduler::try_begin"),
         ("tenant_scheduler", "inline_calls", "InlineCalls::serve")])
     scheduler.stop((64, 458, 322, 52), "2a", "Else it is a job in the tenant's queue", [
@@ -127,7 +127,7 @@ def draw_tenant(drawing):
     zone.frame(470, 48, 470, 548, LOCKED, "tenants, each behind a lock of its own")
     drawing.box(486, 80, 438, 408, PAPER, INK, 8)
     zone.stop((500, 92, 410, 68), "3", "Tenant one: a step at a time, under its lock", [
-        ("tenant_registry", "registry", "Registry::call"), ("tenant_registry", "kept", "Kept::serve")])
+        ("tenant_registry", "key", "Key::call"), ("tenant_registry", "kept", "Kept::serve")])
     zone.stop((500, 180, 240, 96), "4", "The put is planned", [
         ("tenant_machine", "deciding", "Machine::plan"), ("revision_store", "planning", "Store::plan_put")],
         ["alarm, lease, quota; takes the", "memory, and changes nothing"])

@@ -21,7 +21,7 @@ def a_lease_ends_by_the_clock(host):
         watch.expect_line(events_line([put_event("YQ==", 2, 2, "MQ==", 1, 1)], 2))
         watch.expect_line(events_line([delete_event("YQ==", 3)], 3))
         took = time.monotonic() - started
-        want(0.5 < took, f"it ended after {took:.1f} seconds")
+        want(2.9 < took, f"it ended after {took:.1f} seconds")
         client.expect(tenant, "kv/range", KEY, done(3))
         client.expect(tenant, "lease/leases", "{}", done(3))
         client.expect(tenant, "lease/keepalive", '{"ID":"1"}', answer_of(f'{{"result":{{"ID":"1",{header(3)}}}}}\n'))
