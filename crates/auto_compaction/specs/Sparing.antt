@@ -1,8 +1,9 @@
 -- Which revisions a standing order lets go.
-use Rattle.std.specs.Prelude.{◌≡◌, ◌⊎◌, ℕ, ℤ, pos, ◌-◌, ◌<◌, ◌≤◌, ◌+ℤ◌, ◌-ℤ◌, ◌&&◌, Bool, true, false, nat_le, int_le, List, [], ◌∷◌, ◌++◌, length}
+use Rattle.std.specs.Prelude.{◌≡◌, ◌⊎◌, ℕ, ℤ, pos, ◌-◌, ◌/◌, min, max, Option, None, Some, ◌<◌, ◌≤◌, ◌+ℤ◌, ◌-ℤ◌, ◌&&◌, Bool, true, false, nat_le, int_le, List, [], ◌∷◌, ◌++◌, length}
 use Rattle.std.specs.VecDeque.{deque_capacity}
 use Rattle.std.specs.List.{HoldsAt}
 use Rattle.std.specs.Ordering.{int_eq}
+use Rattle.auto_compaction.specs.declared.order.DueRevision.{DueRevision}
 use Rattle.auto_compaction.specs.declared.order.Note.{Note}
 use Rattle.auto_compaction.specs.declared.order.StandingOrder.{StandingOrder}
 use Rattle.auto_compaction.specs.declared.retention.Retention.{Retention}
@@ -46,6 +47,36 @@ IsDue order notes moment current (Seconds s) =
 IsDue order notes moment current (Revisions n) =
     (int_le current (pos n) ≡ false) × IsChange order.last (current -ℤ pos n)
 
+-- how many seconds lie between two looks at what is kept by time: a tenth of its period
+abbrev pub step_seconds : ℕ → ℕ
+step_seconds seconds = max (min seconds max_period / 10) 1
+
+-- how many seconds lie between two looks at what is kept by number
+abbrev pub count_seconds : ℕ
+count_seconds = 300
+
+-- how many seconds lie between two looks
+abbrev pub look_seconds : Retention → ℕ
+look_seconds All = 0
+look_seconds (Seconds s) = step_seconds s
+look_seconds (Revisions n) = count_seconds
+
+-- how many seconds lie between two compactions at the most, where that is not told by the looks
+abbrev pub period_seconds : Retention → ℕ
+period_seconds All = 0
+period_seconds (Seconds s) = min s max_period
+period_seconds (Revisions n) = 0
+
+-- the last revision that was let go, if one was; else it is the one before
+abbrev pub IsLast : ℤ → Option ℤ → ℤ → Type 0
+IsLast before None last = last ≡ before
+IsLast before (Some at) last = last ≡ at
+
+-- the same of a due revision
+abbrev pub IsLastDue : ℤ → Option DueRevision → ℤ → Type 0
+IsLastDue before None last = last ≡ before
+IsLastDue before (Some due) last = last ≡ due.revision
+
 -- notes of 30 days, one each six minutes, and one that is older
 abbrev pub max_notes : ℕ
 max_notes = 7201
@@ -54,6 +85,9 @@ max_notes = 7201
 pub record IsNew (tenant : ℕ) (retention : Retention) (order : StandingOrder) : Type 0 where
   pub whose : order.tenant ≡ tenant
   pub told : order.retention ≡ retention
+  pub looks : order.next ≡ 0
+  pub compacts : order.compacts ≡ 0
+  pub last : order.last ≡ pos 0
   pub notes : order.notes.items ≡ []
   pub room : deque_capacity order.notes ≤ max_notes
 

@@ -7,11 +7,11 @@
 //!
 //! The worked example for 100 seconds, with a put each ten seconds from revision 2 on: revisions 1, 2, 3, .. are noted at the
 //! seconds 10, 20, 30, ..; at 110 the one of second 10 is 100 seconds old, and the tenant is compacted there; again at 210.
-ghost use Rattle.std.specs.Prelude.{◌≡◌, ◌<◌, ◌≤◌, ◌+◌, ◌+ℤ◌, ℤ, pos, length, max, Some, IfSome, IfOk, IsSome};
+ghost use Rattle.std.specs.Prelude.{◌≡◌, ◌<◌, ◌≤◌, ◌+◌, ◌+ℤ◌, ℤ, pos, length, max, min, Some, IfSome, IfOk, IsSome};
 ghost use Rattle.std.specs.List.{HoldsAt};
 ghost use Rattle.auto_compaction.specs.declared.retention.Retention.TheVariants.{Seconds, Revisions};
-ghost use Rattle.auto_compaction.specs.Sparing.{is_old, is_due, max_notes, max_period, IsChange, IsDue, IsNew, IsNoted};
-ghost use Rattle.auto_compaction.specs.Sparing.{IsNotedAs, MayGo};
+ghost use Rattle.auto_compaction.specs.Sparing.{is_old, is_due, count_seconds, look_seconds, max_notes, max_period, period_seconds};
+ghost use Rattle.auto_compaction.specs.Sparing.{step_seconds, IsChange, IsDue, IsLast, IsNew, IsNoted, IsNotedAs, IsLastDue, MayGo};
 
 use crate::retention::{MAX_RETENTION, Retention};
 use etcd_types::Mem;
@@ -134,8 +134,9 @@ impl StandingOrder {
         ensures due { IsDue self.old self.new.notes.items moment revision self.old.retention → IsSome result }
         ensures whose { IfSome result (λ due. due.tenant ≡ self.old.tenant) }
         ensures notes { IsNoted self.old.notes.items (record { moment = moment; revision = revision }) self.new.notes.items }
-        ensures next { self.new.next ≤ max self.old.next (moment + max_period) }
-        ensures again { self.new.compacts ≤ max self.old.compacts (moment + max_period) }
+        ensures next { self.new.next ≤ max self.old.next (moment + look_seconds self.old.retention) }
+        ensures again { self.new.compacts ≤ max self.old.compacts (moment + period_seconds self.old.retention) }
+        ensures last { IsLastDue self.old.last result self.new.last }
         ensures stays { self.new.retention ≡ self.old.retention }
         ensures tenant { self.new.tenant ≡ self.old.tenant }
     {
@@ -157,8 +158,9 @@ impl StandingOrder {
         ensures oldest { IfSome result (λ at. HoldsAt (IsNotedAs seconds moment at) self.new.notes.items 0) }
         ensures due { IsDue self.old self.new.notes.items moment revision (Seconds seconds) → IsSome result }
         ensures notes { IsNoted self.old.notes.items (record { moment = moment; revision = revision }) self.new.notes.items }
-        ensures next { self.new.next ≤ moment + max_period }
-        ensures again { self.new.compacts ≤ max self.old.compacts (moment + max_period) }
+        ensures next { self.new.next ≤ moment + step_seconds seconds }
+        ensures again { self.new.compacts ≤ max self.old.compacts (moment + min seconds max_period) }
+        ensures last { IsLast self.old.last result self.new.last }
         ensures order { self.new.retention ≡ self.old.retention }
         ensures whose { self.new.tenant ≡ self.old.tenant }
     {
@@ -190,8 +192,9 @@ impl StandingOrder {
         ensures counted { IfSome result (λ at. at +ℤ pos count ≡ revision) }
         ensures due { IsDue self.old self.new.notes.items moment revision (Revisions count) → IsSome result }
         ensures notes { self.new.notes ≡ self.old.notes }
-        ensures next { self.new.next ≤ moment + max_period }
+        ensures next { self.new.next ≤ moment + count_seconds }
         ensures again { self.new.compacts ≡ self.old.compacts }
+        ensures last { IsLast self.old.last result self.new.last }
         ensures order { self.new.retention ≡ self.old.retention }
         ensures whose { self.new.tenant ≡ self.old.tenant }
     {
@@ -207,6 +210,7 @@ impl StandingOrder {
     fn changed(&mut self, revision: i64) -> Option<i64>
         ensures told { IfSome result (λ at. at ≡ revision) }
         ensures due { IsChange self.old.last revision → IsSome result }
+        ensures last { IsLast self.old.last result self.new.last }
         ensures next { self.new.next ≡ self.old.next }
         ensures again { self.new.compacts ≡ self.old.compacts }
         ensures order { self.new.retention ≡ self.old.retention }
@@ -222,6 +226,8 @@ impl StandingOrder {
 
     /// The compaction that was due could not be made: it is due again the next time.
     pub fn put_off(&mut self)
+        ensures again { self.new.compacts ≡ 0 }
+        ensures last { self.new.last ≡ pos 0 }
         ensures stays { self.new.retention ≡ self.old.retention }
         ensures tenant { self.new.tenant ≡ self.old.tenant }
         ensures notes { self.new.notes ≡ self.old.notes }
@@ -248,8 +254,7 @@ fn keep(notes: &mut VecDeque<Note>, note: Note, seconds: u64)
 
 /// How many seconds lie between two looks at the revision.
 fn step_of(seconds: u64) -> u64
-    ensures some { 0 < result }
-    ensures most { result ≤ max_period }
+    ensures { result ≡ step_seconds seconds }
 {
     (seconds.min(MAX_PERIOD) / NOTES_A_PERIOD).max(1)
 }
