@@ -1,13 +1,34 @@
 //! What a take of a tenant's watch got, and the text that its client is told of it.
 //!
 //! A text is made of the receipt of that take alone, and goes to the watch's client as it is.
-ghost use Rattle.std.specs.Prelude.{◌≡◌, [], true, false, IfSome};
+ghost use Rattle.std.specs.Prelude.{◌≡◌, ◌==◌, length, true, false, IfSome};
 ghost use Rattle.etcd_types.specs.declared.step.Step.TheVariants.{Take};
 ghost use Rattle.tenant_calls.specs.Answers.{IsTold};
 ghost use Rattle.fair_turns.specs.Watching.{IsTaken};
 
 use crate::budget::{Budget, MadeText};
+use std::sync::atomic::{AtomicU64, Ordering};
 use tenant_calls::CallReceipt;
+
+/// How many texts of a watch were made. Each uses up a number, so where one is lost, its client sees that one is missing.
+#[derive(Drop)]
+pub(crate) struct TextCount {
+    made: AtomicU64,
+}
+
+impl TextCount {
+    /// None was made.
+    pub(crate) fn new() -> TextCount {
+        TextCount {
+            made: AtomicU64::new(0),
+        }
+    }
+
+    /// The number of the next one.
+    fn next(&self) -> u64 {
+        self.made.fetch_add(1, Ordering::Relaxed)
+    }
+}
 
 /// What a take of a watch got. It can't be let go, so nothing that was taken is lost: its text is put in, or the watch ends with
 /// it, or there is nothing to tell.
@@ -32,14 +53,14 @@ impl<T: CallReceipt> WatchTake<T> {
 
     /// There is nothing to tell.
     pub fn is_quiet(&self) -> bool
-        ensures { result ≡ true → (T.slip_of self.now.receipt).body ≡ [] }
+        ensures { result ≡ (length (T.slip_of self.now.receipt).body == 0) }
     {
         self.receipt.body().is_empty()
     }
 
     /// Lets go of what has nothing to tell.
     pub fn end(self)
-        requires quiet { (T.slip_of self.receipt).body ≡ [] }
+        requires quiet { (length (T.slip_of self.receipt).body == 0) ≡ true }
         requires open { (T.slip_of self.receipt).canceled ≡ false }
     {
         let WatchTake { receipt } = self;
@@ -69,19 +90,18 @@ impl Drop for TakenText {
 }
 
 impl TakenText {
-    /// The text of the receipt that a take of a slot got, with its share of the tenant's budget.
+    /// The text of the receipt that a take of a slot got, with its share of the tenant's budget. It is the watch's next one.
     #[tactic(auto, using(crate::proofs::AnswerLemmas::taken))]
     pub(crate) fn new<T: CallReceipt>(
         tenant: u64,
         slot: u8,
-        number: u64,
+        count: &TextCount,
         take: WatchTake<T>,
         budget: &Budget,
     ) -> TakenText
         requires { IsTold tenant (Take slot) (T.slip_of take.receipt) }
         ensures tenant { result.tenant ≡ tenant }
         ensures slot { result.slot ≡ slot }
-        ensures number { result.number ≡ number }
         ensures text { result.text.bytes.items ≡ (T.slip_of take.receipt).body }
     {
         let WatchTake { receipt } = take;
@@ -89,7 +109,7 @@ impl TakenText {
         TakenText {
             tenant,
             slot,
-            number,
+            number: count.next(),
             text,
         }
     }

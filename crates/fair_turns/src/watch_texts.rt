@@ -3,7 +3,7 @@
 //! The next text is taken from the registry only when the client has read the last one, so a client that is slow
 //! holds one text, and one that stops reading holds up nobody. A second place is for the text that is taken right
 //! before a compaction.
-ghost use Rattle.std.specs.Prelude.{◌≡◌, ◌+◌, false, IfOk, IfSome};
+ghost use Rattle.std.specs.Prelude.{◌≡◌, ◌+◌, false, true, IfOk, IfSome};
 ghost use Rattle.etcd_types.specs.declared.step.Step.TheVariants.{Take};
 ghost use Rattle.futures.specs.Task.{IsArmed, Keeps};
 ghost use Rattle.futures.specs.Poll.{IfReady, OnPending};
@@ -12,12 +12,12 @@ ghost use Rattle.fair_turns.specs.Watching.{IsTaken};
 
 use crate::budget::Budget;
 use crate::scheduler::TenantTurns;
-use crate::taken_text::{TakenText, WatchTake};
+use crate::taken_text::{TakenText, TextCount, WatchTake};
 use etcd_types::Mem;
 use futures::ready;
 use futures::task::{Context, Poll};
 use std::alloc::{AllocError, Global};
-use std::sync::atomic::{AtomicBool, AtomicU64, Ordering};
+use std::sync::atomic::{AtomicBool, Ordering};
 use std::sync::{Arc, Wait};
 use tenant_calls::CallReceipt;
 use tokio::sync::mpsc;
@@ -61,8 +61,7 @@ impl<R: Wait + Drop> Drop for WatchEnds<R> {
 pub struct ServedWatch {
     tenant: u64,
     slot: u8,
-    /// How many texts were put in.
-    told: AtomicU64,
+    count: TextCount,
     texts: mpsc::Sender<TakenText>,
     may_have_more: Arc<AtomicBool>,
 }
@@ -72,7 +71,7 @@ impl Drop for ServedWatch {
         let ServedWatch {
             tenant: _,
             slot: _,
-            told: _,
+            count: _,
             texts: _,
             may_have_more: _,
         } = self;
@@ -96,7 +95,7 @@ pub struct WatchTexts<R: Wait + Drop> {
 pub struct TextRoom<'a> {
     tenant: u64,
     slot: u8,
-    number: u64,
+    count: &'a TextCount,
     permit: mpsc::Permit<'a, TakenText>,
 }
 
@@ -131,7 +130,7 @@ impl<R: Wait + Drop> WatchEnds<R> {
         let served = ServedWatch {
             tenant,
             slot,
-            told: AtomicU64::new(0),
+            count: TextCount::new(),
             texts: sender,
             may_have_more,
         };
@@ -177,7 +176,7 @@ impl ServedWatch {
             Ok(permit) => Ok(TextRoom {
                 tenant: self.tenant,
                 slot: self.slot,
-                number: self.told.load(Ordering::Relaxed),
+                count: &self.count,
                 permit,
             }),
             Err(TrySendError::OutOfMemory(())) => Err(NoRoom::Memory),
@@ -185,18 +184,13 @@ impl ServedWatch {
         }
     }
 
-    /// A text was put in.
-    pub fn count_text(&self) {
-        let _ = self.told.fetch_add(1, Ordering::Relaxed);
-    }
-
     /// Ends the watch with the text of the take that found it cancelled: how many bytes it has. Where there is no room for it,
     /// its client sees the end alone.
     pub fn end<T: CallReceipt>(self, take: WatchTake<T>, budget: &Budget) -> usize
-        requires { IsTold self.tenant (Take self.slot) (T.slip_of take.receipt) }
+        requires told { IsTold self.tenant (Take self.slot) (T.slip_of take.receipt) }
+        requires canceled { (T.slip_of take.receipt).canceled ≡ true }
     {
-        let number = self.told.load(Ordering::Relaxed);
-        let text = TakenText::new(self.tenant, self.slot, number, take, budget);
+        let text = TakenText::new(self.tenant, self.slot, &self.count, take, budget);
         let length = text.len();
         match self.texts.try_send(text) {
             Ok(()) => length,
@@ -227,10 +221,10 @@ impl TextRoom<'_> {
         let TextRoom {
             tenant,
             slot,
-            number,
+            count,
             permit,
         } = self;
-        let text = TakenText::new(tenant, slot, number, take, budget);
+        let text = TakenText::new(tenant, slot, count, take, budget);
         let length = text.len();
         permit.send(text);
         length
@@ -245,6 +239,7 @@ impl<R: Wait + Drop> WatchTexts<R> {
             ∥ IsTaken self.old.tenant self.old.slot taken.text.bytes.items ∥₁)) }
         ensures next { IfReady result (λ told. IfSome told (λ taken. taken.number ≡ self.old.told)) }
         ensures counted { IfReady result (λ told. IfSome told (λ _. self.new.told ≡ self.old.told + 1)) }
+        ensures waits { OnPending result (self.new.told ≡ self.old.told) }
         ensures tenant { self.new.tenant ≡ self.old.tenant }
         ensures slot { self.new.slot ≡ self.old.slot }
         ensures registered { OnPending result (IsArmed cx.new) }

@@ -1,5 +1,5 @@
 //! What serves a tenant, as the threads of a server see it.
-ghost use Rattle.std.specs.Prelude.{◌≡◌, ℕ, List, IfErr, IfOk};
+ghost use Rattle.std.specs.Prelude.{◌≡◌, ℕ, ℤ, List, IfErr, IfOk};
 ghost use Rattle.etcd_types.specs.declared.step.Step.{Step};
 ghost use Rattle.tenant_audit.specs.Receipts.{Slip};
 ghost use Rattle.tenant_calls.specs.Answers.{IsRevision, IsTold, IsUncalled};
@@ -52,6 +52,9 @@ pub trait TenantCalls: Drop {
     // have it of nothing but what a receipt tells.
     ghost gives: { ℕ → Step → Slip → Type 0 };
 
+    // The tenant of a number has told this as its current revision. What serves clients has it of nothing but what `revision` tells.
+    ghost reads: { ℕ → ℤ → Type 0 };
+
     /// One step of the tenant that has the key: one call is made on it, and its receipt tells the written machine's reply.
     /// It is refused if the tenant was removed, and else only for want of memory; then no call was made.
     fn call<R: Wait + Clock>(
@@ -67,7 +70,7 @@ pub trait TenantCalls: Drop {
 
     /// The tenant's current revision. It is refused as `call` is.
     fn revision<R: Wait>(&self, rt: &R, key: &Self::Key) -> Result<i64, Refusal>
-        ensures is { IfOk result (λ revision. IsRevision (Self.Key.number_of key.now) revision) }
+        ensures read { IfOk result (λ revision. reads (Self.Key.number_of key.now) revision) }
         ensures refused { IfErr result (λ r. IsUncalled r) };
 
     /// Which takes of its watches may not be quiet; none if it was removed.
@@ -86,4 +89,7 @@ pub trait TenantCalls: Drop {
 
     // A receipt that a tenant has given tells the written machine's reply.
     ghost tells: { (number : ℕ) → (step : Step) → (slip : Slip) → gives number step slip → IsTold number step slip };
+
+    // A revision that a tenant has told was the written machine's current one.
+    ghost was: { (number : ℕ) → (revision : ℤ) → reads number revision → IsRevision number revision };
 }

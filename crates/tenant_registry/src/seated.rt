@@ -116,6 +116,8 @@ impl<G: Gate> TenantCalls for SeatedCalls<'_, G> {
 
     ghost gives = { IsTold };
 
+    ghost reads = { IsRevision };
+
     #[tactic(auto, using(crate::proofs::SeatedLemmas::told_of, crate::proofs::SeatedLemmas::one_more, crate::proofs::SeatedLemmas::no_more))]
     fn call<R: Wait + Clock>(&mut self, rt: &R, key: &Key, step: Step) -> Result<Receipt, Refusal>
         ensures given { IfOk result (λ receipt. IsTold key.now.opening.number step receipt) }
@@ -129,7 +131,7 @@ impl<G: Gate> TenantCalls for SeatedCalls<'_, G> {
     }
 
     fn revision<R: Wait>(&self, rt: &R, key: &Key) -> Result<i64, Refusal>
-        ensures is { IfOk result (λ revision. IsRevision key.now.opening.number revision) }
+        ensures read { IfOk result (λ revision. IsRevision key.now.opening.number revision) }
         ensures refused { IfErr result (λ r. IsUncalled r) }
     {
         key.revision(rt)
@@ -149,4 +151,6 @@ impl<G: Gate> TenantCalls for SeatedCalls<'_, G> {
     }
 
     ghost tells = { λ number step slip given. given };
+
+    ghost was = { λ number revision read. read };
 }

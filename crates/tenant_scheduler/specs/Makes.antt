@@ -13,7 +13,9 @@ use Rattle.tenant_calls.specs.Answers.{IsUncalled}
 use Rattle.tenant_calls.specs.Counts.{Counts, IsNoMore, IsOneMore}
 use Rattle.tenant_scheduler.specs.declared.request.NamedTenant.{NamedTenant}
 use Rattle.tenant_scheduler.specs.declared.request.Request.{Request}
+use Rattle.fair_turns.specs.declared.watch_texts.ServedWatch.{ServedWatch}
 use Rattle.tenant_scheduler.specs.Requests.{IsStepOf, IsUnread}
+use Rattle.tenant_scheduler.specs.Watches.{IsListed}
 
 -- one call more was made, by a key to the tenant of that number and that name
 pub record IsCounted {K : Type 0} (number_of : K → ℕ) (name_of : K → List ℕ) (tenant : NamedTenant) (old new : Counts) : Type 0 where
@@ -28,6 +30,14 @@ pub data IsMade {R K : Type 0} (number_of : K → ℕ) (name_of : K → List ℕ
       → Conveys answer slip → IsMade number_of name_of gives tenant step answer old new
   Unmade : (r : Refusal) → IsNoMore old new → IsUncalled r → Refuses r answer
       → IsMade number_of name_of gives tenant step answer old new
+
+-- So is the create of a watch: what it was told stands with the tenant's watches. Where no call was made, those stay.
+pub data IsOpened {R K : Type 0} (number_of : K → ℕ) (name_of : K → List ℕ) (gives : ℕ → Step → Slip → Type 0) (tenant : NamedTenant) (step : Step) (answer : Answer R) (before after : List ServedWatch) (old new : Counts) : Type 0 where
+  Opened : (slip : Slip) → IsCounted number_of name_of tenant old new → gives tenant.number step slip
+      → Conveys answer slip → IsListed tenant.number slip.slot before after
+      → IsOpened number_of name_of gives tenant step answer before after old new
+  Unopened : (r : Refusal) → IsNoMore old new → IsUncalled r → Refuses r answer → after ≡ before
+      → IsOpened number_of name_of gives tenant step answer before after old new
 
 -- calls may have been made by the key, and by no other
 abbrev pub IsOnlyOn : {K : Type 0} → (K → List ℕ) → Option K → Counts → Counts → Type 0

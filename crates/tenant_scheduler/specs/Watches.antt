@@ -1,6 +1,13 @@
 -- Which watches of a tenant have a client.
-use Rattle.std.specs.Prelude.{◌≡◌, ℕ, List, [], ◌∷◌, ◌++◌, Option, Some, None}
+use Rattle.std.specs.Prelude.{◌≡◌, ℕ, Bool, true, false, List, [], ◌∷◌, ◌++◌, Option, Some, None}
+use Rattle.etcd_types.specs.declared.step.Step.{Step}
+use Rattle.etcd_types.specs.declared.step.Step.TheVariants.{Watch}
 use Rattle.fair_turns.specs.declared.watch_texts.ServedWatch.{ServedWatch}
+
+-- the step creates a watch
+abbrev pub opens : Step → Bool
+opens (Watch request) = true
+opens step = false
 
 -- it comes behind the others
 pub record Comes (tenant slot : ℕ) (old new : List ServedWatch) : Type 0 where

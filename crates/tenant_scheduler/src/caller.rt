@@ -1,14 +1,14 @@
 //! A thread's way to the tenants.
-ghost use Rattle.std.specs.Prelude.{◌≡◌, ◌<◌, length, vec_capacity, IfErr, IfOk};
+ghost use Rattle.std.specs.Prelude.{◌≡◌, ◌<◌, false, length, vec_capacity, IfErr, IfOk};
 ghost use Rattle.etcd_types.specs.declared.step.Step.{Step};
 ghost use Rattle.etcd_types.specs.declared.step.Step.TheVariants.{CatchUp, Compact, DropWatch, Take, Tick};
 ghost use Rattle.fair_turns.specs.Answers.{Conveys, IsAnswer};
-ghost use Rattle.tenant_calls.specs.Answers.{IsRevision, IsTold, IsUncalled};
+ghost use Rattle.tenant_calls.specs.Answers.{IsTold, IsUncalled};
 ghost use Rattle.tenant_calls.specs.Counts.{IsNoMore};
-ghost use Rattle.tenant_scheduler.specs.Makes.{IsCounted, IsMade};
+ghost use Rattle.tenant_scheduler.specs.Makes.{IsCounted, IsMade, IsOpened};
 ghost use Rattle.tenant_scheduler.specs.OwnSteps.{IsMoment, IsOrdered, IsOwnMade};
 ghost use Rattle.tenant_scheduler.specs.Requests.{IsStepOf};
-ghost use Rattle.tenant_scheduler.specs.Watches.{IsListed};
+ghost use Rattle.tenant_scheduler.specs.Watches.{IsListed, opens};
 
 mod told;
 mod unserved;
@@ -76,7 +76,7 @@ impl<R: Wait + Clock + Drop, C: TenantCalls> Caller<R, C> {
         clients: &Clients<C::Key>,
         due: DueRevision,
     ) -> Result<(), Refusal>
-        requires { IsOrdered clients.now.standing clients.now.running due }
+        requires { IsOrdered C.reads clients.now.standing clients.now.running due }
         ensures refused { IfErr result (λ r. IsUncalled r) }
         ensures made { IfOk result (λ _. IsOwnMade C.Key.number_of C.Key.name_of C.gives clients.now.key
             due.tenant (Compact due.revision) (C.made self.old.calls) (C.made self.new.calls)) }
@@ -142,7 +142,8 @@ impl<R: Wait + Clock + Drop, C: TenantCalls> Caller<R, C> {
         unserved: Unserved<R>,
         step: Step,
     ) -> JobAnswer<R>
-        requires { IsStepOf unserved.request.value step }
+        requires step { IsStepOf unserved.request.value step }
+        requires opens { opens step ≡ false }
         ensures request { result.own.request ≡ unserved.request }
         ensures made { IsMade C.Key.number_of C.Key.name_of C.gives unserved.request.value.route.tenant.value step
             result.own.answer (C.made self.old.calls) (C.made self.new.calls) }
@@ -163,8 +164,8 @@ impl<R: Wait + Clock + Drop, C: TenantCalls> Caller<R, C> {
         requires step { IsStepOf unserved.request.value step }
         requires room { length clients.old.watches.items < vec_capacity clients.old.watches }
         ensures request { result.own.request ≡ unserved.request }
-        ensures made { IsMade C.Key.number_of C.Key.name_of C.gives unserved.request.value.route.tenant.value step
-            result.own.answer (C.made self.old.calls) (C.made self.new.calls) }
+        ensures made { IsOpened C.Key.number_of C.Key.name_of C.gives unserved.request.value.route.tenant.value step
+            result.own.answer clients.old.watches.items clients.new.watches.items (C.made self.old.calls) (C.made self.new.calls) }
     {
         let answer = self.created(alloc, clients, unserved.request().tenant(), step, ends);
         unserved.answered(answer)
@@ -246,8 +247,8 @@ impl<R: Wait + Clock + Drop, C: TenantCalls> Caller<R, C> {
     ) -> Answer<R>
         requires { length clients.old.watches.items < vec_capacity clients.old.watches }
         ensures answer { IsAnswer tenant.now.number step result }
-        ensures made { IsMade C.Key.number_of C.Key.name_of C.gives tenant.now step result
-            (C.made self.old.calls) (C.made self.new.calls) }
+        ensures made { IsOpened C.Key.number_of C.Key.name_of C.gives tenant.now step result
+            clients.old.watches.items clients.new.watches.items (C.made self.old.calls) (C.made self.new.calls) }
     {
         match self.serve(&clients.key, tenant, step) {
             Ok(receipt) => opened(clients, tenant.number, receipt, ends),
@@ -269,7 +270,7 @@ impl<R: Wait + Clock + Drop, C: TenantCalls> Caller<R, C> {
 
     /// The current revision of the tenant of that number, if the key is to it.
     pub(crate) fn revision(&self, key: &Option<C::Key>, number: u64) -> Result<i64, Refusal>
-        ensures is { IfOk result (λ revision. IsRevision number revision) }
+        ensures read { IfOk result (λ revision. C.reads number revision) }
         ensures refused { IfErr result (λ r. IsUncalled r) }
     {
         let Some(key) = key_of(key, number) else {

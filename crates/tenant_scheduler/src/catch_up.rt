@@ -1,6 +1,6 @@
 //! The catch-up worker: moves watches on that are behind, and compacts by standing orders.
 ghost use Rattle.std.specs.Prelude.{◌≡◌, IfSome};
-ghost use Rattle.tenant_scheduler.specs.OwnSteps.{IsOrdered};
+ghost use Rattle.tenant_scheduler.specs.OwnSteps.{IsNotedNow, IsOrdered};
 
 use crate::caller::Caller;
 use crate::clients::Clients;
@@ -68,6 +68,7 @@ fn compact_as_ordered<R: Wait + Clock + Drop, C: TenantCalls>(
 ) -> bool
     ensures order { clients.new.standing.retention ≡ clients.old.standing.retention }
     ensures tenant { clients.new.standing.tenant ≡ clients.old.standing.tenant }
+    ensures notes { IsNotedNow C.reads clients.old.standing clients.old.running clients.new.standing }
 {
     let Some(due) = due_revision(caller, clients) else {
         return false;
@@ -85,9 +86,10 @@ fn due_revision<R: Wait + Clock + Drop, C: TenantCalls>(
     caller: &Caller<R, C>,
     clients: &mut Clients<C::Key>,
 ) -> Option<DueRevision>
-    ensures ordered { IfSome result (λ due. IsOrdered clients.new.standing clients.new.running due) }
+    ensures ordered { IfSome result (λ due. IsOrdered C.reads clients.new.standing clients.new.running due) }
     ensures order { clients.new.standing.retention ≡ clients.old.standing.retention }
     ensures tenant { clients.new.standing.tenant ≡ clients.old.standing.tenant }
+    ensures notes { IsNotedNow C.reads clients.old.standing clients.old.running clients.new.standing }
 {
     let moment = clients.running.seconds();
     if !clients.standing.is_due(moment) {

@@ -75,11 +75,15 @@ impl<R: Wait + Drop> Entrances<R> {
         rt: &R,
         shard: usize,
         number: u64,
-    ) -> Mem<Option<Arc<Entrance<R>>>> {
+    ) -> Mem<Option<Arc<Entrance<R>>>>
+        ensures { IfOk result (λ found. IfSome found (λ entrance. entrance.value.tenant.value.number ≡ number)) }
+    {
         let directory = self.directory.read(rt, shard);
         match directory.entrances.get(&number) {
-            Some(entrance) => Ok(Some(Arc::try_clone(entrance)?)),
-            None => Ok(None),
+            Some(entrance) if entrance.tenant.number == number => {
+                Ok(Some(Arc::try_clone(entrance)?))
+            }
+            _ => Ok(None),
         }
     }
 

@@ -3,6 +3,8 @@
 //! Each connection has one call under way, so no more wait than the tenant has connections, but for those whose clients have
 //! gone meanwhile. These are let go whenever the queue has grown to twice what was left of it: so they never are more than the
 //! others, or than a few hundred.
+ghost use Rattle.std.specs.Prelude.{◌≡◌, true};
+ghost use Rattle.etcd_types.specs.Steps.{is_brief};
 ghost use Rattle.tenant_calls.specs.Answers.{IsUncalled};
 ghost use Rattle.tenant_scheduler.specs.Requests.{IsReadAs, IsStepOf};
 
@@ -48,6 +50,7 @@ pub(crate) struct BriefRequest<R: Wait + Drop> {
     pub(crate) unserved: Unserved<R>,
     pub(crate) step: Step,
     pub(crate) ghost asked: { IsStepOf unserved.request.value step },
+    pub(crate) ghost brief: { is_brief step ≡ true },
 }
 
 impl<R: Wait + Clock + Drop> BriefRequest<R> {

@@ -1,5 +1,5 @@
 //! The pump: from a tenant's watches to their clients.
-ghost use Rattle.std.specs.Prelude.{◌≡◌, IfOk, IfSome};
+ghost use Rattle.std.specs.Prelude.{◌≡◌, true, IfOk, IfSome};
 ghost use Rattle.etcd_types.specs.declared.step.Step.TheVariants.{Take};
 ghost use Rattle.tenant_calls.specs.Answers.{IsTold};
 ghost use Rattle.tenant_scheduler.specs.Makes.{IsOnlyOn};
@@ -243,8 +243,9 @@ fn take<R: Wait + Clock + Drop, C: TenantCalls>(
     watch: &ServedWatch,
 ) -> Mem<Option<WatchTake<C::Receipt>>>
     ensures others { IsOnlyOn C.Key.name_of key.now (C.made caller.old.calls) (C.made caller.new.calls) }
-    ensures canceled { IfOk result (λ told. IfSome told (λ take.
+    ensures told { IfOk result (λ told. IfSome told (λ take.
         IsTold watch.now.tenant (Take watch.now.slot) (C.Receipt.slip_of take.receipt))) }
+    ensures canceled { IfOk result (λ told. IfSome told (λ take. (C.Receipt.slip_of take.receipt).canceled ≡ true)) }
 {
     let room = match watch.room() {
         Ok(room) => room,
@@ -261,7 +262,6 @@ fn take<R: Wait + Clock + Drop, C: TenantCalls>(
         take.end();
     } else {
         counts.add_out(room.put(take, budget));
-        watch.count_text();
     }
     Ok(None)
 }

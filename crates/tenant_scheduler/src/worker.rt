@@ -1,6 +1,6 @@
 //! The workers: the calls of clients.
 ghost use Rattle.std.specs.Prelude.{◌≡◌, IfErr, IfOk};
-ghost use Rattle.tenant_scheduler.specs.Makes.{IsMade, IsMadeAfterTakes, IsRequestMade};
+ghost use Rattle.tenant_scheduler.specs.Makes.{IsMadeAfterTakes, IsOpened, IsRequestMade};
 ghost use Rattle.tenant_scheduler.specs.Requests.{IsReadAs, IsStepOf, IsUnread};
 
 use crate::caller::{Caller, JobAnswer, Unserved};
@@ -243,8 +243,8 @@ impl<R: Wait + Clock + Copy + Drop, C: TenantCalls> WorkerTurn<'_, '_, R, C> {
     ) -> JobAnswer<R>
         requires { IsStepOf unserved.request.value step }
         ensures request { result.own.request ≡ unserved.request }
-        ensures made { IsMade C.Key.number_of C.Key.name_of C.gives unserved.request.value.route.tenant.value step
-            result.own.answer (C.made caller.old.calls) (C.made caller.new.calls) }
+        ensures made { IsOpened C.Key.number_of C.Key.name_of C.gives unserved.request.value.route.tenant.value step
+            result.own.answer clients.old.watches.items clients.new.watches.items (C.made caller.old.calls) (C.made caller.new.calls) }
     {
         if clients.watches.reserve(1).is_err() {
             return unserved.refused(self.alloc, Refusal::Memory);

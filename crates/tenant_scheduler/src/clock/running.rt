@@ -1,7 +1,7 @@
 //! A tenant's time, as its ticks count it.
-ghost use Rattle.std.specs.Prelude.{◌≡◌, ◌+◌, min, Some};
+ghost use Rattle.std.specs.Prelude.{◌≡◌, ◌≤◌, ◌+◌, min, Some};
 ghost use Rattle.std.specs.Duration.{as_nanos, max_nanos};
-ghost use Rattle.tenant_scheduler.specs.OwnSteps.{IsMoment, counted, second_of};
+ghost use Rattle.tenant_scheduler.specs.OwnSteps.{IsMoment, counted, latest, most_ran, second_of};
 
 use super::SECONDS_A_TICK;
 use super::server_clock::ServerMoment;
@@ -43,6 +43,8 @@ pub(crate) struct Running {
     /// When the last tick came, on the server's clock.
     ticked: Option<ServerMoment>,
     ran: Duration,
+    // It runs no faster than the server's clock, but for the second that the first tick counts.
+    ghost behind: { as_nanos ran ≤ most_ran ticked },
 }
 
 impl Running {
@@ -57,25 +59,46 @@ impl Running {
         }
     }
 
-    /// The moment of a tick that comes now, in whole seconds. Ticks that come often pass no more time than the server's clock.
+    /// The moment of a tick that comes now, in whole seconds. Ticks that come often pass no more time than the server's clock,
+    /// and one of an earlier moment passes none.
+    #[tactic(auto, using(crate::proofs::TimeLemmas::ran_on))]
     pub(super) fn tick(&mut self, now: ServerMoment) -> Moment
         ensures moment { IsMoment self.new result }
         ensures whose { self.new.tenant ≡ self.old.tenant }
         ensures ran { as_nanos self.new.ran ≡ min (as_nanos self.old.ran + counted self.old.ticked now) max_nanos }
-        ensures noted { self.new.ticked ≡ Some now }
+        ensures noted { self.new.ticked ≡ Some (latest self.old.ticked now) }
+    {
+        *self = Running {
+            tenant: self.tenant,
+            ticked: Some(self.latest(now)),
+            ran: self.ran.saturating_add(self.passed(now)),
+        };
+        Moment {
+            tenant: self.tenant,
+            seconds: self.seconds(),
+        }
+    }
+
+    /// This moment, or the one of the last tick if that was later.
+    fn latest(&self, now: ServerMoment) -> ServerMoment
+        ensures { result ≡ latest self.now.ticked now }
+    {
+        match self.ticked {
+            Some(ticked) if ticked.since_start() > now.since_start() => ticked,
+            _ => now,
+        }
+    }
+
+    /// How much time a tick at this moment counts.
+    fn passed(&self, now: ServerMoment) -> Duration
+        ensures { as_nanos result ≡ counted self.now.ticked now }
     {
         let passed = match self.ticked {
             Some(ticked) => now.since_start().saturating_sub(ticked.since_start()),
             None => Duration::from_secs(SECONDS_A_TICK),
         };
         let most = Duration::from_secs(MAX_SECONDS_A_TICK);
-        let counted = if passed > most { most } else { passed };
-        self.ticked = Some(now);
-        self.ran = self.ran.saturating_add(counted);
-        Moment {
-            tenant: self.tenant,
-            seconds: self.seconds(),
-        }
+        if passed > most { most } else { passed }
     }
 
     /// The second of the last tick.

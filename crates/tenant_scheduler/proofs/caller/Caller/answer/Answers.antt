@@ -5,7 +5,7 @@ use Rattle.tenant_scheduler.proofs.RequestLemmas.{step_told}
 use Rattle.tenant_scheduler.proofs.caller.Caller.answer.Goals as goal
 
 pub answered-requires : goal.answered-requires
-answered-requires g c = step_told c.args.unserved.request.value c.args.step c.told-answer.result c.requires (subst (λ t. IsAnswer t.number c.args.step c.told-answer.result) (c.tenant.ensures ∙ ap (λ r. r.route.tenant.value) c.request.ensures) c.told-answer.ensures.answer)
+answered-requires g c = step_told c.args.unserved.request.value c.args.step c.told-answer.result c.requires.step (subst (λ t. IsAnswer t.number c.args.step c.told-answer.result) (c.tenant.ensures ∙ ap (λ r. r.route.tenant.value) c.request.ensures) c.told-answer.ensures.answer)
 
 pub returns-clause-made : goal.returns-clause-made
 returns-clause-made g c = made_of g.C.Key.TenantKey.number_of g.C.Key.TenantKey.name_of g.C.TenantCalls.gives c.tenant.result.now c.args.unserved.request.value.route.tenant.value c.args.step c.told-answer.result c.answered.result.own.answer _ _ (c.tenant.ensures ∙ ap (λ r. r.route.tenant.value) c.request.ensures) c.answered.ensures.answer c.told-answer.ensures.made

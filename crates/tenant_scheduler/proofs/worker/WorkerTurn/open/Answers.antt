@@ -1,9 +1,9 @@
 use Rattle.std.proofs.Common.{refl}
-use Rattle.tenant_scheduler.proofs.MakeLemmas.{unmade_for_memory}
+use Rattle.tenant_scheduler.proofs.MakeLemmas.{unopened_for_memory}
 use Rattle.tenant_scheduler.proofs.worker.WorkerTurn.open.Goals as goal
 
 pub returns-then-is_err-clause-made : goal.returns-then-is_err-clause-made
-returns-then-is_err-clause-made g c = unmade_for_memory g.C.Key.TenantKey.number_of g.C.Key.TenantKey.name_of g.C.TenantCalls.gives c.args.unserved.request.value.route.tenant.value c.args.step c.refused.result.own.answer _ _ (λ name. refl) c.refused.ensures.answer
+returns-then-is_err-clause-made g c = unopened_for_memory g.C.Key.TenantKey.number_of g.C.Key.TenantKey.name_of g.C.TenantCalls.gives c.args.unserved.request.value.route.tenant.value c.args.step c.refused.result.own.answer _ _ _ _ (λ name. refl) c.refused.ensures.answer (search)
 
 pub returns-in_default-clause-made : goal.returns-in_default-clause-made
-returns-in_default-clause-made g c = unmade_for_memory g.C.Key.TenantKey.number_of g.C.Key.TenantKey.name_of g.C.TenantCalls.gives c.args.unserved.request.value.route.tenant.value c.args.step c.refused-in_default.result.own.answer _ _ (λ name. refl) c.refused-in_default.ensures.answer
+returns-in_default-clause-made g c = unopened_for_memory g.C.Key.TenantKey.number_of g.C.Key.TenantKey.name_of g.C.TenantCalls.gives c.args.unserved.request.value.route.tenant.value c.args.step c.refused-in_default.result.own.answer _ _ _ _ (λ name. refl) c.refused-in_default.ensures.answer (search)
