@@ -63,7 +63,7 @@ told_of (Some texts) = texts.told
 told_of None = 0
 
 -- behind the text each piece is the next text of the watch, and none is passed over
-abbrev pub Counts : {R E : Type 0} → ResponseBody R → Option (Result (List ℕ) E) → ResponseBody R → Type 0
+abbrev pub Counts : {R T E : Type 0} → ResponseBody R → Option (Result T E) → ResponseBody R → Type 0
 Counts old (Some (Ok piece)) new = text_of old.first ≡ None → told_of new.following ≡ told_of old.following + 1
 Counts old (Some (Err e)) new = ⊤
 Counts old None new = ⊤

@@ -1,11 +1,12 @@
 //! An answer as HTTP sends it.
-ghost use Rattle.std.specs.Prelude.{◌≡◌, ◌++◌, IfOk, OnOk, Some};
+ghost use Rattle.std.specs.Prelude.{◌≡◌, ◌++◌, [], IfOk, IfSome, OnOk, Some};
 ghost use Rattle.futures.specs.Task.{IsArmed, Keeps};
 ghost use Rattle.futures.specs.Poll.{IfReady, OnPending};
+ghost use Rattle.futures.specs.Runs.{After, Within};
 ghost use Rattle.http_header.specs.HeaderMap.{insert};
 ghost use Rattle.fair_turns.specs.Answers.{bytes_of};
 ghost use Rattle.http_body.specs.SizeHint.{exact};
-ghost use Rattle.gateway_http.specs.Bodies.{Counts, GivesNext, bytes_left, length_left, run_of, text_of, watch_of};
+ghost use Rattle.gateway_http.specs.Bodies.{Counts, GivesNext, bytes_left, length_left, run_of, text_of, told_of, watch_of};
 ghost use Rattle.gateway_http.specs.Responses.{Sends};
 
 use crate::exchange::Standing;
@@ -103,6 +104,7 @@ impl<R: Wait + Clock + Drop> ResponseBody<R> {
         ensures given { IfReady result (λ told. GivesNext self.old told self.new) }
         ensures counted { IfReady result (λ told. Counts self.old told self.new) }
         ensures text { OnPending result (text_of self.new.first ≡ text_of self.old.first) }
+        ensures waits { OnPending result (told_of self.new.following ≡ told_of self.old.following) }
         ensures watch { watch_of self.new.following ≡ watch_of self.old.following }
         ensures registered { OnPending result (IsArmed cx.new) }
         ensures kept { Keeps cx.old cx.new }
@@ -185,7 +187,15 @@ impl<R: Wait + Clock + Drop> Body for ResponseBody<R> {
     fn poll_frame(
         &mut self,
         cx: &mut Context<'_>,
-    ) -> Poll<Option<Result<Frame<Piece>, AllocError>>> {
+    ) -> Poll<Option<Result<Frame<Piece>, AllocError>>>
+        ensures value { IfReady result (run_of self.old []) }
+        ensures rest { IfReady result (λ told. IfSome told (λ item. After (run_of self.old) item (run_of self.new))) }
+        ensures counted { IfReady result (λ told. Counts self.old told self.new) }
+        ensures same { OnPending result (Within (run_of self.old) (run_of self.new)) }
+        ensures waits { OnPending result (told_of self.new.following ≡ told_of self.old.following) }
+        ensures registered { OnPending result (IsArmed cx.new) }
+        ensures kept { Keeps cx.old cx.new }
+    {
         match ready!(self.poll_piece(cx)) {
             Some(Ok(piece)) => Poll::Ready(Some(Ok(Frame::data(piece)))),
             Some(Err(e)) => Poll::Ready(Some(Err(e))),

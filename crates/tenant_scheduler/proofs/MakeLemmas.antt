@@ -39,7 +39,7 @@ unopened_for_memory number_of name_of gives tenant step answer before after old 
 
 -- what looks at one key at most opens nothing
 pub brief_opens_none : (s : Step) → is_brief s ≡ true → opens s ≡ false
-brief_opens_none (step.Watch x) brief = brief
+brief_opens_none (step.Watch x) brief = sym brief
 brief_opens_none (step.Range x) brief = refl
 brief_opens_none (step.Put x) brief = refl
 brief_opens_none (step.Delete x) brief = refl

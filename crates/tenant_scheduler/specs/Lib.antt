@@ -3,4 +3,5 @@ pub mod Makes
 pub mod Outcomes
 pub mod OwnSteps
 pub mod Requests
+pub mod ServerTime
 pub mod Watches

@@ -1,5 +1,5 @@
 -- What a thread makes by itself, and not for a client.
-use Rattle.std.specs.Prelude.{◌≡◌, ◌⊎◌, if◌then◌else◌, nat_lt, ◌+◌, ◌-◌, ◌/◌, min, ℕ, ℤ, List, Option, Some, None}
+use Rattle.std.specs.Prelude.{◌≡◌, ◌⊎◌, ◌/◌, ℕ, ℤ, List, Option, Some}
 use Rattle.std.specs.Duration.{as_nanos}
 use Rattle.auto_compaction.specs.declared.order.DueRevision.{DueRevision}
 use Rattle.auto_compaction.specs.declared.order.StandingOrder.{StandingOrder}
@@ -9,27 +9,10 @@ use Rattle.tenant_audit.specs.Receipts.{Slip}
 use Rattle.tenant_calls.specs.Counts.{Counts, IsOneMore}
 use Rattle.tenant_scheduler.specs.declared.clock.running.Moment.{Moment}
 use Rattle.tenant_scheduler.specs.declared.clock.running.Running.{Running}
-use Rattle.tenant_scheduler.specs.declared.clock.server_clock.ServerMoment.{ServerMoment}
-
--- for how long a tick counts at a moment of the server's clock, in nanoseconds: as long as the last one is past, and two
--- seconds at the most; the first tick counts a second
-abbrev pub counted : Option ServerMoment → ServerMoment → ℕ
-counted None now = 1_000_000_000
-counted (Some last) now = min (as_nanos now.since_start - as_nanos last.since_start) 2_000_000_000
-
--- the later one of the last tick's moment and this one
-abbrev pub latest : Option ServerMoment → ServerMoment → ServerMoment
-latest None now = now
-latest (Some last) now = if nat_lt (as_nanos now.since_start) (as_nanos last.since_start) then last else now
-
--- how long a tenant's time may have run at the moment of the last tick: as long as the server, and the second of the first tick
-abbrev pub most_ran : Option ServerMoment → ℕ
-most_ran None = 0
-most_ran (Some last) = as_nanos last.since_start + 1_000_000_000
 
 -- the second that a tenant's time has come to
 abbrev pub second_of : Running → ℕ
-second_of running = as_nanos running.ran / 1_000_000_000
+second_of running = as_nanos running.time.ran / 1_000_000_000
 
 -- the moment is the one that the tenant's time has come to
 pub record IsMoment (running : Running) (moment : Moment) : Type 0 where

@@ -1,4 +1,5 @@
 //! The clock: a tick a second to each tenant.
+mod run_time;
 mod running;
 mod server_clock;
 

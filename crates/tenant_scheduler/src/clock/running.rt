@@ -1,14 +1,11 @@
 //! A tenant's time, as its ticks count it.
-ghost use Rattle.std.specs.Prelude.{◌≡◌, ◌≤◌, ◌+◌, min, Some};
+ghost use Rattle.std.specs.Prelude.{◌≡◌, ◌+◌, min, Some};
 ghost use Rattle.std.specs.Duration.{as_nanos, max_nanos};
-ghost use Rattle.tenant_scheduler.specs.OwnSteps.{IsMoment, counted, latest, most_ran, second_of};
+ghost use Rattle.tenant_scheduler.specs.OwnSteps.{IsMoment, second_of};
+ghost use Rattle.tenant_scheduler.specs.ServerTime.{counted, latest};
 
-use super::SECONDS_A_TICK;
+use super::run_time::RunTime;
 use super::server_clock::ServerMoment;
-use std::time::Duration;
-
-/// How many seconds one tick moves a tenant's moment by, at the most.
-const MAX_SECONDS_A_TICK: u64 = 2;
 
 /// A second of a tenant's time, for one tick.
 #[derive(Drop)]
@@ -32,19 +29,12 @@ impl Moment {
     }
 }
 
-/// How long a tenant's time has run, as its ticks count it.
-///
-/// A tick that comes late counts two seconds at the most. So after a pause of the machine, or behind a long job, the
-/// keepalives that wait are served before the next tick could end their leases.
+/// The time of one tenant.
 #[derive(Drop)]
 pub(crate) struct Running {
     /// The number of the tenant.
     tenant: u64,
-    /// When the last tick came, on the server's clock.
-    ticked: Option<ServerMoment>,
-    ran: Duration,
-    // It runs no faster than the server's clock, but for the second that the first tick counts.
-    ghost behind: { as_nanos ran ≤ most_ran ticked },
+    time: RunTime,
 }
 
 impl Running {
@@ -54,57 +44,28 @@ impl Running {
     {
         Running {
             tenant,
-            ticked: None,
-            ran: Duration::from_secs(0),
+            time: RunTime::new(),
         }
     }
 
-    /// The moment of a tick that comes now, in whole seconds. Ticks that come often pass no more time than the server's clock,
-    /// and one of an earlier moment passes none.
-    #[tactic(auto, using(crate::proofs::TimeLemmas::ran_on))]
+    /// The moment of a tick that comes now, in whole seconds.
     pub(super) fn tick(&mut self, now: ServerMoment) -> Moment
         ensures moment { IsMoment self.new result }
         ensures whose { self.new.tenant ≡ self.old.tenant }
-        ensures ran { as_nanos self.new.ran ≡ min (as_nanos self.old.ran + counted self.old.ticked now) max_nanos }
-        ensures noted { self.new.ticked ≡ Some (latest self.old.ticked now) }
+        ensures ran { as_nanos self.new.time.ran ≡ min (as_nanos self.old.time.ran + counted self.old.time.ticked now) max_nanos }
+        ensures noted { self.new.time.ticked ≡ Some (latest self.old.time.ticked now) }
     {
-        *self = Running {
-            tenant: self.tenant,
-            ticked: Some(self.latest(now)),
-            ran: self.ran.saturating_add(self.passed(now)),
-        };
+        self.time.tick(now);
         Moment {
             tenant: self.tenant,
             seconds: self.seconds(),
         }
     }
 
-    /// This moment, or the one of the last tick if that was later.
-    fn latest(&self, now: ServerMoment) -> ServerMoment
-        ensures { result ≡ latest self.now.ticked now }
-    {
-        match self.ticked {
-            Some(ticked) if ticked.since_start() > now.since_start() => ticked,
-            _ => now,
-        }
-    }
-
-    /// How much time a tick at this moment counts.
-    fn passed(&self, now: ServerMoment) -> Duration
-        ensures { as_nanos result ≡ counted self.now.ticked now }
-    {
-        let passed = match self.ticked {
-            Some(ticked) => now.since_start().saturating_sub(ticked.since_start()),
-            None => Duration::from_secs(SECONDS_A_TICK),
-        };
-        let most = Duration::from_secs(MAX_SECONDS_A_TICK);
-        if passed > most { most } else { passed }
-    }
-
     /// The second of the last tick.
     pub(crate) fn seconds(&self) -> u64
         ensures { result ≡ second_of self.now }
     {
-        self.ran.as_secs()
+        self.time.seconds()
     }
 }

@@ -1,5 +1,6 @@
 //! The server's clock, by which tenants' ticks are counted.
 ghost use Rattle.std.specs.Prelude.{◌≡◌};
+ghost use Rattle.std.specs.Duration.{as_nanos};
 
 use std::rt::Clock;
 use std::time::{Duration, Instant};
@@ -23,6 +24,13 @@ impl ServerMoment {
         ensures { result ≡ self.since_start }
     {
         self.since_start
+    }
+
+    /// The same in nanoseconds.
+    pub(super) fn nanos(self) -> u128
+        ensures { result ≡ as_nanos self.since_start }
+    {
+        self.since_start.as_nanos()
     }
 }
 
