@@ -98,7 +98,7 @@ def metrics_are_told(program):
         check_reader(text, len(after))
 
 
-# The alarm, leases, budgets, connections and times, each against what was done.
+# Quotas, the alarm, leases, budgets, connections and times, each against what was done.
 
 ALARM = '{"action":"%s","alarm":"NOSPACE"}'
 # What is done, and then whether the alarm is raised and how many leases there are.
@@ -125,6 +125,26 @@ def want_at_last(wanted, ask):
     """What is told by and by: of a tenant that is busy it is what it was before."""
     told = asked_until(lambda told: told == wanted, ask)
     want(told == wanted, f"told {told}, wanted {wanted}")
+
+
+def of_host(host):
+    """How many tenants and segments there are, and how many are free."""
+    told = samples(host.text("/metrics"))
+    return [told[f"bikazery_{word}"] for word in ("tenants", "segments", "free_segments")]
+
+
+def quotas_and_segments_are_told(program):
+    """As tenants come, change and go, and the pool grows. A quota of 64 cells is a segment."""
+    with Host(program, [tenant_of(name) for name in NAMES]) as host:
+        want_at_last([3, 4096, 4096 - 3 * 16], lambda: of_host(host))
+        said = host.expect_status(200, "PATCH", "/tenants/two", {"quota": 192})
+        want((said["quota"], said["segments"]) == (192, {"reserved": 3, "drawn": 0}), f"told {said}")
+        host.expect_status(201, "POST", "/tenants", tenant_of("four", 65))
+        host.expect_status(200, "POST", "/pool", {"segments": 5})
+        host.expect_status(204, "DELETE", "/tenants/one")
+        want_at_last([3, 4101, 4101 - 3 - 16 - 2], lambda: of_host(host))
+        for name, quota, segments in [("one", None, None), ("two", 192, 3), ("three", 1024, 16), ("four", 65, 2)]:
+            want_at_last([quota, segments], lambda: numbers_of(host, name, "quota_cells", "reserved_segments"))
 
 
 def want_alarm_and_leases(host, name, raised, leases):
@@ -243,5 +263,5 @@ def times_are_told_in_seconds(program):
         want(not last, last)
 
 
-TESTS = [metrics_are_told, an_alarm_and_leases_are_told_while_they_last, a_budget_is_told_with_what_is_taken_of_it,
-         connections_that_went_are_counted, times_are_told_in_seconds]
+TESTS = [metrics_are_told, quotas_and_segments_are_told, an_alarm_and_leases_are_told_while_they_last,
+         a_budget_is_told_with_what_is_taken_of_it, connections_that_went_are_counted, times_are_told_in_seconds]
