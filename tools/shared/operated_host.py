@@ -7,6 +7,11 @@ from shared.report import want
 from shared.server import Server, configuration
 
 
+def error(word):
+    """What the body of a refusal says."""
+    return {"error": word}
+
+
 class Host(Server):
     """The server with an operator's address."""
 
