@@ -248,21 +248,28 @@ impl Resized {
     }
 }
 
-/// A tenant was ended. Only `Kept::end` makes one.
-#[derive(Drop)]
-pub(crate) struct Ended {
+/// A tenant was ended. Only `Kept::end` makes one, and nobody can change its audit.
+pub struct Ended {
     audit: Audit,
     /// How many segments went to the free ones.
     segments: u32,
 }
 
+impl Drop for Ended {
+    fn drop(self) {
+        let Ended {
+            audit: _,
+            segments: _,
+        } = self;
+    }
+}
+
 impl Ended {
-    /// The tenant's audit.
-    pub(crate) fn into_audit(self) -> Audit
-        ensures { result ≡ self.audit }
+    /// The tenant's audit, as it was under its lock.
+    pub fn audit(&self) -> &Audit
+        ensures { result.now ≡ self.now.audit }
     {
-        let Ended { audit, segments: _ } = self;
-        audit
+        &self.audit
     }
 }
 
