@@ -9,12 +9,11 @@ ghost use Rattle.tenant_machine.specs.Tenants.{tenant};
 ghost use Rattle.tenant_rules.specs.declared.fault.OperatorFault.TheVariants.{Short};
 ghost use Rattle.tenant_audit.specs.Audits.{IsAllowed, IsLawful, opened_log, opening_of};
 ghost use Rattle.tenant_audit.specs.Receipts.{slip_of};
-ghost use Rattle.tenant_calls.specs.Answers.{IsRevision};
 ghost use Rattle.tenant_registry.specs.Keeping.{segments_of};
 ghost use Rattle.tenant_registry.specs.Removing.{GivesBack};
 ghost use Rattle.tenant_registry.specs.Resizing.{HoldsSame, Resizes, Stays, lacks_segments, unresized};
 ghost use Rattle.tenant_audit.specs.Seats.{AddsCall, AddsMissed, HasRoomOn, call_at};
-ghost use Rattle.tenant_registry.specs.Serving.{Serves};
+ghost use Rattle.tenant_registry.specs.Serving.{IsRevisionIn, Serves};
 
 use crate::replies::{is_cancel, refusal_of, slot_of, told_revision};
 use crate::usage::Usage;
@@ -362,7 +361,7 @@ impl Kept {
 
     /// Its current revision.
     pub(crate) fn revision(&self) -> Mem<i64>
-        ensures { IfOk result (λ revision. IsRevision self.now.audit.opening.number revision) }
+        ensures { IfOk result (λ revision. IsRevisionIn self.now.audit revision) }
     {
         let planned = self.machine.plan(self.alloc, &Step::Status)?;
         let told = told_revision(planned.reply());

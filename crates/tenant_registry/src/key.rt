@@ -3,10 +3,10 @@
 //! A key is to one tenant for as long as it lives. Where the tenant was removed it finds nothing, also if another
 //! tenant was added since.
 ghost use Rattle.std.specs.Prelude.{◌≡◌, IfErr, IfOk, IfSome, OnErr};
-ghost use Rattle.tenant_calls.specs.Answers.{IsRevision, IsUncalled};
+ghost use Rattle.tenant_calls.specs.Answers.{IsUncalled};
 ghost use Rattle.tenant_registry.specs.Calling.{shown};
 ghost use Rattle.tenant_registry.specs.Registries.{tenants_of};
-ghost use Rattle.tenant_registry.specs.Serving.{IsReceipt};
+ghost use Rattle.tenant_registry.specs.Serving.{IsReceipt, IsRevisionOf};
 ghost use Rattle.tenant_audit.specs.Seats.{Keeps, KeepsLists};
 
 use crate::gate::Gate;
@@ -115,7 +115,7 @@ impl Key {
 
     /// The tenant's current revision, read under its lock. It is refused as `call` is.
     pub fn revision<R: Wait>(&self, rt: &R) -> Result<i64, Refusal>
-        ensures is { IfOk result (λ revision. IsRevision self.now.opening.number revision) }
+        ensures is { IfOk result (λ revision. IsRevisionOf self.now.opening revision) }
         ensures refused { IfErr result (λ r. IsUncalled r) }
     {
         revision_there(&*self.kept.lock(rt), self.opening)
@@ -176,7 +176,7 @@ fn there(kept: &Option<Kept>, opening: Opening) -> Option<&Kept>
 
 /// The current revision of the tenant that was opened so, if it is under the lock.
 fn revision_there(kept: &Option<Kept>, opening: Opening) -> Result<i64, Refusal>
-    ensures is { IfOk result (λ revision. IsRevision opening.number revision) }
+    ensures is { IfOk result (λ revision. IsRevisionOf opening revision) }
     ensures refused { IfErr result (λ r. IsUncalled r) }
 {
     let Some(kept) = there(kept, opening) else {
