@@ -14,6 +14,7 @@ ghost use Rattle.tenant_registry.specs.Removing.{GivesBack};
 ghost use Rattle.tenant_registry.specs.Resizing.{HoldsSame, Resizes, Stays, lacks_segments, unresized};
 ghost use Rattle.tenant_audit.specs.Seats.{AddsCall, AddsMissed, HasRoomOn, call_at};
 ghost use Rattle.tenant_registry.specs.Serving.{IsRevisionIn, Serves};
+ghost use Rattle.tenant_registry.specs.Using.{HasSegments, IsUsageIn};
 
 use crate::replies::{is_cancel, refusal_of, slot_of, told_revision};
 use crate::usage::Usage;
@@ -384,7 +385,11 @@ impl Kept {
     }
 
     /// What it uses.
-    pub(crate) fn usage(&self) -> Mem<Usage> {
+    pub(crate) fn usage(&self) -> Mem<Usage>
+        ensures is { IfOk result (λ usage. IsUsageIn self.now.audit usage) }
+        ensures segments { IfOk result (λ usage.
+            HasSegments self.now.machine.store.share.reserved self.now.machine.store.share.drawn usage) }
+    {
         let drawn = self.reserved.saturating_sub(self.left.held());
         Usage::of(
             self.alloc,
