@@ -8,3 +8,4 @@ pub mod RevisionLemmas
 pub mod RemovingLemmas
 pub mod SeatLemmas
 pub mod SeatedLemmas
+pub mod UsageLemmas

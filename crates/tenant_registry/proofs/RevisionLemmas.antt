@@ -1,6 +1,6 @@
 -- A tenant's current revision is the one in the header of its status.
-use Rattle.std.specs.Prelude.{◌&&◌, ◌||◌, not, ℤ, pos, if◌then◌else◌}
-use Rattle.std.proofs.Common.{◌≡◌, ◌∙◌, sym, ap, subst, refl, ℕ, Bool, true, false, List, [], ◌∷◌, Option, Some, None}
+use Rattle.std.specs.Prelude.{◌&&◌, ◌||◌, ℤ, pos, if◌then◌else◌}
+use Rattle.std.proofs.Common.{◌≡◌, ◌∙◌, sym, ap, subst, refl, Bool, true, false, [], ◌∷◌, Option, Some, None}
 use Rattle.std.proofs.lemmas.Option.{same_Some}
 use Rattle.etcd_types.specs.declared.step.Step.TheVariants.{Status}
 use Rattle.etcd_types.specs.declared.refusal.Refusal.{Refusal}
@@ -19,13 +19,12 @@ use Rattle.etcd_model.specs.Tenant.{stays}
 use Rattle.tenant_machine.specs.Tenants.{MachineState}
 use Rattle.tenant_machine.specs.Plans.{Plan, Plans}
 use Rattle.tenant_audit.specs.Audits.{Log, end_of, state_after_acts}
-use Rattle.tenant_calls.specs.Answers.{IsRevision}
 use Rattle.tenant_registry.specs.Keeping.{Content, IsKept}
-use Rattle.tenant_registry.specs.Serving.{told_revision}
+use Rattle.tenant_registry.specs.Serving.{IsRevisionIn, told_revision}
 use Rattle.tenant_registry.proofs.KeptLemmas.{leads}
 
--- nothing refuses a status early
-no_early : (revisions ids : Bool) → first_refusal (None ∷ refused_if ((revisions && false) || (ids && false)) UsedUp ∷ []) ≡ None
+-- nothing refuses early a step that writes nothing and chooses no ID
+pub no_early : (revisions ids : Bool) → first_refusal (None ∷ refused_if ((revisions && false) || (ids && false)) UsedUp ∷ []) ≡ None
 no_early true true = refl
 no_early true false = refl
 no_early false true = refl
@@ -44,14 +43,12 @@ status_tells S = ap (λ early. told_revision (answered S early)) (no_early _ _) 
 
 -- what is planned for a status tells the revision
 pub revision_told : (old : Content) (m : MachineState) (a : Log) (left : StockState) (p : Plan) (told : Reply) (revision : ℤ) → record { machine = m; audit = a; left = left } ≡ old → IsKept m a left → Plans m Status p
-    → told ≡ p.reply → told_revision told ≡ Some revision → IsRevision old.audit.opening.number revision
+    → told ≡ p.reply → told_revision told ≡ Some revision → IsRevisionIn old.audit revision
 revision_told old m a left p told revision view kept plans same is =
     let S = state_after_acts (end_of a) kept.later in
     let tells : told_revision told ≡ Some (pos (current S.store)) = ap told_revision same ∙ ap told_revision (plans.reply S kept.holds) ∙ status_tells S in
-    subst (λ (k : Content). IsRevision k.audit.opening.number revision) view (record {
-      log = a;
+    subst (λ (k : Content). IsRevisionIn k.audit revision) view (record {
       state = S;
-      tenant = refl;
       leads = leads m a left kept;
       is = same_Some revision (pos (current S.store)) (sym is ∙ tells);
     })

@@ -1,5 +1,5 @@
 -- What a server's thread is told is what the registry's receipt has.
-use Rattle.std.specs.Prelude.{Option, Some, None}
+use Rattle.std.specs.Prelude.{ℤ, Option, Some, None}
 use Rattle.std.proofs.Common.{◌≡◌, ◌∙◌, ◌+◌, ◌-◌, ◌^◌, ◌<◌, ◌≤◌, ◌⊎◌, inl, inr, ap, refl, min, ℕ, List, [], ◌∷◌, ◌++◌, length, length-append, map, append_assoc, sym, arith}
 use Rattle.std.proofs.lemmas.List.{map-append}
 use Rattle.std.proofs.Math.Nat.{min-eq_left}
@@ -10,10 +10,10 @@ use Rattle.tenant_audit.specs.declared.tally.MadeCall.{MadeCall}
 use Rattle.tenant_audit.specs.declared.audit.Opening.{Opening}
 use Rattle.tenant_audit.specs.Receipts.{Slip}
 use Rattle.tenant_audit.specs.Seats.{SeatState, Keeps, KeepsLists, calls_on, missed_on}
-use Rattle.tenant_calls.specs.Answers.{IsTold}
+use Rattle.tenant_calls.specs.Answers.{IsRevision, IsTold}
 use Rattle.tenant_calls.specs.Counts.{IsNoMore, IsOneMore}
 use Rattle.tenant_registry.specs.Counting.{calls_counted}
-use Rattle.tenant_registry.specs.Serving.{IsReceipt}
+use Rattle.tenant_registry.specs.Serving.{IsReceipt, IsRevisionOf}
 
 pub told_of : (opening : Opening) (seat : ℕ) (step : Step) (slip : Slip) → IsReceipt opening seat step slip → IsTold opening.number step slip
 told_of opening seat step slip i = record {
@@ -28,6 +28,9 @@ told_of opening seat step slip i = record {
     refusal = ap (λ s. s.refusal) i.text;
   };
 }
+
+pub revision_of : (opening : Opening) (revision : ℤ) → IsRevisionOf opening revision → IsRevision opening.number revision
+revision_of opening revision i = record { log = i.log; state = i.is.state; tenant = ap (λ o. o.number) i.tenant; leads = i.is.leads; is = i.is.is }
 
 -- ---- counts
 

@@ -7,4 +7,5 @@ pub mod Calling
 pub mod Counting
 pub mod Resizing
 pub mod Removing
+pub mod Using
 pub mod RegistryInside

@@ -1,5 +1,5 @@
 -- What one step under a tenant's lock leaves.
-use Rattle.std.specs.Prelude.{◌≡◌, ◌≢◌, ℕ, ℤ, List, Option, Some, None}
+use Rattle.std.specs.Prelude.{◌≡◌, ◌≢◌, ℕ, ℤ, pos, List, Option, Some, None}
 use Rattle.std.specs.List.Sorted.{IsPermutation}
 use Rattle.etcd_types.specs.declared.step.Step.{Step}
 use Rattle.etcd_types.specs.declared.refusal.Refusal.TheVariants.{Memory}
@@ -9,6 +9,7 @@ use Rattle.tenant_machine.specs.Plans.{Steps}
 use Rattle.tenant_registry.specs.declared.kept.Served.{Served}
 use Rattle.etcd_model.specs.declared.state.History.{History}
 use Rattle.etcd_model.specs.declared.state.State.{State}
+use Rattle.etcd_model.specs.History.{current}
 use Rattle.etcd_model.specs.Machine.{machine}
 use Rattle.tenant_audit.specs.Audits.{LeadsTo, Log, entry, turn_of, with_entry_at}
 use Rattle.tenant_registry.specs.Keeping.{Content, segments_of}
@@ -25,6 +26,18 @@ pub record IsReceipt (opening : Opening) (seat : ℕ) (step : Step) (receipt : S
   pub tenant : log.opening ≡ opening
   pub leads : LeadsTo log state
   pub text : receipt ≡ slip_of opening.number seat (turn_of log) step (machine state step).reply
+
+-- the current revision in a state to which an audit leads
+pub record IsRevisionIn (log : Log) (revision : ℤ) : Type 0 where
+  pub state : State History
+  pub leads : LeadsTo log state
+  pub is : revision ≡ pos (current state.store)
+
+-- and that of the tenant that was opened so, in a state of that tenant
+pub record IsRevisionOf (opening : Opening) (revision : ℤ) : Type 0 where
+  pub log : Log
+  pub tenant : log.opening ≡ opening
+  pub is : IsRevisionIn log revision
 
 -- the receipt of one call on the tenant that has this name in a registry
 pub record IsReceiptOf (r : RegistryState) (name : List ℕ) (seat : ℕ) (step : Step) (receipt : Slip) : Type 0 where

@@ -9,12 +9,12 @@ ghost use Rattle.tenant_machine.specs.Tenants.{tenant};
 ghost use Rattle.tenant_rules.specs.declared.fault.OperatorFault.TheVariants.{Short};
 ghost use Rattle.tenant_audit.specs.Audits.{IsAllowed, IsLawful, opened_log, opening_of};
 ghost use Rattle.tenant_audit.specs.Receipts.{slip_of};
-ghost use Rattle.tenant_calls.specs.Answers.{IsRevision};
 ghost use Rattle.tenant_registry.specs.Keeping.{segments_of};
 ghost use Rattle.tenant_registry.specs.Removing.{GivesBack};
 ghost use Rattle.tenant_registry.specs.Resizing.{HoldsSame, Resizes, Stays, lacks_segments, unresized};
 ghost use Rattle.tenant_audit.specs.Seats.{AddsCall, AddsMissed, HasRoomOn, call_at};
-ghost use Rattle.tenant_registry.specs.Serving.{Serves};
+ghost use Rattle.tenant_registry.specs.Serving.{IsRevisionIn, Serves};
+ghost use Rattle.tenant_registry.specs.Using.{HasSegments, IsUsageIn};
 
 use crate::replies::{is_cancel, refusal_of, slot_of, told_revision};
 use crate::usage::Usage;
@@ -248,21 +248,28 @@ impl Resized {
     }
 }
 
-/// A tenant was ended. Only `Kept::end` makes one.
-#[derive(Drop)]
-pub(crate) struct Ended {
+/// A tenant was ended. Only `Kept::end` makes one, and nobody can change its audit.
+pub struct Ended {
     audit: Audit,
     /// How many segments went to the free ones.
     segments: u32,
 }
 
+impl Drop for Ended {
+    fn drop(self) {
+        let Ended {
+            audit: _,
+            segments: _,
+        } = self;
+    }
+}
+
 impl Ended {
-    /// The tenant's audit.
-    pub(crate) fn into_audit(self) -> Audit
-        ensures { result ≡ self.audit }
+    /// The tenant's audit, as it was under its lock.
+    pub fn audit(&self) -> &Audit
+        ensures { result.now ≡ self.now.audit }
     {
-        let Ended { audit, segments: _ } = self;
-        audit
+        &self.audit
     }
 }
 
@@ -355,7 +362,7 @@ impl Kept {
 
     /// Its current revision.
     pub(crate) fn revision(&self) -> Mem<i64>
-        ensures { IfOk result (λ revision. IsRevision self.now.audit.opening.number revision) }
+        ensures { IfOk result (λ revision. IsRevisionIn self.now.audit revision) }
     {
         let planned = self.machine.plan(self.alloc, &Step::Status)?;
         let told = told_revision(planned.reply());
@@ -378,7 +385,11 @@ impl Kept {
     }
 
     /// What it uses.
-    pub(crate) fn usage(&self) -> Mem<Usage> {
+    pub(crate) fn usage(&self) -> Mem<Usage>
+        ensures is { IfOk result (λ usage. IsUsageIn self.now.audit usage) }
+        ensures segments { IfOk result (λ usage.
+            HasSegments self.now.machine.store.share.reserved self.now.machine.store.share.drawn usage) }
+    {
         let drawn = self.reserved.saturating_sub(self.left.held());
         Usage::of(
             self.alloc,

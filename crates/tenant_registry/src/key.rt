@@ -3,10 +3,11 @@
 //! A key is to one tenant for as long as it lives. Where the tenant was removed it finds nothing, also if another
 //! tenant was added since.
 ghost use Rattle.std.specs.Prelude.{◌≡◌, IfErr, IfOk, IfSome, OnErr};
-ghost use Rattle.tenant_calls.specs.Answers.{IsRevision, IsUncalled};
+ghost use Rattle.tenant_calls.specs.Answers.{IsUncalled};
 ghost use Rattle.tenant_registry.specs.Calling.{shown};
 ghost use Rattle.tenant_registry.specs.Registries.{tenants_of};
-ghost use Rattle.tenant_registry.specs.Serving.{IsReceipt};
+ghost use Rattle.tenant_registry.specs.Serving.{IsReceipt, IsRevisionOf};
+ghost use Rattle.tenant_registry.specs.Using.{IsUsage};
 ghost use Rattle.tenant_audit.specs.Seats.{Keeps, KeepsLists};
 
 use crate::gate::Gate;
@@ -115,23 +116,24 @@ impl Key {
 
     /// The tenant's current revision, read under its lock. It is refused as `call` is.
     pub fn revision<R: Wait>(&self, rt: &R) -> Result<i64, Refusal>
-        ensures is { IfOk result (λ revision. IsRevision self.now.opening.number revision) }
+        ensures is { IfOk result (λ revision. IsRevisionOf self.now.opening revision) }
         ensures refused { IfErr result (λ r. IsUncalled r) }
     {
         revision_there(&*self.kept.lock(rt), self.opening)
     }
 
-    /// What the tenant uses, read under its lock. It promises nothing beyond its refusals, which are those of `call`: a
-    /// call that comes between may change it.
+    /// What the tenant uses, read under its lock. It is refused as `call` is.
     pub fn usage<R: Wait>(&self, rt: &R) -> Result<Usage, Refusal>
-        ensures { IfErr result (λ r. IsUncalled r) }
+        ensures is { IfOk result (λ usage. IsUsage self.now.opening usage) }
+        ensures refused { IfErr result (λ r. IsUncalled r) }
     {
         usage_there(&*self.kept.lock(rt), self.opening)
     }
 
     /// The same for who can't wait; none where a call is under way.
     pub fn usage_if_idle(&self) -> Option<Result<Usage, Refusal>>
-        ensures { IfSome result (λ told. IfErr told (λ r. IsUncalled r)) }
+        ensures is { IfSome result (λ told. IfOk told (λ usage. IsUsage self.now.opening usage)) }
+        ensures refused { IfSome result (λ told. IfErr told (λ r. IsUncalled r)) }
     {
         let kept = self.kept.try_lock()?;
         Some(usage_there(&*kept, self.opening))
@@ -176,7 +178,7 @@ fn there(kept: &Option<Kept>, opening: Opening) -> Option<&Kept>
 
 /// The current revision of the tenant that was opened so, if it is under the lock.
 fn revision_there(kept: &Option<Kept>, opening: Opening) -> Result<i64, Refusal>
-    ensures is { IfOk result (λ revision. IsRevision opening.number revision) }
+    ensures is { IfOk result (λ revision. IsRevisionOf opening revision) }
     ensures refused { IfErr result (λ r. IsUncalled r) }
 {
     let Some(kept) = there(kept, opening) else {
@@ -190,7 +192,8 @@ fn revision_there(kept: &Option<Kept>, opening: Opening) -> Result<i64, Refusal>
 
 /// What the tenant that was opened so uses, if it is under the lock.
 fn usage_there(kept: &Option<Kept>, opening: Opening) -> Result<Usage, Refusal>
-    ensures { IfErr result (λ r. IsUncalled r) }
+    ensures is { IfOk result (λ usage. IsUsage opening usage) }
+    ensures refused { IfErr result (λ r. IsUncalled r) }
 {
     let Some(kept) = there(kept, opening) else {
         return Err(Refusal::NoTenant);

@@ -19,7 +19,7 @@ mod usage;
 
 pub use adding::{TenantConfig, check};
 pub use gate::{Gate, OpenGate};
-pub use kept::{Kept, Receipt, Resized, Served};
+pub use kept::{Ended, Kept, Receipt, Resized, Served};
 pub use key::Key;
 pub use registry::{Registry, SeatFault};
 pub use seated::{SeatedCalls, WatchHint};

@@ -19,7 +19,7 @@ ghost use Rattle.tenant_calls.specs.Answers.{IsUncalled};
 use crate::adding::{TenantConfig, admit, check, left_of};
 use crate::close::close;
 use crate::gate::{Gate, pass};
-use crate::kept::{Kept, Receipt, Resized, Served};
+use crate::kept::{Ended, Kept, Receipt, Resized, Served};
 use crate::key::{Key, keys_to};
 use crate::removing::{is_one_of, take_out};
 use crate::tenant::{Lock, Tenant};
@@ -31,7 +31,7 @@ use std::alloc::Global;
 use std::marker::Model;
 use std::rt::Clock;
 use std::sync::{Mutex, Wait};
-use tenant_audit::{Audit, CloseFault, Closed, Opening, Seat, Sheet};
+use tenant_audit::{CloseFault, Closed, Opening, Seat, Sheet};
 use tenant_rules::{OperatorFault, is_name, is_quota};
 
 /// Why no seat is given.
@@ -197,12 +197,12 @@ impl Registry {
         }
     }
 
-    /// Removes a tenant with all that it has, and hands out its audit. Its segments are free again, and its
-    /// name stays taken. After a fault nothing changed.
-    pub fn remove(&mut self, name: &[u8]) -> Result<Audit, OperatorFault>
+    /// Removes a tenant with all that it has, and hands out what was ended, with its audit. Its segments are free
+    /// again, and its name stays taken. After a fault nothing changed.
+    pub fn remove(&mut self, name: &[u8]) -> Result<Ended, OperatorFault>
         ensures removes { OnOk result (self.new ≡ without self.old name.now) }
-        ensures tenant { IfOk result (λ audit. opening_in self.old name.now ≡ Some audit.opening) }
-        ensures lawful { IfOk result (λ audit. IsLawful audit) }
+        ensures tenant { IfOk result (λ ended. opening_in self.old name.now ≡ Some ended.audit.opening) }
+        ensures lawful { IfOk result (λ ended. IsLawful ended.audit) }
         ensures none { OnOk result (remove_fault self.old name.now ≡ None) }
         ensures fault { IfErr result (λ f. f ≡ unmade (remove_fault self.old name.now)) }
         ensures err { OnErr result (self.new ≡ self.old) }
@@ -219,7 +219,7 @@ impl Registry {
         match take_out(&mut self.tenants, self.free.get_mut(), name) {
             Ok((name, ended)) => {
                 self.gone.push_reserved(name);
-                Ok(ended.into_audit())
+                Ok(ended)
             }
             Err(_) => Err(OperatorFault::Memory),
         }

@@ -130,6 +130,7 @@ impl<G: Gate> TenantCalls for SeatedCalls<'_, G> {
         Ok(receipt)
     }
 
+    #[tactic(auto, using(crate::proofs::SeatedLemmas::revision_of))]
     fn revision<R: Wait>(&self, rt: &R, key: &Key) -> Result<i64, Refusal>
         ensures read { IfOk result (λ revision. IsRevision key.now.opening.number revision) }
         ensures refused { IfErr result (λ r. IsUncalled r) }

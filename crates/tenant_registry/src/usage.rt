@@ -1,4 +1,12 @@
 //! What a tenant uses.
+ghost use Rattle.std.specs.Prelude.{◌≡◌, IfOk, OnOk};
+ghost use Rattle.etcd_model.specs.declared.state.History.{History};
+ghost use Rattle.etcd_model.specs.declared.state.State.{State};
+ghost use Rattle.etcd_model.specs.Held.{Holds};
+ghost use Rattle.tenant_machine.specs.Tenants.{tenant};
+ghost use Rattle.tenant_registry.specs.Using.{HasSegments, TakesOver, UsesOf};
+ghost use Rattle.tenant_registry.specs.Using.{count_of_keys, raised_alarms, with_told};
+
 use etcd_types::limits::CELL_BYTES;
 use etcd_types::{
     AlarmAction, AlarmKind, AlarmReq, List, Mem, RangeReq, Reply, SortOrder, SortTarget, Step,
@@ -42,7 +50,11 @@ impl Usage {
         machine: &Machine,
         reserved: u32,
         drawn: u32,
-    ) -> Mem<Usage> {
+    ) -> Mem<Usage>
+        ensures uses { IfOk result
+            (λ usage. (S : State History) → Holds S (tenant machine.now) → UsesOf opening S usage) }
+        ensures segments { IfOk result (λ usage. HasSegments reserved drawn usage) }
+    {
         let mut usage = Usage {
             cluster: opening.cluster,
             first: opening.first,
@@ -56,15 +68,28 @@ impl Usage {
             leases: 0,
             no_space: false,
         };
-        usage.take_over(machine.plan(alloc, &Step::Status)?.reply());
-        usage.take_over(machine.plan(alloc, &all_keys(alloc)?)?.reply());
-        usage.take_over(machine.plan(alloc, &Step::Leases)?.reply());
-        usage.take_over(machine.plan(alloc, &raised_alarms())?.reply());
+        usage.ask(alloc, machine, Step::Status)?;
+        usage.ask(alloc, machine, count_of_keys(alloc)?)?;
+        usage.ask(alloc, machine, Step::Leases)?;
+        usage.ask(alloc, machine, raised_alarms())?;
         Ok(usage)
     }
 
+    /// Takes over what a machine would reply to a step.
+    fn ask(&mut self, alloc: Global, machine: &Machine, step: Step) -> Mem<()>
+        ensures takes { OnOk result (TakesOver machine.now step self.old self.new) }
+        ensures segments { HasSegments self.old.reserved self.old.drawn self.new }
+    {
+        let planned = machine.plan(alloc, &step)?;
+        self.take_over(planned.reply());
+        Ok(())
+    }
+
     /// Takes over what a reply tells.
-    fn take_over(&mut self, reply: &Reply) {
+    fn take_over(&mut self, reply: &Reply)
+        ensures takes { self.new ≡ with_told self.old reply.now }
+        ensures segments { HasSegments self.old.reserved self.old.drawn self.new }
+    {
         match reply {
             Reply::Status {
                 header,
@@ -84,7 +109,9 @@ impl Usage {
 }
 
 /// Asks how many live keys there are.
-fn all_keys(alloc: Global) -> Mem<Step> {
+fn count_of_keys(alloc: Global) -> Mem<Step>
+    ensures { IfOk result (λ step. step ≡ count_of_keys) }
+{
     Ok(Step::Range(RangeReq {
         key: List::from_slice(alloc, &[0])?,
         range_end: List::from_slice(alloc, &[0])?,
@@ -103,7 +130,9 @@ fn all_keys(alloc: Global) -> Mem<Step> {
 }
 
 /// Asks whether an alarm is raised.
-fn raised_alarms() -> Step {
+fn raised_alarms() -> Step
+    ensures { result ≡ raised_alarms }
+{
     Step::Alarm(AlarmReq {
         action: AlarmAction::Get,
         member: 0,

@@ -1,5 +1,6 @@
 //! Calls, turns, seats and closing, by worked examples.
 mod live;
+mod removed;
 mod threads;
 
 use etcd_types::limits::MAX_SEATS;

@@ -1,4 +1,4 @@
-use Rattle.std.proofs.Common.{◌∙◌, ap, sym, Bool, cond, Some, true≢false}
+use Rattle.std.proofs.Common.{◌∙◌, ap, sym, Bool, cond, true≢false}
 use Rattle.std.specs.Option.{option_copied}
 use Rattle.etcd_types.specs.declared.refusal.Refusal.TheVariants.{Memory, NoTenant}
 use Rattle.tenant_registry.proofs.RegistryLemmas.{opening_there, told_there}
