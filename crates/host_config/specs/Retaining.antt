@@ -1,5 +1,6 @@
 -- What of its history a tenant is told to keep.
-use Rattle.std.specs.Prelude.{ℕ, ◌*◌, ◌^◌, ◌==◌, nat_le, List, codes, if◌then◌else◌}
+use Rattle.std.specs.Prelude.{ℕ, ◌*◌, ◌^◌, ◌++◌, ◌==◌, nat_le, List, codes, if◌then◌else◌}
+use Rattle.std.specs.Fmt.{decimal}
 use Rattle.std.specs.Prelude.{Option, Some, None, option_and_then, option_map}
 use Rattle.std.specs.Option.{option_or}
 use Rattle.std.specs.Str.{bytes_eq}
@@ -59,8 +60,13 @@ change_or (Some d) kept = kept
 unfoldable pub retention_change_in : Data → Option Retention
 retention_change_in d = change_or (member (codes "auto_compaction_retention") d) (retention_in d)
 
--- the name of what a retention counts
+-- how a retention is told: the name of what it counts, and its text
 abbrev pub mode_name : Retention → List ℕ
 mode_name All = codes "periodic"
 mode_name (Seconds s) = codes "periodic"
 mode_name (Revisions n) = codes "revision"
+
+abbrev pub retention_text : Retention → List ℕ
+retention_text All = codes "0"
+retention_text (Seconds s) = decimal s ++ codes "s"
+retention_text (Revisions n) = decimal n

@@ -1,11 +1,11 @@
 //! What of its history a tenant is told to keep.
 ghost use Rattle.std.specs.Prelude.{◌≡◌, ◌+◌, ◌*◌, List, ℕ, ◌∷◌, None, Some, IfOk};
-ghost use Rattle.std.specs.Prelude.{option_and_then, option_map, if◌then◌else◌};
+ghost use Rattle.std.specs.Prelude.{option_and_then, option_map, string_bytes, if◌then◌else◌};
 ghost use Rattle.std.specs.Char.{is_ascii_digit};
 ghost use Rattle.serde_json.specs.View.{view};
 ghost use Rattle.host_config.specs.Durations.{fitting, seconds_if, seconds_of, seconds_with, with_digit};
 ghost use Rattle.host_config.specs.Retaining.{for_revisions, for_seconds, mode_in, mode_name};
-ghost use Rattle.host_config.specs.Retaining.{retention_change_in, retention_in, time_of};
+ghost use Rattle.host_config.specs.Retaining.{retention_change_in, retention_in, retention_text, time_of};
 
 use crate::members::{ConfigFault, member, number_in};
 use auto_compaction::{MAX_RETENTION, Retention};
@@ -60,7 +60,8 @@ pub fn retention_change_of(object: &Value) -> Result<Option<Retention>, ConfigFa
 
 /// The members by which a tenant is told to keep this.
 pub fn retention_told(alloc: Global, retention: Retention) -> Mem<(&'static str, String)>
-    ensures { IfOk result (λ told. told.0.now ≡ mode_name retention) }
+    ensures mode { IfOk result (λ told. told.0.now ≡ mode_name retention) }
+    ensures text { IfOk result (λ told. string_bytes told.1 ≡ retention_text retention) }
 {
     Ok(match retention {
         Retention::All => ("periodic", String::from_str(alloc, "0")?),
