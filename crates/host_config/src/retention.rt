@@ -1,5 +1,5 @@
 //! What of its history a tenant is told to keep.
-ghost use Rattle.std.specs.Prelude.{◌≡◌, ◌+◌, ◌*◌, List, ℕ, ◌∷◌, None, Some, IfOk};
+ghost use Rattle.std.specs.Prelude.{◌≡◌, ◌+◌, ◌*◌, List, ℕ, ◌∷◌, None, Some, IfErr, IfOk};
 ghost use Rattle.std.specs.Prelude.{option_and_then, option_map, string_bytes, if◌then◌else◌};
 ghost use Rattle.std.specs.Char.{is_ascii_digit};
 ghost use Rattle.serde_json.specs.View.{view};
@@ -32,7 +32,8 @@ enum Mode {
 /// What of its history a tenant keeps, by the members of its object: all where nothing is told.
 #[tactic(auto, unfolding(crate::specs::Retaining::retention_in))]
 pub(crate) fn retention_of(object: &Value) -> Result<Retention, ConfigFault>
-    ensures { IfOk result (λ kept. retention_in (view object.now) ≡ Some kept) }
+    ensures kept { IfOk result (λ kept. retention_in (view object.now) ≡ Some kept) }
+    ensures fault { IfErr result (λ fault. fault ≡ ConfigFault.Unreadable) }
 {
     let mode = mode_of(object)?;
     let Some(told) = member(object, "auto_compaction_retention") else {
@@ -47,7 +48,8 @@ pub(crate) fn retention_of(object: &Value) -> Result<Retention, ConfigFault>
 /// The change that is asked for; none where nothing is told. A mode by itself says nothing.
 #[tactic(auto, unfolding(crate::specs::Retaining::retention_change_in))]
 pub fn retention_change_of(object: &Value) -> Result<Option<Retention>, ConfigFault>
-    ensures { IfOk result (λ change. retention_change_in (view object.now) ≡ change) }
+    ensures change { IfOk result (λ change. retention_change_in (view object.now) ≡ change) }
+    ensures fault { IfErr result (λ fault. fault ≡ ConfigFault.Unreadable) }
 {
     let has_mode = member(object, "auto_compaction_mode").is_some();
     let has_retention = member(object, "auto_compaction_retention").is_some();
@@ -72,7 +74,8 @@ pub fn retention_told(alloc: Global, retention: Retention) -> Mem<(&'static str,
 
 #[tactic(auto, unfolding(crate::specs::Retaining::mode_in))]
 fn mode_of(object: &Value) -> Result<Mode, ConfigFault>
-    ensures { IfOk result (λ mode. mode_in (view object.now) ≡ Some mode) }
+    ensures mode { IfOk result (λ mode. mode_in (view object.now) ≡ Some mode) }
+    ensures fault { IfErr result (λ fault. fault ≡ ConfigFault.Unreadable) }
 {
     match member(object, "auto_compaction_mode") {
         None => Ok(Mode::Periodic),
@@ -84,7 +87,8 @@ fn mode_of(object: &Value) -> Result<Mode, ConfigFault>
 
 /// A number of revisions.
 fn of_revisions(count: u64) -> Result<Retention, ConfigFault>
-    ensures { IfOk result (λ kept. for_revisions count ≡ Some kept) }
+    ensures kept { IfOk result (λ kept. for_revisions count ≡ Some kept) }
+    ensures fault { IfErr result (λ fault. fault ≡ ConfigFault.Unreadable) }
 {
     match count {
         0 => Ok(Retention::All),
@@ -94,7 +98,8 @@ fn of_revisions(count: u64) -> Result<Retention, ConfigFault>
 }
 
 fn of_seconds(seconds: u64) -> Result<Retention, ConfigFault>
-    ensures { IfOk result (λ kept. for_seconds seconds ≡ Some kept) }
+    ensures kept { IfOk result (λ kept. for_seconds seconds ≡ Some kept) }
+    ensures fault { IfErr result (λ fault. fault ≡ ConfigFault.Unreadable) }
 {
     match seconds {
         0 => Ok(Retention::All),
@@ -106,7 +111,8 @@ fn of_seconds(seconds: u64) -> Result<Retention, ConfigFault>
 /// The seconds that a member tells: a text like `1h30m`, or a number of hours.
 #[tactic(auto, unfolding(crate::specs::Retaining::time_of))]
 fn time_in(told: &Value) -> Result<u64, ConfigFault>
-    ensures { IfOk result (λ seconds. time_of (view told.now) ≡ Some seconds) }
+    ensures seconds { IfOk result (λ seconds. time_of (view told.now) ≡ Some seconds) }
+    ensures fault { IfErr result (λ fault. fault ≡ ConfigFault.Unreadable) }
 {
     if let Value::String(text) = told
         && let Some(seconds) = seconds_in(text.as_str().as_bytes())

@@ -1,5 +1,5 @@
 //! What a tenant is told to have: its quota, its audit, and what its clients may take.
-ghost use Rattle.std.specs.Prelude.{◌≡◌, ◌≤◌, codes, IfOk, IfSome, Some};
+ghost use Rattle.std.specs.Prelude.{◌≡◌, ◌≤◌, codes, IfErr, IfOk, IfSome, Some};
 ghost use Rattle.serde_json.specs.View.{view};
 ghost use Rattle.host_config.specs.Allowing.{AreChanges, IsAllowance, IsBudget, usual_budget};
 ghost use Rattle.host_config.specs.Numbers as specs;
@@ -41,7 +41,8 @@ pub fn tenant_of(alloc: Global, object: &Value) -> Result<TenantConfig, ConfigFa
 
 /// What the clients of a tenant of that quota may take, by the members of its object.
 pub fn allowance_of(object: &Value, quota: u64) -> Result<Allowance, ConfigFault>
-    ensures { IfOk result (λ allowance. IsAllowance (view object.now) quota allowance) }
+    ensures allowance { IfOk result (λ allowance. IsAllowance (view object.now) quota allowance) }
+    ensures fault { IfErr result (λ fault. fault ≡ ConfigFault.Unreadable) }
 {
     let absent = usual_budget(quota);
     Ok(Allowance {
@@ -56,6 +57,7 @@ pub(crate) fn open_connections_of(object: &Value) -> Result<Option<usize>, Confi
     ensures told { IfOk result
         (λ most. specs.told_number (codes "open_connections") (view object.now) ≡ most) }
     ensures some { IfOk result (λ most. IfSome most (λ n. 1 ≤ n)) }
+    ensures fault { IfErr result (λ fault. fault ≡ ConfigFault.Unreadable) }
 {
     match told_number(object, "open_connections")? {
         None => Ok(None),
@@ -79,6 +81,7 @@ fn usual_budget(quota: u64) -> u64
 fn budget_within(budget: u64) -> Result<usize, ConfigFault>
     ensures same { IfOk result (λ bytes. bytes ≡ budget) }
     ensures bounded { IfOk result (λ bytes. IsBudget bytes) }
+    ensures fault { IfErr result (λ fault. fault ≡ ConfigFault.Unreadable) }
 {
     if budget < MIN_BUDGET || budget > MAX_BUDGET {
         return Err(ConfigFault::Unreadable);
@@ -99,7 +102,8 @@ pub struct Changes {
 
 /// The changes that a body of the operator asks for.
 pub fn changes_of(object: &Value) -> Result<Changes, ConfigFault>
-    ensures { IfOk result (λ changes. AreChanges (view object.now) changes) }
+    ensures changes { IfOk result (λ changes. AreChanges (view object.now) changes) }
+    ensures fault { IfErr result (λ fault. fault ≡ ConfigFault.Unreadable) }
 {
     let quota = told_number(object, "quota")?;
     let budget = match told_number(object, "budget")? {
@@ -115,8 +119,9 @@ pub fn changes_of(object: &Value) -> Result<Changes, ConfigFault>
 
 /// How many segments are to be made, by a body of the operator.
 pub fn more_segments_of(object: &Value) -> Result<u64, ConfigFault>
-    ensures { IfOk result
+    ensures count { IfOk result
         (λ count. specs.told_number (codes "segments") (view object.now) ≡ Some count) }
+    ensures fault { IfErr result (λ fault. fault ≡ ConfigFault.Unreadable) }
 {
     match told_number(object, "segments")? {
         Some(count) => Ok(count),
