@@ -1,6 +1,7 @@
 //! Why the server ends early.
 ghost use Rattle.std.specs.Prelude.{◌≡◌, ◌≢◌};
-ghost use Rattle.etcd_host.specs.Faults.{status_of};
+ghost use Rattle.std.specs.IoError.{error_kind};
+ghost use Rattle.etcd_host.specs.Faults.{status_of, unless_memory};
 
 use host_sessions::{ConfigFault, ListenFault, ServeFault};
 use std::alloc::AllocError;
@@ -40,7 +41,9 @@ impl HostFault {
 
 impl HostFault {
     /// What it is that no socket listens.
-    pub(crate) fn of_listening(error: &io::Error) -> HostFault {
+    pub(crate) fn of_listening(error: &io::Error) -> HostFault
+        ensures { result ≡ unless_memory (error_kind error.now) HostFault.Listen }
+    {
         match error.kind() {
             io::ErrorKind::OutOfMemory => HostFault::Memory,
             _ => HostFault::Listen,
@@ -48,7 +51,9 @@ impl HostFault {
     }
 
     /// What it is that the configuration could not be read to its end.
-    pub(crate) fn of_input(error: &io::Error) -> HostFault {
+    pub(crate) fn of_input(error: &io::Error) -> HostFault
+        ensures { result ≡ unless_memory (error_kind error.now) HostFault.Io }
+    {
         match error.kind() {
             io::ErrorKind::OutOfMemory => HostFault::Memory,
             _ => HostFault::Io,

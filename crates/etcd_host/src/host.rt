@@ -1,5 +1,6 @@
 //! From the configuration to the end.
-ghost use Rattle.std.specs.Prelude.{◌≡◌, ◌≢◌, IfErr, IfOk, length};
+ghost use Rattle.std.specs.Prelude.{◌≡◌, ◌≢◌, IfErr, IfOk, OnOk, length};
+ghost use Rattle.etcd_host.specs.Closing.{HaveClosed, HaveDiffered};
 
 use crate::fault::HostFault;
 use etcd_types::limits::MAX_CONFIG;
@@ -141,11 +142,17 @@ where
 }
 
 /// Closes the registry, whose audits have to be the seats' lists, and says so.
-fn close(rt: &impl Print, registry: Registry, seats: Vec<Seat>) -> Result<(), HostFault> {
+fn close(rt: &impl Print, registry: Registry, seats: Vec<Seat>) -> Result<(), HostFault>
+    ensures ok { OnOk result (HaveClosed registry.tenants seats.items) }
+    ensures mismatch { IfErr result
+        (λ fault. fault ≡ HostFault.Mismatch → HaveDiffered registry.tenants seats.items) }
+{
     let fault = match registry.close(seats) {
         Ok(_) => {
-            println!(rt; "closed")?;
-            return Ok(());
+            return match println!(rt; "closed") {
+                Ok(()) => Ok(()),
+                Err(_) => Err(HostFault::Io),
+            };
         }
         Err(fault) => HostFault::from(fault),
     };

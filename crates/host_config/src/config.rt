@@ -1,10 +1,17 @@
 //! What the server is told at its start.
-use crate::members::{ConfigFault, member, number, object_of, text_of};
+ghost use Rattle.std.specs.Prelude.{◌≡◌, ◌+◌, ◌≤◌, codes, length, option_map, IfOk, Some};
+ghost use Rattle.serde_json.specs.Data.{Data};
+ghost use Rattle.serde_json.specs.Read.{read};
+ghost use Rattle.serde_json.specs.View.{items_view, view};
+ghost use Rattle.host_config.specs.Configuring.{AreTenants, HasTenants, IsConfig, IsOperator};
+ghost use Rattle.host_config.specs.Configuring.{IsPatience, IsPatient, token_in};
+ghost use Rattle.host_config.specs.Numbers as specs;
+
+use crate::members::{ConfigFault, member, number, object_of, text_of, told_number};
 use crate::tenants::{allowance_of, open_connections_of, tenant_of};
 use connection_table::{Allowance, LOOPS, MAX_PATIENCE, Patience};
 use etcd_types::limits::{DEFAULT_SEGMENTS, MAX_CONFIG, MAX_WORKERS};
 use fair_turns::BESIDE_WORKERS;
-use gateway_json::read_unsigned;
 use serde_json::Value;
 use std::alloc::Global;
 use std::net::SocketAddr;
@@ -64,14 +71,21 @@ pub struct OperatorConfig {
 impl Config {
     /// How many seats `Sessions::serve` is to be given: one for each worker, for the clock, the pump and the
     /// catch-up worker, and for each of the four event loops that read and write sockets.
-    pub fn seats(&self) -> usize {
+    pub fn seats(&self) -> usize
+        ensures { self.now.workers ≤ MAX_WORKERS
+            → result ≡ self.now.workers + (BESIDE_WORKERS + LOOPS) }
+    {
         self.workers.saturating_add(BESIDE_WORKERS + LOOPS)
     }
 }
 
 /// Reads the JSON object of a configuration, and refuses tenants that no registry takes. Members that it does
 /// not know are passed over.
-pub fn read_config(alloc: Global, text: &[u8]) -> Result<Config, ConfigFault> {
+pub fn read_config(alloc: Global, text: &[u8]) -> Result<Config, ConfigFault>
+    ensures short { IfOk result (λ config. length text.now ≤ MAX_CONFIG) }
+    ensures told { IfOk result
+        (λ config. (d : Data) × (read text.now ≡ Some d) × IsConfig d config) }
+{
     if text.len() > MAX_CONFIG {
         return Err(ConfigFault::Unreadable);
     }
@@ -79,15 +93,16 @@ pub fn read_config(alloc: Global, text: &[u8]) -> Result<Config, ConfigFault> {
     config_of(alloc, &object)
 }
 
-fn config_of(alloc: Global, object: &Value) -> Result<Config, ConfigFault> {
+fn config_of(alloc: Global, object: &Value) -> Result<Config, ConfigFault>
+    ensures { IfOk result (λ config. IsConfig (view object.now) config) }
+{
     let segments = segments_of(object)?;
     let workers = workers_of(object)?;
     let connections = connections_of(object)?;
     let patience = patience_of(object)?;
     let open_connections = open_connections_of(object)?;
     let operator = operator_of(alloc, object)?;
-    let mut allowances = Vec::new(alloc);
-    let tenants = tenants_of(alloc, object, &mut allowances)?;
+    let (tenants, allowances) = tenants_of(alloc, object)?;
     if check(segments, tenants.as_slice()).is_err() {
         return Err(ConfigFault::Unreadable);
     }
@@ -104,13 +119,20 @@ fn config_of(alloc: Global, object: &Value) -> Result<Config, ConfigFault> {
     })
 }
 
-fn segments_of(object: &Value) -> Result<u32, ConfigFault> {
+fn segments_of(object: &Value) -> Result<u32, ConfigFault>
+    ensures { IfOk result
+        (λ n. specs.number (codes "segments") DEFAULT_SEGMENTS (view object.now) ≡ Some n) }
+{
     u32::try_from(number(object, "segments", DEFAULT_SEGMENTS.into())?).map_err(
         |_| ConfigFault::Unreadable,
     )
 }
 
-fn workers_of(object: &Value) -> Result<usize, ConfigFault> {
+fn workers_of(object: &Value) -> Result<usize, ConfigFault>
+    ensures told { IfOk result (λ n. specs.number (codes "workers") 4 (view object.now) ≡ Some n) }
+    ensures some { IfOk result (λ n. 1 ≤ n) }
+    ensures few { IfOk result (λ n. n ≤ MAX_WORKERS) }
+{
     let workers = number(object, "workers", DEFAULT_WORKERS)?;
     if workers == 0 || workers > MAX_WORKERS as u64 {
         return Err(ConfigFault::Unreadable);
@@ -118,17 +140,21 @@ fn workers_of(object: &Value) -> Result<usize, ConfigFault> {
     Ok(workers as usize)
 }
 
-fn connections_of(object: &Value) -> Result<Option<u32>, ConfigFault> {
-    match member(object, "connections") {
+fn connections_of(object: &Value) -> Result<Option<u32>, ConfigFault>
+    ensures { IfOk result (λ n. specs.told_number (codes "connections") (view object.now) ≡ n) }
+{
+    match told_number(object, "connections")? {
         None => Ok(None),
-        member => match read_unsigned(member).map(u32::try_from) {
-            Ok(Ok(connections)) => Ok(Some(connections)),
-            _ => Err(ConfigFault::Unreadable),
+        Some(told) => match u32::try_from(told) {
+            Ok(connections) => Ok(Some(connections)),
+            Err(_) => Err(ConfigFault::Unreadable),
         },
     }
 }
 
-fn patience_of(object: &Value) -> Result<Patience, ConfigFault> {
+fn patience_of(object: &Value) -> Result<Patience, ConfigFault>
+    ensures { IfOk result (λ patience. IsPatience (view object.now) patience) }
+{
     let default = Patience::DEFAULT;
     Ok(Patience {
         head: seconds_of(object, "head_seconds", default.head)?,
@@ -139,7 +165,10 @@ fn patience_of(object: &Value) -> Result<Patience, ConfigFault> {
 }
 
 /// A number of seconds, from one to those of a day.
-fn seconds_of(object: &Value, name: &str, absent: u32) -> Result<u32, ConfigFault> {
+fn seconds_of(object: &Value, name: &str, absent: u32) -> Result<u32, ConfigFault>
+    ensures told { IfOk result (λ s. specs.number name.now absent (view object.now) ≡ Some s) }
+    ensures bounded { IfOk result (λ s. IsPatient s) }
+{
     match u32::try_from(number(object, name, absent.into())?) {
         Ok(seconds) if seconds >= 1 && seconds <= MAX_PATIENCE => Ok(seconds),
         _ => Err(ConfigFault::Unreadable),
@@ -147,40 +176,51 @@ fn seconds_of(object: &Value, name: &str, absent: u32) -> Result<u32, ConfigFaul
 }
 
 /// The tenants, with what the clients of each may take.
+#[tactic(auto, unfolding(crate::specs::Configuring::HasTenants, crate::specs::Configuring::tenants_in))]
 fn tenants_of(
     alloc: Global,
     object: &Value,
-    allowances: &mut Vec<Allowance>,
-) -> Result<Vec<TenantConfig>, ConfigFault> {
-    let mut tenants = Vec::new(alloc);
+) -> Result<(Vec<TenantConfig>, Vec<Allowance>), ConfigFault>
+    ensures { IfOk result (λ told. HasTenants (view object.now) told.0.items told.1.items) }
+{
     match member(object, "tenants") {
-        None => {}
-        Some(Value::Array(values)) => {
-            for value in values.as_slice() {
-                let tenant = tenant_of(alloc, value)?;
-                let allowance = allowance_of(value, tenant.quota)?;
-                if allowances.push(allowance).is_err() || tenants.push(tenant).is_err() {
-                    return Err(ConfigFault::Memory);
-                }
-            }
-        }
-        Some(_) => return Err(ConfigFault::Unreadable),
+        None => Ok((Vec::new(alloc), Vec::new(alloc))),
+        Some(Value::Array(values)) => tenants_in(alloc, values.as_slice()),
+        Some(_) => Err(ConfigFault::Unreadable),
     }
-    Ok(tenants)
+}
+
+/// The tenants of a list.
+#[tactic(auto, using(crate::proofs::TenantLemmas::tenant_more))]
+fn tenants_in(
+    alloc: Global,
+    values: &[Value],
+) -> Result<(Vec<TenantConfig>, Vec<Allowance>), ConfigFault>
+    ensures { IfOk result (λ told. AreTenants (items_view values.now) told.0.items told.1.items) }
+{
+    let mut tenants = Vec::new(alloc);
+    let mut allowances = Vec::new(alloc);
+    for value in values {
+        let tenant = tenant_of(alloc, value)?;
+        let allowance = allowance_of(value, tenant.quota)?;
+        if allowances.push(allowance).is_err() || tenants.push(tenant).is_err() {
+            return Err(ConfigFault::Memory);
+        }
+    }
+    Ok((tenants, allowances))
 }
 
 /// Where the operator is served. An address that others reach has to have a token.
-fn operator_of(alloc: Global, object: &Value) -> Result<Option<OperatorConfig>, ConfigFault> {
+fn operator_of(alloc: Global, object: &Value) -> Result<Option<OperatorConfig>, ConfigFault>
+    ensures { IfOk result (λ operator. IsOperator (view object.now) operator) }
+{
     if member(object, "operator").is_none() {
         return Ok(None);
     }
     let Ok(listen) = text_of(alloc, object, "operator")?.parse::<SocketAddr>() else {
         return Err(ConfigFault::Unreadable);
     };
-    let token = match member(object, "operator_token") {
-        None => None,
-        Some(_) => Some(text_of(alloc, object, "operator_token")?.into_bytes()),
-    };
+    let token = token_of(alloc, object)?;
     let is_safe = match &token {
         Some(token) => !token.is_empty(),
         None => listen.ip().is_loopback(),
@@ -189,4 +229,14 @@ fn operator_of(alloc: Global, object: &Value) -> Result<Option<OperatorConfig>, 
         return Err(ConfigFault::Unreadable);
     }
     Ok(Some(OperatorConfig { listen, token }))
+}
+
+#[tactic(auto, unfolding(crate::specs::Configuring::token_in, crate::specs::Numbers::text))]
+fn token_of(alloc: Global, object: &Value) -> Result<Option<Vec<u8>>, ConfigFault>
+    ensures { IfOk result (λ token. option_map (λ t. t.items) token ≡ token_in (view object.now)) }
+{
+    match member(object, "operator_token") {
+        None => Ok(None),
+        Some(_) => Ok(Some(text_of(alloc, object, "operator_token")?.into_bytes())),
+    }
 }

@@ -1,10 +1,15 @@
 //! What a tenant is told to have: its quota, its audit, and what its clients may take.
-use crate::members::{ConfigFault, member, number, text_of};
+ghost use Rattle.std.specs.Prelude.{◌≡◌, ◌≤◌, codes, IfErr, IfOk, IfSome, Some};
+ghost use Rattle.serde_json.specs.View.{view};
+ghost use Rattle.host_config.specs.Allowing.{AreChanges, IsAllowance, IsBudget, usual_budget};
+ghost use Rattle.host_config.specs.Numbers as specs;
+ghost use Rattle.host_config.specs.Telling.{IsTenant};
+
+use crate::members::{ConfigFault, number, text_of, told_number};
 use crate::retention::retention_of;
 use connection_table::Allowance;
 use etcd_types::limits::CELL_BYTES;
 use fair_turns::DEFAULT_BUDGET;
-use gateway_json::read_unsigned;
 use serde_json::Value;
 use std::alloc::Global;
 use tenant_registry::TenantConfig;
@@ -19,7 +24,9 @@ const MAX_BUDGET: u64 = 1_099_511_627_776;
 const QUOTAS_A_BUDGET: u64 = 4;
 
 /// A tenant, by the members of its object. Whether a registry takes it is not looked at.
-pub fn tenant_of(alloc: Global, object: &Value) -> Result<TenantConfig, ConfigFault> {
+pub fn tenant_of(alloc: Global, object: &Value) -> Result<TenantConfig, ConfigFault>
+    ensures { IfOk result (λ config. IsTenant (view object.now) config) }
+{
     let Ok(audit) = u32::try_from(number(object, "audit", 0)?) else {
         return Err(ConfigFault::Unreadable);
     };
@@ -33,34 +40,49 @@ pub fn tenant_of(alloc: Global, object: &Value) -> Result<TenantConfig, ConfigFa
 }
 
 /// What the clients of a tenant of that quota may take, by the members of its object.
-pub fn allowance_of(object: &Value, quota: u64) -> Result<Allowance, ConfigFault> {
+pub fn allowance_of(object: &Value, quota: u64) -> Result<Allowance, ConfigFault>
+    ensures allowance { IfOk result (λ allowance. IsAllowance (view object.now) quota allowance) }
+    ensures fault { IfErr result (λ fault. fault ≡ ConfigFault.Unreadable) }
+{
+    let absent = usual_budget(quota);
     Ok(Allowance {
-        budget: budget_of(object, quota)?,
+        budget: budget_within(number(object, "budget", absent)?)?,
         open_connections: open_connections_of(object)?,
         retention: retention_of(object)?,
     })
 }
 
 /// A number of connections, from one to those that numbers of 32 bits have.
-pub(crate) fn open_connections_of(object: &Value) -> Result<Option<usize>, ConfigFault> {
-    match member(object, "open_connections") {
+pub(crate) fn open_connections_of(object: &Value) -> Result<Option<usize>, ConfigFault>
+    ensures told { IfOk result
+        (λ most. specs.told_number (codes "open_connections") (view object.now) ≡ most) }
+    ensures some { IfOk result (λ most. IfSome most (λ n. 1 ≤ n)) }
+    ensures fault { IfErr result (λ fault. fault ≡ ConfigFault.Unreadable) }
+{
+    match told_number(object, "open_connections")? {
         None => Ok(None),
-        member => match read_unsigned(member).map(u32::try_from) {
-            Ok(Ok(connections)) if connections >= 1 => Ok(Some(connections as usize)),
+        Some(told) => match u32::try_from(told) {
+            Ok(connections) if connections >= 1 => Ok(Some(connections as usize)),
             _ => Err(ConfigFault::Unreadable),
         },
     }
 }
 
-fn budget_of(object: &Value, quota: u64) -> Result<usize, ConfigFault> {
+/// The budget of a tenant of that quota for which none is told.
+fn usual_budget(quota: u64) -> u64
+    ensures { result ≡ usual_budget quota }
+{
     let of_quota = quota.saturating_mul(CELL_BYTES * QUOTAS_A_BUDGET);
-    let absent = of_quota
+    of_quota
         .saturating_add(DEFAULT_BUDGET as u64)
-        .min(MAX_BUDGET);
-    budget_within(number(object, "budget", absent)?)
+        .min(MAX_BUDGET)
 }
 
-fn budget_within(budget: u64) -> Result<usize, ConfigFault> {
+fn budget_within(budget: u64) -> Result<usize, ConfigFault>
+    ensures same { IfOk result (λ bytes. bytes ≡ budget) }
+    ensures bounded { IfOk result (λ bytes. IsBudget bytes) }
+    ensures fault { IfErr result (λ fault. fault ≡ ConfigFault.Unreadable) }
+{
     if budget < MIN_BUDGET || budget > MAX_BUDGET {
         return Err(ConfigFault::Unreadable);
     }
@@ -79,14 +101,14 @@ pub struct Changes {
 }
 
 /// The changes that a body of the operator asks for.
-pub fn changes_of(object: &Value) -> Result<Changes, ConfigFault> {
-    let quota = match member(object, "quota") {
+pub fn changes_of(object: &Value) -> Result<Changes, ConfigFault>
+    ensures changes { IfOk result (λ changes. AreChanges (view object.now) changes) }
+    ensures fault { IfErr result (λ fault. fault ≡ ConfigFault.Unreadable) }
+{
+    let quota = told_number(object, "quota")?;
+    let budget = match told_number(object, "budget")? {
         None => None,
-        Some(_) => Some(number(object, "quota", 0)?),
-    };
-    let budget = match member(object, "budget") {
-        None => None,
-        Some(_) => Some(budget_within(number(object, "budget", 0)?)?),
+        Some(told) => Some(budget_within(told)?),
     };
     Ok(Changes {
         quota,
@@ -96,9 +118,13 @@ pub fn changes_of(object: &Value) -> Result<Changes, ConfigFault> {
 }
 
 /// How many segments are to be made, by a body of the operator.
-pub fn more_segments_of(object: &Value) -> Result<u64, ConfigFault> {
-    match member(object, "segments") {
-        Some(_) => number(object, "segments", 0),
+pub fn more_segments_of(object: &Value) -> Result<u64, ConfigFault>
+    ensures count { IfOk result
+        (λ count. specs.told_number (codes "segments") (view object.now) ≡ Some count) }
+    ensures fault { IfErr result (λ fault. fault ≡ ConfigFault.Unreadable) }
+{
+    match told_number(object, "segments")? {
+        Some(count) => Ok(count),
         None => Err(ConfigFault::Unreadable),
     }
 }

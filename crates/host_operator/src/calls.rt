@@ -1,4 +1,8 @@
 //! What an operator asks, and why it is refused.
+ghost use Rattle.std.specs.Prelude.{◌≡◌, IfErr, IfOk};
+ghost use Rattle.host_operator.specs.Asking.{Asks, is_path, unasked};
+ghost use Rattle.host_operator.specs.Refusals.{status_of, text_of};
+
 use host_config::ConfigFault;
 use std::alloc::AllocError;
 use tenant_rules::OperatorFault;
@@ -30,14 +34,17 @@ pub(crate) enum OperatorCall<'a> {
 
 impl<'a> OperatorCall<'a> {
     /// The call of a method and a path.
-    pub(crate) fn of(method: &str, path: &'a str) -> Result<OperatorCall<'a>, OperatorRefusal> {
+    pub(crate) fn of(method: &str, path: &'a str) -> Result<OperatorCall<'a>, OperatorRefusal>
+        ensures asks { IfOk result (λ call. Asks method.now path.now call) }
+        ensures refused { IfErr result (λ refusal. refusal ≡ unasked path.now) }
+    {
         if let Some(name) = path.strip_prefix("/tenants/") {
             let name = name.as_bytes();
             return match method {
                 "GET" => Ok(OperatorCall::Show(name)),
                 "PATCH" => Ok(OperatorCall::Change(name)),
                 "DELETE" => Ok(OperatorCall::Remove(name)),
-                _ => Err(OperatorRefusal::Method),
+                _ => Err(unasked(path)),
             };
         }
         match (path, method) {
@@ -48,11 +55,31 @@ impl<'a> OperatorCall<'a> {
             ("/health", "GET") => Ok(OperatorCall::Health),
             ("/ready", "GET") => Ok(OperatorCall::Ready),
             ("/stop", "POST") => Ok(OperatorCall::Stop),
-            ("/tenants" | "/pool" | "/metrics" | "/health" | "/ready" | "/stop", _) => {
-                Err(OperatorRefusal::Method)
-            }
-            _ => Err(OperatorRefusal::Path),
+            _ => Err(unasked(path)),
         }
+    }
+}
+
+/// The path has calls, and is none of a tenant.
+fn is_path(path: &str) -> bool
+    ensures { result ≡ is_path path.now }
+{
+    path == "/tenants"
+        || path == "/pool"
+        || path == "/metrics"
+        || path == "/health"
+        || path == "/ready"
+        || path == "/stop"
+}
+
+/// Why nothing is asked: no call has the path, or none of those by the method.
+fn unasked(path: &str) -> OperatorRefusal
+    ensures { result ≡ unasked path.now }
+{
+    if path.starts_with("/tenants/") || is_path(path) {
+        OperatorRefusal::Method
+    } else {
+        OperatorRefusal::Path
     }
 }
 
@@ -79,7 +106,9 @@ impl OperatorRefusal {
     pub(crate) const MEMORY: OperatorRefusal = OperatorRefusal::Fault(OperatorFault::Memory);
 
     /// The status of HTTP.
-    pub(crate) fn status(self) -> u16 {
+    pub(crate) fn status(self) -> u16
+        ensures { result ≡ status_of self }
+    {
         match self {
             OperatorRefusal::Fault(OperatorFault::Name | OperatorFault::Limits) => 422,
             OperatorRefusal::Fault(OperatorFault::Taken) => 409,
@@ -96,7 +125,9 @@ impl OperatorRefusal {
     }
 
     /// The text of the body.
-    pub(crate) fn text(self) -> &'static [u8] {
+    pub(crate) fn text(self) -> &'static [u8]
+        ensures { result.now ≡ text_of self }
+    {
         match self {
             OperatorRefusal::Fault(OperatorFault::Name) => b"{\"error\":\"name\"}\n",
             OperatorRefusal::Fault(OperatorFault::Limits) => b"{\"error\":\"limits\"}\n",
@@ -116,19 +147,27 @@ impl OperatorRefusal {
 }
 
 impl From<OperatorFault> for OperatorRefusal {
-    fn from(fault: OperatorFault) -> OperatorRefusal {
+    fn from(fault: OperatorFault) -> OperatorRefusal
+        ensures { result ≡ OperatorRefusal.Fault fault }
+    {
         OperatorRefusal::Fault(fault)
     }
 }
 
 impl From<AllocError> for OperatorRefusal {
-    fn from(_: AllocError) -> OperatorRefusal {
+    fn from(_: AllocError) -> OperatorRefusal
+        ensures { result ≡ OperatorRefusal.Fault OperatorFault.Memory }
+    {
         OperatorRefusal::MEMORY
     }
 }
 
 impl From<ConfigFault> for OperatorRefusal {
-    fn from(fault: ConfigFault) -> OperatorRefusal {
+    fn from(fault: ConfigFault) -> OperatorRefusal
+        ensures unreadable { fault ≡ ConfigFault.Unreadable → result ≡ OperatorRefusal.Unreadable }
+        ensures memory { fault ≡ ConfigFault.Memory
+            → result ≡ OperatorRefusal.Fault OperatorFault.Memory }
+    {
         match fault {
             ConfigFault::Unreadable => OperatorRefusal::Unreadable,
             ConfigFault::Memory => OperatorRefusal::MEMORY,

@@ -1,4 +1,7 @@
 //! The operator's requests, over HTTP/1.1.
+ghost use Rattle.std.specs.Prelude.{◌≡◌, ◌↔◌, codes, IsTrue, Some, option_map};
+ghost use Rattle.http_header.specs.HeaderMap.{get};
+ghost use Rattle.host_operator.specs.Tokens.{bearer};
 ghost use Rattle.futures.specs.Task.{IsArmed, Keeps};
 ghost use Rattle.futures.specs.Poll.{OnPending};
 
@@ -245,24 +248,36 @@ fn text_of(text: Option<Vec<u8>>) -> Result<Bytes, AllocError> {
 }
 
 /// The head has `authorization: Bearer` and the token.
-fn brings(headers: &HeaderMap, token: &[u8]) -> bool {
+fn brings(headers: &HeaderMap, token: &[u8]) -> bool
+    ensures { IsTrue result ↔ (option_map (λ v. v.bytes) (get headers.now (codes "authorization"))
+        ≡ Some (bearer token.now)) }
+{
     match headers.get(header::AUTHORIZATION) {
-        Some(value) => match value.as_bytes().strip_prefix(b"Bearer ".as_slice()) {
-            Some(brought) => is_same(brought, token),
-            None => false,
-        },
+        Some(value) => is_bearer(value.as_bytes(), token),
+        None => false,
+    }
+}
+
+/// What was brought is `Bearer` and the token.
+fn is_bearer(brought: &[u8], token: &[u8]) -> bool
+    ensures { IsTrue result ↔ (brought.now ≡ bearer token.now) }
+{
+    match brought.strip_prefix(b"Bearer ".as_slice()) {
+        Some(brought) => is_same(brought, token),
         None => false,
     }
 }
 
 /// The two texts are one. How long that takes tells their lengths and nothing else.
-fn is_same(brought: &[u8], token: &[u8]) -> bool {
+fn is_same(brought: &[u8], token: &[u8]) -> bool
+    ensures { IsTrue result ↔ (brought.now ≡ token.now) }
+{
     if brought.len() != token.len() {
         return false;
     }
-    let mut differences = 0u8;
-    for (one, other) in brought.iter().zip(token) {
-        differences |= one ^ other;
+    let mut same = true;
+    for (place, one) in brought.iter().enumerate() {
+        same &= *one == token[place];
     }
-    differences == 0
+    same
 }

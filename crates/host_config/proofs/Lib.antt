@@ -1,0 +1,2 @@
+pub mod DurationLemmas
+pub mod TenantLemmas
