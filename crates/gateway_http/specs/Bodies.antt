@@ -1,5 +1,6 @@
 -- What the body of a response gives: its text, piece by piece, and behind it, text by text, what is taken of a watch.
 use Rattle.std.specs.Prelude.{◌≡◌, ◌+◌, ⊤, ℕ, List, [], ◌∷◌, ◌++◌, length, Option, Some, None, Result, Ok, Err}
+use Rattle.std.specs.declared.alloc.AllocError.{AllocError}
 use Rattle.futures.specs.Runs.{Runs}
 use Rattle.http_body.specs.declared.frame.Frame.{Frame}
 use Rattle.http_body.specs.Frame.{data_frame}
@@ -50,6 +51,10 @@ IsRun text watch (item ∷ items) next = (left : Option (List ℕ)) × IsItem te
 
 abbrev pub run_of : {R E : Type 0} → ResponseBody R → Runs (Result (Frame (List ℕ)) E)
 run_of body = IsRun (text_of body.first) (watch_of body.following)
+
+-- the same with the one error that a body tells
+abbrev pub frames_of : {R : Type 0} → ResponseBody R → Runs (Result (Frame (List ℕ)) AllocError)
+frames_of body = run_of body
 
 -- what a body gives next, if it can
 abbrev pub GivesNext : {R E : Type 0} → ResponseBody R → Option (Result (List ℕ) E) → ResponseBody R → Type 0

@@ -6,7 +6,7 @@ ghost use Rattle.futures.specs.Runs.{After, Within};
 ghost use Rattle.http_header.specs.HeaderMap.{insert};
 ghost use Rattle.fair_turns.specs.Answers.{bytes_of};
 ghost use Rattle.http_body.specs.SizeHint.{exact};
-ghost use Rattle.gateway_http.specs.Bodies.{Counts, GivesNext, bytes_left, length_left, run_of, text_of, told_of, watch_of};
+ghost use Rattle.gateway_http.specs.Bodies.{Counts, GivesNext, bytes_left, frames_of, length_left, run_of, text_of, told_of, watch_of};
 ghost use Rattle.gateway_http.specs.Responses.{Sends};
 
 use crate::exchange::Standing;
@@ -184,14 +184,11 @@ impl<R: Wait + Clock + Drop> Body for ResponseBody<R> {
 
     ghost yields = { run_of };
 
-    fn poll_frame(
-        &mut self,
-        cx: &mut Context<'_>,
-    ) -> Poll<Option<Result<Frame<Piece>, AllocError>>>
-        ensures value { IfReady result (run_of self.old []) }
-        ensures rest { IfReady result (λ told. IfSome told (λ item. After (run_of self.old) item (run_of self.new))) }
+    fn poll_frame(&mut self, cx: &mut Context<'_>) -> Poll<Option<Result<Frame<Piece>, AllocError>>>
+        ensures value { IfReady result (frames_of self.old []) }
+        ensures rest { IfReady result (λ told. IfSome told (λ item. After (frames_of self.old) item (frames_of self.new))) }
         ensures counted { IfReady result (λ told. Counts self.old told self.new) }
-        ensures same { OnPending result (Within (run_of self.old) (run_of self.new)) }
+        ensures same { OnPending result (Within (frames_of self.old) (frames_of self.new)) }
         ensures waits { OnPending result (told_of self.new.following ≡ told_of self.old.following) }
         ensures registered { OnPending result (IsArmed cx.new) }
         ensures kept { Keeps cx.old cx.new }
