@@ -8,7 +8,7 @@ ghost use Rattle.etcd_types.specs.declared.step.Step.TheVariants.{Take};
 ghost use Rattle.futures.specs.Task.{IsArmed, Keeps};
 ghost use Rattle.futures.specs.Poll.{IfReady, OnPending};
 ghost use Rattle.tenant_calls.specs.Answers.{IsTold};
-ghost use Rattle.fair_turns.specs.Watching.{IsTaken};
+ghost use Rattle.fair_turns.specs.Watching.{IsCreated, IsTaken};
 
 use crate::budget::Budget;
 use crate::scheduler::TenantTurns;
@@ -116,6 +116,7 @@ impl<R: Wait + Drop> WatchEnds<R> {
 
     /// The watch was created, in this slot of that tenant.
     pub fn open(self, tenant: u64, slot: u8) -> (ServedWatch, WatchTexts<R>)
+        requires { IsCreated tenant slot }
         ensures served { (result.0.tenant ≡ tenant) × (result.0.slot ≡ slot) }
         ensures texts { (result.1.tenant ≡ tenant) × (result.1.slot ≡ slot) }
     {

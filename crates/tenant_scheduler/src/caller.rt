@@ -302,7 +302,8 @@ fn opened<R: Wait + Drop, K: TenantKey, T: CallReceipt>(
     receipt: T,
     ends: WatchEnds<R>,
 ) -> Answer<R>
-    requires { length clients.old.watches.items < vec_capacity clients.old.watches }
+    requires room { length clients.old.watches.items < vec_capacity clients.old.watches }
+    requires told { (step : Step) × IsTold number step (T.slip_of receipt) }
     ensures answer { (step : Step) → IsTold number step (T.slip_of receipt) → IsAnswer number step result }
     ensures shows { Conveys result (T.slip_of receipt) }
     ensures listed { IsListed number (T.slip_of receipt).slot clients.old.watches.items clients.new.watches.items }

@@ -12,3 +12,6 @@ returns-clause-answer g c = λ step told. created c.args.number step (g.T.CallRe
 
 pub returns-clause-listed : goal.returns-clause-listed
 returns-clause-listed g c = listed c.args.number _ _ c.open-watch.result.0 _ _ (sym c.slot.ensures ∙ c.in-Some.is) (search rules) c.open-watch.ensures.served.0 c.open-watch.ensures.served.1
+
+pub open-watch-requires : goal.open-watch-requires
+open-watch-requires g c = record { step = c.requires.told.0; slip = g.T.CallReceipt.slip_of c.args.receipt; told = c.requires.told.1; is = sym c.slot.ensures ∙ c.in-Some.is }
