@@ -1,9 +1,11 @@
-//! The server's sessions under test: over streams that fail, and beside a call that is held. What they answer over
-//! sockets is asked of the program, by `tools/check-server`.
+//! The server's sessions under test: over streams that fail, and beside a call that is held; and standing orders over days. What
+//! they answer over sockets is asked of the program, by `tools/check-server`.
 #![tactic(auto)]
 
 #[cfg(test)]
 mod held;
+#[cfg(test)]
+mod orders;
 #[cfg(test)]
 mod peer;
 #[cfg(test)]

@@ -15,5 +15,5 @@ returns-in-Err-clause-answer g c = Uncalled c.in-Err.refusal c.in-Err.ensures.re
 pub returns-in-Err-clause-made : goal.returns-in-Err-clause-made
 returns-in-Err-clause-made g c = Unopened c.in-Err.refusal c.in-Err.ensures.unmade c.in-Err.ensures.refused c.refused.ensures refl
 
-pub opened-requires-told : goal.opened-requires-told
-opened-requires-told g c = (c.args.step, g.met.C.TenantCalls.tells c.args.tenant.now.number c.args.step (g.C.Receipt.CallReceipt.slip_of c.in-Ok.receipt) c.in-Ok.ensures.given)
+pub opened-requires-clause-told : goal.opened-requires-clause-told
+opened-requires-clause-told g c = (c.args.step, g.met.C.TenantCalls.tells c.args.tenant.now.number c.args.step (g.C.Receipt.CallReceipt.slip_of c.in-Ok.receipt) c.in-Ok.ensures.given)
