@@ -1,5 +1,5 @@
 -- What the operator asks by a method and a path.
-use Rattle.std.specs.Prelude.{◌≡◌, ℕ, ◌++◌, ◌||◌, Bool, List, codes, nat_eq, if◌then◌else◌}
+use Rattle.std.specs.Prelude.{◌≡◌, ◌⊎◌, ℕ, ◌++◌, ◌||◌, Bool, List, codes, nat_eq, if◌then◌else◌}
 use Rattle.std.specs.List.{starts_with}
 use Rattle.std.specs.Str.{bytes_eq}
 use Rattle.host_operator.specs.declared.calls.OperatorCall.{OperatorCall}
@@ -37,3 +37,16 @@ is_path path =
 -- why nothing is asked: no call has the path, or none of those by the method
 abbrev pub unasked : List ℕ → OperatorRefusal
 unasked path = if starts_with nat_eq path (codes "/tenants/") || is_path path then Method else Path
+
+-- the status of a call that is done
+abbrev pub IsDone : OperatorCall → ℕ → Type 0
+IsDone call.List s = s ≡ 200
+IsDone (call.Show name) s = s ≡ 200
+IsDone call.Add s = s ≡ 201
+IsDone (call.Change name) s = (s ≡ 200) ⊎ (s ≡ 204)
+IsDone (call.Remove name) s = s ≡ 204
+IsDone call.Grow s = s ≡ 200
+IsDone call.Metrics s = s ≡ 200
+IsDone call.Health s = s ≡ 200
+IsDone call.Ready s = s ≡ 200
+IsDone call.Stop s = s ≡ 202

@@ -2,6 +2,11 @@
 //!
 //! The registry is the operator's alone. The threads that serve tenants have their keys, so nobody waits for a change
 //! but the tenant that changes.
+ghost use Rattle.std.specs.Prelude.{◌≡◌, ◌⊎◌, IfOk, OnErr, OnOk};
+ghost use Rattle.tenant_registry.specs.Removing.{without};
+ghost use Rattle.host_operator.specs.Asking.{IsDone};
+ghost use Rattle.host_operator.specs.Registering.{HasAdded};
+
 use crate::calls::{OperatorCall, OperatorRefusal};
 use crate::memory::resident_bytes;
 use crate::metrics::{HostSample, Sample, metrics};
@@ -103,7 +108,9 @@ pub(crate) enum TextKind {
 }
 
 impl OperatorAnswer {
-    fn of(alloc: Global, status: u16, value: &Value) -> Result<OperatorAnswer, AllocError> {
+    fn of(alloc: Global, status: u16, value: &Value) -> Result<OperatorAnswer, AllocError>
+        ensures { IfOk result (λ answer. answer.status ≡ status) }
+    {
         let mut text = value.to_vec(alloc)?;
         text.push(b'\n')?;
         Ok(OperatorAnswer {
@@ -113,7 +120,9 @@ impl OperatorAnswer {
         })
     }
 
-    fn empty(status: u16) -> OperatorAnswer {
+    fn empty(status: u16) -> OperatorAnswer
+        ensures { result.status ≡ status }
+    {
         OperatorAnswer {
             status,
             text: None,
@@ -165,7 +174,9 @@ impl<'x, R: Wait + Clock + Files + AllocGlobal + Copy + Drop> Operator<'x, R> {
         &mut self,
         call: OperatorCall<'_>,
         body: &[u8],
-    ) -> Result<OperatorAnswer, OperatorRefusal> {
+    ) -> Result<OperatorAnswer, OperatorRefusal>
+        ensures { IfOk result (λ answer. IsDone call.entry answer.status) }
+    {
         match call {
             OperatorCall::List => self.list(),
             OperatorCall::Show(name) => self.show(200, name),
@@ -184,7 +195,9 @@ impl<'x, R: Wait + Clock + Files + AllocGlobal + Copy + Drop> Operator<'x, R> {
     }
 
     /// Connections are accepted, and each thread that serves tenants has moved lately.
-    fn ready(&self) -> Result<OperatorAnswer, OperatorRefusal> {
+    fn ready(&self) -> Result<OperatorAnswer, OperatorRefusal>
+        ensures { IfOk result (λ answer. answer.status ≡ 200) }
+    {
         if self.stopping.is_told() {
             return Err(OperatorRefusal::Stopping);
         }
@@ -198,7 +211,9 @@ impl<'x, R: Wait + Clock + Files + AllocGlobal + Copy + Drop> Operator<'x, R> {
     }
 
     /// Makes more segments.
-    fn grow(&mut self, body: &[u8]) -> Result<OperatorAnswer, OperatorRefusal> {
+    fn grow(&mut self, body: &[u8]) -> Result<OperatorAnswer, OperatorRefusal>
+        ensures { IfOk result (λ answer. answer.status ≡ 200) }
+    {
         let object = object_of(self.alloc, body)?;
         let Ok(count) = u32::try_from(more_segments_of(&object)?) else {
             return Err(OperatorFault::Limits.into());
@@ -211,7 +226,10 @@ impl<'x, R: Wait + Clock + Files + AllocGlobal + Copy + Drop> Operator<'x, R> {
     }
 
     /// Adds a tenant and serves it. All memory but the registry's own is taken before.
-    fn add(&mut self, body: &[u8]) -> Result<OperatorAnswer, OperatorRefusal> {
+    fn add(&mut self, body: &[u8]) -> Result<OperatorAnswer, OperatorRefusal>
+        ensures status { IfOk result (λ answer. answer.status ≡ 201) }
+        ensures adds { OnOk result (HasAdded body.now self.old.registry.now self.new.registry.now) }
+    {
         let object = object_of(self.alloc, body)?;
         let config = tenant_of(self.alloc, &object)?;
         retention_in(&object)?;
@@ -249,7 +267,9 @@ impl<'x, R: Wait + Clock + Files + AllocGlobal + Copy + Drop> Operator<'x, R> {
     }
 
     /// Gives a tenant another quota, and then other bounds. After a fault nothing changed.
-    fn change(&mut self, name: &[u8], body: &[u8]) -> Result<OperatorAnswer, OperatorRefusal> {
+    fn change(&mut self, name: &[u8], body: &[u8]) -> Result<OperatorAnswer, OperatorRefusal>
+        ensures { IfOk result (λ answer. (answer.status ≡ 200) ⊎ (answer.status ≡ 204)) }
+    {
         let object = object_of(self.alloc, body)?;
         let changes = changes_of(&object)?;
         let Some(told) = self.told.get(name) else {
@@ -288,7 +308,11 @@ impl<'x, R: Wait + Clock + Files + AllocGlobal + Copy + Drop> Operator<'x, R> {
     }
 
     /// Removes a tenant: its segments are free, and requests for it are answered that it is not there.
-    fn remove(&mut self, name: &[u8]) -> Result<OperatorAnswer, OperatorRefusal> {
+    fn remove(&mut self, name: &[u8]) -> Result<OperatorAnswer, OperatorRefusal>
+        ensures status { IfOk result (λ answer. answer.status ≡ 204) }
+        ensures removes { OnOk result (self.new.registry.now ≡ without self.old.registry.now name.now) }
+        ensures err { OnErr result (self.new.registry.now ≡ self.old.registry.now) }
+    {
         let audit = self.registry.remove(name)?;
         drop(audit);
         self.shared
@@ -302,7 +326,9 @@ impl<'x, R: Wait + Clock + Files + AllocGlobal + Copy + Drop> Operator<'x, R> {
 
     /// A tenant that was added or changed. Where there is no memory for its text, the answer has another status and no text: it
     /// is done, and no fault may be told.
-    fn done(&self, status: u16, name: &[u8], without_text: u16) -> OperatorAnswer {
+    fn done(&self, status: u16, name: &[u8], without_text: u16) -> OperatorAnswer
+        ensures { (result.status ≡ status) ⊎ (result.status ≡ without_text) }
+    {
         match self.show(status, name) {
             Ok(answer) => answer,
             Err(_) => OperatorAnswer::empty(without_text),
@@ -310,7 +336,9 @@ impl<'x, R: Wait + Clock + Files + AllocGlobal + Copy + Drop> Operator<'x, R> {
     }
 
     /// A tenant and what it uses.
-    fn show(&self, status: u16, name: &[u8]) -> Result<OperatorAnswer, OperatorRefusal> {
+    fn show(&self, status: u16, name: &[u8]) -> Result<OperatorAnswer, OperatorRefusal>
+        ensures { IfOk result (λ answer. answer.status ≡ status) }
+    {
         let Some(told) = self.told.get(name) else {
             return Err(OperatorFault::NoTenant.into());
         };
@@ -319,7 +347,9 @@ impl<'x, R: Wait + Clock + Files + AllocGlobal + Copy + Drop> Operator<'x, R> {
     }
 
     /// All tenants and what they use, in the order in which they came.
-    fn list(&self) -> Result<OperatorAnswer, OperatorRefusal> {
+    fn list(&self) -> Result<OperatorAnswer, OperatorRefusal>
+        ensures { IfOk result (λ answer. answer.status ≡ 200) }
+    {
         let mut tenants = Vec::new(self.alloc);
         for (name, told) in self.told.iter() {
             let tenant = self.tenant(name.as_slice(), told)?;
@@ -331,7 +361,9 @@ impl<'x, R: Wait + Clock + Files + AllocGlobal + Copy + Drop> Operator<'x, R> {
 
     /// What all tenants use, in the text format of Prometheus. It waits for no tenant: what one used when it was last
     /// told stands for what it uses while a call is under way there.
-    fn metrics(&mut self) -> Result<OperatorAnswer, OperatorRefusal> {
+    fn metrics(&mut self) -> Result<OperatorAnswer, OperatorRefusal>
+        ensures { IfOk result (λ answer. answer.status ≡ 200) }
+    {
         let mut samples = Vec::new(self.alloc);
         for place in 0..self.told.len() {
             if let Some(sample) = self.sample(place)? {
