@@ -210,15 +210,25 @@ impl<'x, R: Wait + Clock + Files + AllocGlobal + Copy + Drop> Operator<'x, R> {
         Ok(OperatorAnswer::empty(200))
     }
 
-    /// Makes more segments.
+    /// Makes more segments. They are made, also where there is no memory to tell how many there are.
     fn grow(&mut self, body: &[u8]) -> Result<OperatorAnswer, OperatorRefusal>
-        ensures { IfOk result (λ answer. answer.status ≡ 200) }
+        ensures { IfOk result (λ answer. (answer.status ≡ 200) ⊎ (answer.status ≡ 204)) }
     {
         let object = object_of(self.alloc, body)?;
         let Ok(count) = u32::try_from(more_segments_of(&object)?) else {
             return Err(OperatorFault::Limits.into());
         };
         self.registry.add_segments(count)?;
+        match self.show_pool() {
+            Ok(answer) => Ok(answer),
+            Err(_) => Ok(OperatorAnswer::empty(204)),
+        }
+    }
+
+    /// How many segments there are, and how many are free.
+    fn show_pool(&self) -> Result<OperatorAnswer, OperatorRefusal>
+        ensures { IfOk result (λ answer. answer.status ≡ 200) }
+    {
         let segments = self.registry.segments();
         let free = self.registry.free_segments();
         let value = json!(in self.alloc; {"segments": segments, "free": free})?;
