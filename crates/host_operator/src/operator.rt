@@ -226,7 +226,7 @@ impl<'x, R: Wait + Clock + Files + AllocGlobal + Copy + Drop> Operator<'x, R> {
     }
 
     /// How many segments there are, and how many are free.
-    fn show_pool(&self) -> Result<OperatorAnswer, OperatorRefusal>
+    fn show_pool(&mut self) -> Result<OperatorAnswer, OperatorRefusal>
         ensures { IfOk result (λ answer. answer.status ≡ 200) }
     {
         let segments = self.registry.segments();
