@@ -1,11 +1,13 @@
 //! The worked rows, answered through `Registry::call` by two seats in turn, and what no row asks.
 mod between;
 mod callers;
+mod letters;
 mod opening;
 mod operator;
 mod second;
 
 use callers::{Callers, Way};
+use letters::LETTERS;
 use opening::{config_in, registry_of};
 use operator::OPERATOR;
 use second::SECOND;
@@ -58,6 +60,7 @@ fn assert_rows<R: Wait + Clock + Abort>(rt: &R, alloc: Global, audit: u32, way: 
         assert_list(rt, alloc, list, audit, way);
     }
     assert_list(rt, alloc, live_rows(), audit, way);
+    assert_row(rt, alloc, &LETTERS, audit, way);
     assert_row(rt, alloc, &OPERATOR, audit, way);
     assert_row(rt, alloc, &SECOND, audit, way);
 }
