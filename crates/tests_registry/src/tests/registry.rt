@@ -2,6 +2,7 @@
 mod between;
 mod callers;
 mod letters;
+mod limits;
 mod opening;
 mod operator;
 mod second;
