@@ -4,10 +4,14 @@
 #![tactic(auto)]
 
 mod calls;
+mod leases;
 mod live;
+mod watches;
 
-use calls::ROWS;
+use calls::CALL_ROWS;
+use leases::LEASE_ROWS;
 use live::LIVE_ROWS;
+use watches::WATCH_ROWS;
 
 /// A script, and what it is answered.
 pub struct Row {
@@ -15,9 +19,9 @@ pub struct Row {
     pub answers: &'static str,
 }
 
-/// The rows of calls, ticks, takes and catch-ups.
-pub fn rows() -> &'static [Row] {
-    &ROWS
+/// The rows of calls, ticks, takes and catch-ups: those of calls alone, of leases, and of watches.
+pub fn rows() -> [&'static [Row]; 3] {
+    [&CALL_ROWS, &LEASE_ROWS, &WATCH_ROWS]
 }
 
 /// The rows in which tenants take other quotas, and come and go.

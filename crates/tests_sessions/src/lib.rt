@@ -1,5 +1,5 @@
-//! The server's sessions under test: over streams that fail, and beside a call that is held; and standing orders over days. What
-//! they answer over sockets is asked of the program, by `tools/check-server`.
+//! The server's sessions under test: over streams that fail, and beside a call that is held; what it refuses before it listens; and
+//! standing orders over days. What they answer over sockets is asked of the program, by `tools/check-server`.
 #![tactic(auto)]
 
 #[cfg(test)]
@@ -8,6 +8,8 @@ mod held;
 mod orders;
 #[cfg(test)]
 mod peer;
+#[cfg(test)]
+mod refused;
 #[cfg(test)]
 mod streams;
 #[cfg(test)]

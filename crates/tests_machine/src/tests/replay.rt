@@ -73,18 +73,22 @@ fn assert_row_over_each(rt: &impl Abort, alloc: Global, row: &Row) -> Mem<()> {
     Ok(())
 }
 
+fn assert_list_over_each(rt: &impl Abort, alloc: Global, list: &[Row]) -> Mem<()> {
+    for row in list {
+        assert_row_over_each(rt, alloc, row)?;
+    }
+    Ok(())
+}
+
 #[test]
 fn rows_are_answered_over_each_source(rt: HostRuntime) -> Mem<()> {
-    for row in rows() {
-        assert_row_over_each(&rt, rt.alloc(), row)?;
+    for list in rows() {
+        assert_list_over_each(&rt, rt.alloc(), list)?;
     }
     Ok(())
 }
 
 #[test]
 fn live_rows_are_answered_over_each_source(rt: HostRuntime) -> Mem<()> {
-    for row in live_rows() {
-        assert_row_over_each(&rt, rt.alloc(), row)?;
-    }
-    Ok(())
+    assert_list_over_each(&rt, rt.alloc(), live_rows())
 }

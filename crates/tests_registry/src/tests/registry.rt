@@ -1,10 +1,14 @@
 //! The worked rows, answered through `Registry::call` by two seats in turn, and what no row asks.
+mod between;
 mod callers;
+mod letters;
+mod limits;
 mod opening;
 mod operator;
 mod second;
 
 use callers::{Callers, Way};
+use letters::LETTERS;
 use opening::{config_in, registry_of};
 use operator::OPERATOR;
 use second::SECOND;
@@ -45,14 +49,19 @@ fn assert_closes(rt: &impl Abort, alloc: Global, callers: Callers, audit: u32) {
     }
 }
 
+fn assert_list<R: Wait + Clock + Abort>(rt: &R, alloc: Global, list: &[Row], audit: u32, way: Way) {
+    for row in list {
+        assert_row(rt, alloc, row, audit, way);
+    }
+}
+
 /// All rows, over audits that take so many entries.
 fn assert_rows<R: Wait + Clock + Abort>(rt: &R, alloc: Global, audit: u32, way: Way) {
-    for row in rows() {
-        assert_row(rt, alloc, row, audit, way);
+    for list in rows() {
+        assert_list(rt, alloc, list, audit, way);
     }
-    for row in live_rows() {
-        assert_row(rt, alloc, row, audit, way);
-    }
+    assert_list(rt, alloc, live_rows(), audit, way);
+    assert_row(rt, alloc, &LETTERS, audit, way);
     assert_row(rt, alloc, &OPERATOR, audit, way);
     assert_row(rt, alloc, &SECOND, audit, way);
 }

@@ -212,18 +212,32 @@ fn assert_lived_in_runs(rt: &impl Abort, alloc: Global, row: &Row) -> Mem<()> {
     assert_runs_told(rt, alloc, &mut script, row)
 }
 
-#[test]
-fn rows_are_answered_at_once(rt: HostRuntime) -> Mem<()> {
-    for row in rows().iter().chain(live_rows()) {
-        assert_lived(&rt, rt.alloc(), row)?;
+fn assert_list_lived(rt: &impl Abort, alloc: Global, list: &[Row]) -> Mem<()> {
+    for row in list {
+        assert_lived(rt, alloc, row)?;
+    }
+    Ok(())
+}
+
+fn assert_list_lived_in_runs(rt: &impl Abort, alloc: Global, list: &[Row]) -> Mem<()> {
+    for row in list {
+        assert_lived_in_runs(rt, alloc, row)?;
     }
     Ok(())
 }
 
 #[test]
-fn runs_of_events_are_answered_at_once(rt: HostRuntime) -> Mem<()> {
-    for row in rows().iter().chain(live_rows()) {
-        assert_lived_in_runs(&rt, rt.alloc(), row)?;
+fn rows_are_answered_at_once(rt: HostRuntime) -> Mem<()> {
+    for list in rows() {
+        assert_list_lived(&rt, rt.alloc(), list)?;
     }
-    Ok(())
+    assert_list_lived(&rt, rt.alloc(), live_rows())
+}
+
+#[test]
+fn runs_of_events_are_answered_at_once(rt: HostRuntime) -> Mem<()> {
+    for list in rows() {
+        assert_list_lived_in_runs(&rt, rt.alloc(), list)?;
+    }
+    assert_list_lived_in_runs(&rt, rt.alloc(), live_rows())
 }

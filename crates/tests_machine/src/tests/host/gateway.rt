@@ -1,4 +1,4 @@
-//! Each letter of base64, the refusal for want of memory, and the room that the widest replies are given.
+//! Each letter of base64, read and written, the refusal for want of memory, and the room that the widest replies are given.
 //! The bodies of requests, and the texts of the other replies, are asked by `tools/check-steps` and by the rows.
 //!
 //! A reply is moved into the function that asserts its text: a way out of a test that drops replies is long to prove.
@@ -33,6 +33,43 @@ fn letters_are_numbers(rt: HostRuntime) -> Result<(), Fail> {
         }
     }
     Ok(())
+}
+
+/// The bytes whose text is `STANDARD`.
+const SPELLED: [u8; 48] = [
+    0x00, 0x10, 0x83, 0x10, 0x51, 0x87, 0x20, 0x92, 0x8b, 0x30, 0xd3, 0x8f, 0x41, 0x14, 0x93, 0x51,
+    0x55, 0x97, 0x61, 0x96, 0x9b, 0x71, 0xd7, 0x9f, 0x82, 0x18, 0xa3, 0x92, 0x59, 0xa7, 0xa2, 0x9a,
+    0xab, 0xb2, 0xdb, 0xaf, 0xc3, 0x1c, 0xb3, 0xd3, 0x5d, 0xb7, 0xe3, 0x9e, 0xbb, 0xf3, 0xdf, 0xbf,
+];
+
+/// The text of a row that has them as its value.
+const WRITTEN: &str =
+    r#"{"count":"1","header":{"cluster_id":"7","member_id":"1","raft_term":"1","revision":"2"},"kvs":[{"create_revision":"2","key":"Zm9v","mod_revision":"2","value":"ABCDEFGHIJKLMNOPQRSTUVWXYZabcdefghijklmnopqrstuvwxyz0123456789+/","version":"1"}]}"#;
+
+fn spelled_row(alloc: Global) -> Mem<KeyValue> {
+    Ok(KeyValue {
+        key: bytes(alloc, "foo")?,
+        create_revision: 2,
+        mod_revision: 2,
+        version: 1,
+        value: List::from_slice(alloc, &SPELLED)?,
+        lease: 0,
+    })
+}
+
+#[test]
+fn numbers_are_letters(rt: HostRuntime) -> Mem<()> {
+    let header = Header {
+        cluster: 7,
+        revision: 2,
+    };
+    let reply = Reply::Range {
+        header,
+        count: 1,
+        kvs: list(rt.alloc(), spelled_row(rt.alloc()))?,
+        more: false,
+    };
+    assert_written(&rt, reply, 200, WRITTEN)
 }
 
 /// A header whose numbers have the longest texts.

@@ -8,7 +8,7 @@ use std::mem;
 use std::process::Abort;
 use std::rt::Clock;
 use std::sync::Wait;
-use tenant_registry::{Closed, Key, OpenGate, Receipt, Registry, Seat};
+use tenant_registry::{Closed, Key, OpenGate, Receipt, Registry, Seat, Usage};
 use tenant_rules::OperatorFault;
 
 /// How tenants are called.
@@ -57,6 +57,20 @@ impl Callers {
 
     pub(super) fn answers(&self) -> &[u8] {
         self.answers.as_slice()
+    }
+
+    /// What was answered since this was asked last.
+    pub(super) fn take_answers(&mut self, alloc: Global) -> Vec<u8> {
+        mem::replace(&mut self.answers, Vec::new(alloc))
+    }
+
+    /// What a tenant uses, if it is there.
+    pub(super) fn usage<R: Wait>(&self, rt: &R, alloc: Global, tenant: &str) -> Mem<Option<Usage>> {
+        let name = Vec::from_slice(alloc, tenant.as_bytes())?;
+        let Some(key) = self.registry.key(name)? else {
+            return Ok(None);
+        };
+        Ok(key.usage(rt).ok())
     }
 
     /// Ends the registry, with both seats.
