@@ -118,7 +118,7 @@ abbrev pub txn : List Compare → List Op → List Op → Step
 txn compares success failure = Txn (record { compare = compares; success = success; failure = failure })
 
 abbrev pub watch_of : List ℕ → List ℕ → ℤ → WatchReq
-watch_of key end start = record { key = key; range_end = end; start_revision = start; no_put = false; no_delete = false; prev_kv = false; watch_id = pos 0; progress_notify = false }
+watch_of key end start = record { key = key; range_end = end; start_revision = start; filters = record { no_put = false; no_delete = false }; prev_kv = false; watch_id = pos 0; progress_notify = false }
 
 abbrev pub grant : ℤ → ℤ → Step
 grant ttl id = Grant (record { ttl = ttl; id = id })

@@ -12,8 +12,8 @@ use Rattle.etcd_model.proofs.Terms.{◌⇒◌, IsRun, fresh, a, b, c, foo, one, 
 
 -- with no row no value meets a compare, and a number counts as 0
 compare_with_no_row : IsRun fresh
-    (txn (record { key = foo; range_end = []; wanted = Equal; operand = ValueIs [] } ∷ []) [] [] ⇒ TxnReply (at 1) false []
-    ∷ txn (record { key = foo; range_end = []; wanted = Equal; operand = VersionIs (pos 0) } ∷ []) [] [] ⇒ TxnReply (at 1) true []
+    (txn (record { key = foo; range_end = []; result = Equal; operand = ValueIs [] } ∷ []) [] [] ⇒ TxnReply (at 1) false []
+    ∷ txn (record { key = foo; range_end = []; result = Equal; operand = VersionIs (pos 0) } ∷ []) [] [] ⇒ TxnReply (at 1) true []
     ∷ [])
 compare_with_no_row = refl
 
@@ -21,10 +21,10 @@ compare_with_no_row = refl
 compare_of_an_interval : IsRun fresh
     (put a one ⇒ done 2
     ∷ put b two ⇒ done 3
-    ∷ txn (record { key = a; range_end = c; wanted = Less; operand = ModIs (pos 4) } ∷ []) [] [] ⇒ TxnReply (at 3) true []
-    ∷ txn (record { key = a; range_end = c; wanted = Greater; operand = CreateIs (pos 2) } ∷ []) [] [] ⇒ TxnReply (at 3) false []
-    ∷ txn (record { key = a; range_end = c; wanted = NotEqual; operand = ValueIs three } ∷ []) [] [] ⇒ TxnReply (at 3) true []
-    ∷ txn (record { key = a; range_end = c; wanted = Equal; operand = LeaseIs (pos 0) } ∷ []) [] [] ⇒ TxnReply (at 3) true []
+    ∷ txn (record { key = a; range_end = c; result = Less; operand = ModIs (pos 4) } ∷ []) [] [] ⇒ TxnReply (at 3) true []
+    ∷ txn (record { key = a; range_end = c; result = Greater; operand = CreateIs (pos 2) } ∷ []) [] [] ⇒ TxnReply (at 3) false []
+    ∷ txn (record { key = a; range_end = c; result = NotEqual; operand = ValueIs three } ∷ []) [] [] ⇒ TxnReply (at 3) true []
+    ∷ txn (record { key = a; range_end = c; result = Equal; operand = LeaseIs (pos 0) } ∷ []) [] [] ⇒ TxnReply (at 3) true []
     ∷ [])
 compare_of_an_interval = refl
 

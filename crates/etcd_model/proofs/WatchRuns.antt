@@ -1,5 +1,5 @@
 -- Watches: their slots, and which events a take gives.
-use Rattle.std.proofs.Common.{◌+◌, [], ◌∷◌, refl, true}
+use Rattle.std.proofs.Common.{◌+◌, [], ◌∷◌, refl, true, false}
 use Rattle.std.specs.Prelude.{pos, replicate, map}
 use Rattle.std.specs.List.{range_with_len}
 use Rattle.etcd_types.specs.declared.step.Step.TheVariants.{Compact, Watch, Take, DropWatch, Tick, CatchUp}
@@ -76,7 +76,7 @@ watch_slots = refl
 
 watch_filters : IsRun fresh
     (put a one ⇒ done 2
-    ∷ Watch (record (watch_of a [] (pos 2)) { no_put = true; watch_id = pos 5 }) ⇒ Created (at 2) (pos 5) 0
+    ∷ Watch (record (watch_of a [] (pos 2)) { filters = record { no_put = true; no_delete = false }; watch_id = pos 5 }) ⇒ Created (at 2) (pos 5) 0
     ∷ Take 0 ⇒ Quiet
     ∷ delete a ⇒ deleted 3 1
     ∷ Take 0 ⇒ Events (at 3) (pos 5) (delete_event a 3 ∷ [])

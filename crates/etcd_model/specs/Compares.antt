@@ -37,8 +37,8 @@ is_met_by_none r (Lease n) = is_met r (int_cmp (pos 0) n)
 
 -- every live row meets it
 abbrev pub holds_of : Compare → List KeyValue → Bool
-holds_of c [] = is_met_by_none c.wanted c.operand
-holds_of c (row ∷ more) = list_all (λ r. is_met c.wanted (operand_cmp r c.operand)) (row ∷ more)
+holds_of c [] = is_met_by_none c.result c.operand
+holds_of c (row ∷ more) = list_all (λ r. is_met c.result (operand_cmp r c.operand)) (row ∷ more)
 
 abbrev pub holds : Reads → Compare → Bool
 holds R c = holds_of c (R.rows c.key c.range_end)

@@ -105,7 +105,7 @@ unfoldable pub read_compare : Data → Result Compare Refusal
 read_compare d =
     and_then (read_bytes (member_of name.Key d)) (λ key.
     and_then (read_bytes (member_of name.RangeEnd d)) (λ range_end.
-    and_then (read_result (member_of name.Result d)) (λ wanted.
+    and_then (read_result (member_of name.Result d)) (λ result.
     and_then (read_compare_target (member_of name.Target d)) (λ target.
     and_then (read_signed (member_of name.Version d)) (λ version.
     and_then (read_signed (member_of name.CreateRevision d)) (λ create_revision.
@@ -115,7 +115,7 @@ read_compare d =
     Ok (record {
       key = key;
       range_end = range_end;
-      wanted = wanted;
+      result = result;
       operand = operand_of target version create_revision mod_revision value lease;
     }))))))))))
 
@@ -172,8 +172,7 @@ read_create d =
       key = key;
       range_end = range_end;
       start_revision = start_revision;
-      no_put = list_any leaves_puts left_out;
-      no_delete = list_any leaves_deletes left_out;
+      filters = record { no_put = list_any leaves_puts left_out; no_delete = list_any leaves_deletes left_out };
       prev_kv = prev_kv;
       watch_id = watch_id;
       progress_notify = progress_notify;

@@ -35,8 +35,8 @@ abbrev pub watch_of : ℕ → ℕ → WatchReq → Watch
 watch_of now moment q = record {
   key = watched_key q.key;
   range_end = q.range_end;
-  no_put = q.no_put;
-  no_delete = q.no_delete;
+  no_put = q.filters.no_put;
+  no_delete = q.filters.no_delete;
   prev_kv = q.prev_kv;
   id = q.watch_id;
   next = start now q.start_revision;

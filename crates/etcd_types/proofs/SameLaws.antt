@@ -32,6 +32,7 @@ use Rattle.etcd_types.specs.contracts.kv.PutReqPartialEq.TheImpl as put
 use Rattle.etcd_types.specs.contracts.kv.DeleteReqPartialEq.TheImpl as delete
 use Rattle.etcd_types.specs.contracts.lease.GrantReqPartialEq.TheImpl as grant
 use Rattle.etcd_types.specs.contracts.alarm.AlarmReqPartialEq.TheImpl as alarm
+use Rattle.etcd_types.specs.contracts.watch.FiltersPartialEq.TheImpl as filters
 use Rattle.etcd_types.specs.contracts.watch.WatchReqPartialEq.TheImpl as watch
 use Rattle.etcd_types.specs.contracts.reply.HeaderPartialEq.TheImpl as header
 use Rattle.etcd_types.specs.contracts.txn.OperandPartialEq.TheImpl as operand
@@ -144,17 +145,19 @@ grant_tells a b h = grind (arith, fields)
 alarm_tells : Tells (alarm.ghosts).eq
 alarm_tells a b h = grind (arith, fields, action_tells, kind_tells)
 
+filters_tells : Tells (filters.ghosts).eq
+filters_tells a b h = grind (arith, fields)
+
 watch_tells : Tells (watch.ghosts).eq
 watch_tells a b h =
     let key : a.key ≡ b.key = search fields depth 10 in
     let range_end : a.range_end ≡ b.range_end = search fields depth 10 in
     let start_revision : a.start_revision ≡ b.start_revision = search fields depth 10 in
-    let no_put : a.no_put ≡ b.no_put = search fields depth 10 in
-    let no_delete : a.no_delete ≡ b.no_delete = search fields depth 10 in
+    let filters : a.filters ≡ b.filters = search (fields, filters_tells) depth 10 in
     let prev_kv : a.prev_kv ≡ b.prev_kv = search fields depth 10 in
     let watch_id : a.watch_id ≡ b.watch_id = search fields depth 10 in
     let progress_notify : a.progress_notify ≡ b.progress_notify = search fields depth 10 in
-    λ i. record { key = key i; range_end = range_end i; start_revision = start_revision i; no_put = no_put i; no_delete = no_delete i; prev_kv = prev_kv i; watch_id = watch_id i; progress_notify = progress_notify i }
+    λ i. record { key = key i; range_end = range_end i; start_revision = start_revision i; filters = filters i; prev_kv = prev_kv i; watch_id = watch_id i; progress_notify = progress_notify i }
 
 header_tells : Tells (header.ghosts).eq
 header_tells a b h = grind (arith, fields)

@@ -28,4 +28,4 @@ pub use refusal::Refusal;
 pub use reply::{Header, OpReply, Reply};
 pub use step::Step;
 pub use txn::{Compare, CompareResult, CompareTarget, Op, Operand, TxnReq};
-pub use watch::WatchReq;
+pub use watch::{Filters, WatchReq};

@@ -53,7 +53,7 @@ impl CopyOf for Operand {
 pub struct Compare {
     pub key: List<u8>,
     pub range_end: List<u8>,
-    pub wanted: CompareResult,
+    pub result: CompareResult,
     pub operand: Operand,
 }
 
@@ -62,7 +62,7 @@ impl CopyOf for Compare {
         Ok(Compare {
             key: self.key.copy_of(alloc)?,
             range_end: self.range_end.copy_of(alloc)?,
-            wanted: self.wanted,
+            result: self.result,
             operand: self.operand.copy_of(alloc)?,
         })
     }

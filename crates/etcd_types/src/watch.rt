@@ -3,6 +3,13 @@ use crate::copy::{CopyOf, Mem};
 use crate::list::List;
 use std::alloc::Global;
 
+/// The kinds of events that a watch leaves out.
+#[derive(Clone, Copy, Debug, PartialEq, Eq)]
+pub struct Filters {
+    pub no_put: bool,
+    pub no_delete: bool,
+}
+
 /// A new watch of an interval of keys.
 #[derive(Debug, PartialEq, Eq, Drop)]
 pub struct WatchReq {
@@ -11,10 +18,7 @@ pub struct WatchReq {
     pub range_end: List<u8>,
     /// The first revision that is told; 0 or below is the one after the current.
     pub start_revision: i64,
-    /// Leaves puts out.
-    pub no_put: bool,
-    /// Leaves deletes out.
-    pub no_delete: bool,
+    pub filters: Filters,
     /// Asks for the row before each change.
     pub prev_kv: bool,
     /// The number that each response repeats.
@@ -29,8 +33,7 @@ impl CopyOf for WatchReq {
             key: self.key.copy_of(alloc)?,
             range_end: self.range_end.copy_of(alloc)?,
             start_revision: self.start_revision,
-            no_put: self.no_put,
-            no_delete: self.no_delete,
+            filters: self.filters,
             prev_kv: self.prev_kv,
             watch_id: self.watch_id,
             progress_notify: self.progress_notify,

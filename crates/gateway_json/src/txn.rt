@@ -44,7 +44,7 @@ fn read_compare(alloc: Global, value: &Value) -> Result<Compare, Refusal>
 {
     let key = read_member(alloc, value, MemberName::Key)?;
     let range_end = read_member(alloc, value, MemberName::RangeEnd)?;
-    let wanted = read_member(alloc, value, MemberName::Result)?;
+    let result = read_member(alloc, value, MemberName::Result)?;
     let target = read_member(alloc, value, MemberName::Target)?;
     let operands = Operands {
         version: read_member(alloc, value, MemberName::Version)?,
@@ -56,7 +56,7 @@ fn read_compare(alloc: Global, value: &Value) -> Result<Compare, Refusal>
     Ok(Compare {
         key,
         range_end,
-        wanted,
+        result,
         operand: operands.of(target),
     })
 }

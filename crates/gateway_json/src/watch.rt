@@ -7,7 +7,7 @@ ghost use Rattle.etcd_model.specs.Requests.{leaves_deletes, leaves_puts, read_cr
 
 use crate::list::object;
 use crate::member::{member_of, read_member};
-use etcd_types::{EventKind, List, MemberName, Refusal, WatchReq};
+use etcd_types::{EventKind, Filters, List, MemberName, Refusal, WatchReq};
 use serde_json::Value;
 use std::alloc::Global;
 
@@ -35,13 +35,15 @@ fn read_create(alloc: Global, value: &Value) -> Result<WatchReq, Refusal>
     let key = read_member(alloc, value, MemberName::Key)?;
     let range_end = read_member(alloc, value, MemberName::RangeEnd)?;
     let start_revision = read_member(alloc, value, MemberName::StartRevision)?;
-    let filters: List<EventKind> = read_member(alloc, value, MemberName::Filters)?;
+    let left_out: List<EventKind> = read_member(alloc, value, MemberName::Filters)?;
     Ok(WatchReq {
         key,
         range_end,
         start_revision,
-        no_put: leaves_puts(filters.as_slice()),
-        no_delete: leaves_deletes(filters.as_slice()),
+        filters: Filters {
+            no_put: leaves_puts(left_out.as_slice()),
+            no_delete: leaves_deletes(left_out.as_slice()),
+        },
         prev_kv: read_member(alloc, value, MemberName::PrevKv)?,
         watch_id: read_member(alloc, value, MemberName::WatchId)?,
         progress_notify: read_member(alloc, value, MemberName::ProgressNotify)?,

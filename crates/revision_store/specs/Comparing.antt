@@ -6,4 +6,4 @@ use Rattle.etcd_model.specs.Compares.{operand_cmp, is_met}
 
 -- a row meets the compare
 abbrev pub meets : Compare → KeyValue → Bool
-meets c row = is_met c.wanted (operand_cmp row c.operand)
+meets c row = is_met c.result (operand_cmp row c.operand)

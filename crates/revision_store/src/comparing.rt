@@ -38,7 +38,7 @@ impl Log {
             }
             any = true;
         }
-        any || is_met_by_none(compare.wanted, &compare.operand)
+        any || is_met_by_none(compare.result, &compare.operand)
     }
 
     /// Whether the row under a cell meets a compare.
@@ -46,7 +46,7 @@ impl Log {
         requires { IsSome (row_at (cells_of self.now.records) cell) }
         ensures { IfSome (row_at (cells_of self.now.records) cell) (λ row. result ≡ meets compare.now row) }
     {
-        is_met(compare.wanted, self.operand_cmp(cell, &compare.operand))
+        is_met(compare.result, self.operand_cmp(cell, &compare.operand))
     }
 
     /// How the row under a cell stands to an operand.

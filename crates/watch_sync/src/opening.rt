@@ -41,8 +41,8 @@ fn watch_of(alloc: Global, current: u64, moment: u64, request: &WatchReq) -> Mem
     Ok(Watch {
         key: watched_key(alloc, &request.key)?,
         range_end: request.range_end.copy_of(alloc)?,
-        no_put: request.no_put,
-        no_delete: request.no_delete,
+        no_put: request.filters.no_put,
+        no_delete: request.filters.no_delete,
         prev_kv: request.prev_kv,
         id: request.watch_id,
         next: start(current, request.start_revision),

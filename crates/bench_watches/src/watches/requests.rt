@@ -1,5 +1,5 @@
 //! What is put and watched.
-use etcd_types::{List, Mem, PutReq, WatchReq};
+use etcd_types::{Filters, List, Mem, PutReq, WatchReq};
 use std::alloc::Global;
 
 /// Bytes of a value.
@@ -37,8 +37,10 @@ pub(crate) fn watch(alloc: Global, number: u32, start_revision: i64) -> Mem<Watc
         key: key(alloc, number)?,
         range_end: List::new(alloc),
         start_revision,
-        no_put: false,
-        no_delete: false,
+        filters: Filters {
+            no_put: false,
+            no_delete: false,
+        },
         prev_kv: false,
         watch_id: 0,
         progress_notify: false,

@@ -1,6 +1,6 @@
 //! The steps of scripts.
 use super::scripts::Ask;
-use etcd_types::{GrantReq, List, Mem, PutReq, Step, WatchReq};
+use etcd_types::{Filters, GrantReq, List, Mem, PutReq, Step, WatchReq};
 use std::alloc::Global;
 
 pub(super) fn step_of(alloc: Global, ask: Ask) -> Mem<Step> {
@@ -34,8 +34,10 @@ fn watch_step(alloc: Global, start_revision: i64, progress_notify: bool) -> Mem<
         key: List::from_slice(alloc, b"foo")?,
         range_end: List::new(alloc),
         start_revision,
-        no_put: false,
-        no_delete: false,
+        filters: Filters {
+            no_put: false,
+            no_delete: false,
+        },
         prev_kv: false,
         watch_id: 0,
         progress_notify,
