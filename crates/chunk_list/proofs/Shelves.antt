@@ -202,7 +202,7 @@ module _ {T : Type 0} where
   }
 
   -- a shelf after a change of one chunk
-  pub changed_shelf : (xs ys : List T) (spans spans' : List Span) (free : List ℕ) (most a b c a' b' c' : ℕ) (i : ℕ) (s s' : Span) (p : List T) → IsShelf xs spans free most a b c → a ≤ a' → b ≤ b' → c ≤ c' → IsChange xs ys spans spans' i s s' p → IsShelf ys spans' free most a' b' c'
+  pub changed_shelf : (xs ys : List T) (spans spans' : List Span) (free : List ℕ) (most a b c a' b' c' : ℕ) (i : ℕ) (s s' : Span) (p : List T) → IsShelf xs spans free most a b c → a' ≡ a → b' ≡ b → c' ≡ c → IsChange xs ys spans spans' i s s' p → IsShelf ys spans' free most a' b' c'
   changed_shelf xs ys spans spans' free most a b c a' b' c' i s s' p shelf la lb lc change =
       let here = span_of xs spans i s change.lt change.is shelf.spans_are in
       let size : length ys ≡ length xs = ap length change.places ∙ length_written xs s.first p change.within in
@@ -243,7 +243,7 @@ module _ {T : Type 0} where
   filled_chunks xs ys (s ∷ spans) kept all =
       ap (λ p. p ∷ chunks_in ys spans) (stretch_kept xs ys s.first s.len kept all.0.within) ∙ ap (λ ps. span_items xs s ∷ ps) (filled_chunks xs ys spans kept all.1)
 
-  pub filled_shelf : (xs ys : List T) (spans : List Span) (free : List ℕ) (most a b c a' : ℕ) → IsShelf xs spans free most a b c → length xs ≤ length ys → MOST ≤ length ys → a ≤ a' → IsShelf ys spans free most a' b c
+  pub filled_shelf : (xs ys : List T) (spans : List Span) (free : List ℕ) (most a b c a' : ℕ) → IsShelf xs spans free most a b c → length xs ≤ length ys → MOST ≤ length ys → a' ≡ a → IsShelf ys spans free most a' b c
   filled_shelf xs ys spans free most a b c a' shelf more enough la = record {
     spans_are = filled_spans xs ys spans more enough shelf.spans_are;
     apart = shelf.apart;
@@ -293,7 +293,7 @@ module _ {T : Type 0} where
         }
   ]
 
-  pub opened_shelf : (xs ys : List T) (spans : List Span) (free free' : List ℕ) (most a b c a' b' c' : ℕ) (i : ℕ) (s : Span) → IsShelf xs spans free most a b c → IsTaken spans free free' most s.first → s.len ≡ 0 → i ≤ length spans → length xs ≤ length ys → s.first + MOST ≤ length ys → a ≤ a' → b ≤ b' → c ≤ c' → IsShelf ys (insert spans i s) free' most a' b' c'
+  pub opened_shelf : (xs ys : List T) (spans : List Span) (free free' : List ℕ) (most a b c a' b' c' : ℕ) (i : ℕ) (s : Span) → IsShelf xs spans free most a b c → IsTaken spans free free' most s.first → s.len ≡ 0 → i ≤ length spans → length xs ≤ length ys → s.first + MOST ≤ length ys → a' ≡ a → b' ≡ b → c' ≡ c → IsShelf ys (insert spans i s) free' most a' b' c'
   opened_shelf xs ys spans free free' most a b c a' b' c' i s shelf taken none le more enough la lb lc =
       let count = length-insert spans i s le in
       let whole : (place : ℕ) → covered place (bays_of spans) ≡ covered place (bays_of (take i spans)) + covered place (bays_of (drop i spans)) =
@@ -326,7 +326,7 @@ module _ {T : Type 0} where
       ∙ ap (λ ps. ps ++ chunks_in xs (drop (suc i) spans)) (sym (take-map (λ s. span_items xs s) i spans))
       ∙ ap (λ ps. take i (chunks_in xs spans) ++ ps) (sym (drop-map (λ s. span_items xs s) (suc i) spans))
 
-  pub closed_shelf : (xs : List T) (spans spans' : List Span) (free free' : List ℕ) (most a b c b' c' : ℕ) (i : ℕ) (s : Span) → IsShelf xs spans free most a b c → i < length spans → s ≡ get_or spans i s → spans' ≡ remove spans i → free' ≡ free ++ s.first ∷ [] → b ≤ b' → c ≤ c' → IsShelf xs spans' free' most a b' c'
+  pub closed_shelf : (xs : List T) (spans spans' : List Span) (free free' : List ℕ) (most a b c b' c' : ℕ) (i : ℕ) (s : Span) → IsShelf xs spans free most a b c → i < length spans → s ≡ get_or spans i s → spans' ≡ remove spans i → free' ≡ free ++ s.first ∷ [] → b' ≡ b → c' ≡ c → IsShelf xs spans' free' most a b' c'
   closed_shelf xs spans spans' free free' most a b c b' c' i s shelf lt is gone given lb lc =
       let one : suc i ≡ i + 1 = omega arith in
       let count = ap length gone in

@@ -1,14 +1,20 @@
 -- What a contract sees of a list in chunks, and of its places.
-use Rattle.std.specs.Prelude.{◌≡◌, ℕ, ◌+◌, ◌<◌, ◌≤◌, List, length, slice_index, slice_index_or, take, sum}
+use Rattle.std.specs.Prelude.{◌≡◌, ℕ, ◌+◌, ◌*◌, ◌/◌, ◌<◌, ◌≤◌, List, length, slice_index, slice_index_or, take, sum}
 use Rattle.std.specs.Prelude.{Bool, true, false, refl}
 use Rattle.std.specs.Coded.{Coded, code_by, coded×, coded_ℕ, coded_list}
 use Rattle.chunk_list.specs.declared.place.Place.{Place}
+use Rattle.chunk_list.specs.declared.span.TheConstants.{LEAST, MOST}
 
 -- the items in order, how many each chunk has, and for how many there is room
 pub record Chunked (T : Type 0) : Type 0 where
   pub items : List T
   pub sizes : List ℕ
   pub room : ℕ
+
+-- For how many places a list takes memory that has room for so many items: it may have room / 240 + 2 chunks,
+-- and the bay of each has 512 places.
+abbrev pub places_for : ℕ → ℕ
+places_for room = (room / LEAST + 2) * MOST
 
 abbrev pub chunked_code : {T : Type 0} → Coded T → Coded (Chunked T)
 chunked_code {T} code =

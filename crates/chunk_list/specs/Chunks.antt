@@ -76,10 +76,10 @@ pub record IsTurnIn {T : Type 0} (test : T → Bool) (chunks : List (List T)) (a
   pub to : (k : ℕ) → TurnsAt test (chunk_items chunks) k → at + 1 < length chunks
       → k < length (chunk_items (take (at + 1) chunks))
 
--- what always holds of a list: its chunks, how many there may be, the count and the room
+-- what always holds of a list: its chunks, how many there may be, which the room decides, the count and the room
 pub record AreChunks {T : Type 0} (chunks : List (List T)) (most count room : ℕ) : Type 0 where
   pub some : 0 < length chunks
   pub dense : IsDense chunks
-  pub total : room / LEAST + 2 ≤ most
+  pub total : most ≡ room / LEAST + 2
   pub len : count ≡ length (chunk_items chunks)
   pub within : length (chunk_items chunks) ≤ room

@@ -59,7 +59,7 @@ pub record IsSpan {T : Type 0} (places : List T) (span : Span) : Type 0 where
   pub fits : span.first + MOST < 2 ^ 64
 
 -- what always holds of a shelf: bays never share a place, those that were made stand one after another,
--- and there is room for all that may be
+-- and there is room for all that may be, and for no more
 pub record IsShelf {T : Type 0} (places : List T) (spans : List Span) (free : List ℕ)
     (most places_room spans_room free_room : ℕ) : Type 0 where
   pub spans_are : AllByRecursion (IsSpan places) spans
@@ -68,9 +68,9 @@ pub record IsShelf {T : Type 0} (places : List T) (spans : List Span) (free : Li
       → covered place (bays_of spans) + covered place free ≡ 0
   pub few : length spans + length free ≤ most
   pub fits : most * MOST < 2 ^ 64
-  pub places_room_is : most * MOST ≤ places_room
-  pub spans_room_is : most ≤ spans_room
-  pub free_room_is : most ≤ free_room
+  pub places_room_is : places_room ≡ most * MOST
+  pub spans_room_is : spans_room ≡ most
+  pub free_room_is : free_room ≡ most
 
 -- so many items are left: some that are at hand, and then those of some chunks
 pub record HasLeft {T : Type 0} (places at_hand : List T) (spans : List Span) (left : ℕ) : Type 0 where

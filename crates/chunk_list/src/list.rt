@@ -2,7 +2,7 @@
 ghost use Rattle.std.specs.Prelude.{◌≡◌, ℕ, ◌+◌, ◌-◌, ◌<◌, ◌≤◌, ◌++◌, ◌∷◌, [], List, length, slice_index_or};
 ghost use Rattle.std.specs.Prelude.{slice_set, take, drop, filter, max, IfOk, IsOk, IsTrue, OnOk, OnErr, ◌↔◌};
 ghost use Rattle.std.specs.List.{All, insert, remove};
-ghost use Rattle.chunk_list.specs.Chunked.{TurnsAt, HasItem, HasItems, IsPlace, IsPlaceAt, position_of};
+ghost use Rattle.chunk_list.specs.Chunked.{TurnsAt, HasItem, HasItems, IsPlace, IsPlaceAt, places_for, position_of};
 
 use crate::moves::{give_back, open, refill};
 use crate::place::Place;
@@ -42,7 +42,8 @@ impl<T> Model for ChunkList<T> {
 }
 
 impl<T: Copy> ChunkList<T> {
-    /// A list with no item, and room for so many. Only `grow_room` takes memory later.
+    /// A list with no item, and room for so many. It takes memory for `places` of that room, and only `grow_room`
+    /// takes more later.
     pub fn new(alloc: Global, room: usize) -> Result<ChunkList<T>, AllocError>
         ensures items { IfOk result (λ list. list.items ≡ []) }
         ensures room { IfOk result (λ list. list.room ≡ room) }
@@ -54,8 +55,8 @@ impl<T: Copy> ChunkList<T> {
         })
     }
 
-    /// Makes room for so many items in all: the room is never less than before, and all places stay. Where it finds no
-    /// memory, nothing changes.
+    /// Makes room for so many items in all: the room is never less than before, and all places stay. Where there is
+    /// as much, no memory is taken, and where it finds none, nothing changes and none is kept.
     pub fn grow_room(&mut self, room: usize) -> Result<(), AllocError>
         ensures ok { OnOk result (self.new ≡ record self.old { room = max self.old.room room }) }
         ensures err { OnErr result (self.new ≡ self.old) }
@@ -81,6 +82,13 @@ impl<T: Copy> ChunkList<T> {
         ensures { result ≡ self.now.room }
     {
         self.room
+    }
+
+    /// How many places in memory the list has taken: as many as its room asks for, and no more.
+    pub fn places(&self) -> usize
+        ensures { result ≡ places_for self.now.room }
+    {
+        self.shelf.places()
     }
 
     /// The place of the first item, or where it would go.

@@ -1,6 +1,6 @@
 //! The chunks of a list, all in one allocation.
 ghost use Rattle.std.specs.Prelude.{◌≡◌, ◌+◌, ◌-◌, ◌<◌, ◌≤◌, ◌++◌, ◌∷◌, [], length, take, drop, slice_index_or};
-ghost use Rattle.std.specs.Prelude.{slice_set, IfOk, OnOk, vec_capacity, ◌*◌, ◌^◌};
+ghost use Rattle.std.specs.Prelude.{slice_set, max, IfOk, OnOk, OnErr, vec_capacity, ◌*◌, ◌^◌};
 ghost use Rattle.std.specs.List.{insert, remove};
 ghost use Rattle.chunk_list.specs.Chunks.{IsChanged, IsDense, IsLast, chunk_at, chunk_items, size_of_two};
 ghost use Rattle.chunk_list.specs.Shelves.{TakesBay};
@@ -61,21 +61,33 @@ impl<T: Copy> Shelf<T> {
         })
     }
 
-    /// Makes room for so many chunks. Where it finds no memory, nothing changes that is seen.
+    /// Makes room for so many chunks. Where it finds no memory, nothing changes, and nothing is kept of what
+    /// was taken by then.
     pub(crate) fn grow(&mut self, most: usize) -> Result<(), AllocError>
         ensures chunks { self.new.chunks ≡ self.old.chunks }
-        ensures more { self.old.most ≤ self.new.most }
-        ensures enough { OnOk result (most ≤ self.new.most) }
+        ensures ok { OnOk result (self.new.most ≡ max self.old.most most) }
+        ensures err { OnErr result (self.new.most ≡ self.old.most) }
     {
         if most > self.most {
             let room = places_for(most)?;
+            // Spans and bays are few: they move, so that only the last step changes the memory that there is.
+            let alloc = *self.spans.allocator();
+            let spans = moved(alloc, &self.spans, most)?;
+            let free = moved(alloc, &self.free, most)?;
             self.places
                 .reserve_exact(room.saturating_sub(self.places.len()))?;
-            self.spans.reserve_exact(most - self.spans.len())?;
-            self.free.reserve_exact(most - self.free.len())?;
+            self.spans = spans;
+            self.free = free;
             self.most = most;
         }
         Ok(())
+    }
+
+    /// How many places there is memory for.
+    pub(crate) fn places(&self) -> usize
+        ensures { result ≡ self.now.most * MOST }
+    {
+        self.places.capacity()
     }
 
     /// The place of the first item, or where it would go.
@@ -283,7 +295,7 @@ fn insert_span(spans: &mut Vec<Span>, at: usize, span: Span)
     requires at { at ≤ length spans.old.items }
     requires room { length spans.old.items < vec_capacity spans.old }
     ensures items { spans.new.items ≡ insert spans.old.items at span }
-    ensures capacity { vec_capacity spans.old ≤ vec_capacity spans.new }
+    ensures capacity { vec_capacity spans.new ≡ vec_capacity spans.old }
 {
     let inserted = spans.insert(at, span);
     if let Err(_) = inserted {
@@ -301,6 +313,19 @@ fn take_bay(free: &mut Vec<usize>, made: usize) -> usize
         Some(first) => first,
         None => made * MOST,
     }
+}
+
+/// The same items, in a vector with room for so many.
+fn moved<I: Copy>(alloc: Global, items: &[I], room: usize) -> Result<Vec<I>, AllocError>
+    requires { length items.now ≤ room }
+    ensures items { IfOk result (λ all. all.items ≡ items.now) }
+    ensures capacity { IfOk result (λ all. vec_capacity all ≡ room) }
+{
+    let mut all = Vec::with_capacity(alloc, room)?;
+    'moving: for i in 0..items.len() {
+        all.push_reserved(items[i]);
+    }
+    Ok(all)
 }
 
 /// How many places so many chunks need.
