@@ -1,5 +1,5 @@
 -- The newest record of each key, by ascending key.
-use Rattle.std.specs.Prelude.{◌≡◌, ℕ, ◌+◌, ◌-◌, ◌<◌, ◌≤◌, List, length, slice_index, take, drop, [], ◌∷◌}
+use Rattle.std.specs.Prelude.{◌≡◌, ℕ, ◌+◌, ◌-◌, ◌<◌, ◌≤◌, List, length, max, slice_index, take, drop, [], ◌∷◌}
 use Rattle.std.specs.Prelude.{Option, Some, None, is_some, Bool, true, false, not, ◌||◌, ◌↔◌, filter, if◌then◌else◌}
 use Rattle.std.specs.declared.cmp.Ordering.TheVariants.{Less, Greater}
 use Rattle.std.specs.Str.{bytes_eq}
@@ -9,12 +9,21 @@ use Rattle.etcd_model.specs.Order.{key_cmp, key_lt}
 use Rattle.etcd_model.specs.Interval.{is_in}
 use Rattle.key_index.specs.Links.{Cells, Linked, IsOfKey, IsNewest}
 
--- the index's cells: those of keys that are live, and those of keys that are deleted; and how many of either
--- it can have
+-- the index's cells: those of keys that are live, and those of keys that are deleted; how many of either it can
+-- have; and for how many of either it has taken memory at the most, which is more only where a growth found none
 pub record Heads : Type 0 where
   pub live : List ℕ
   pub dead : List ℕ
   pub capacity : ℕ
+  pub taken : ℕ
+
+-- no key, and memory for so many
+abbrev pub no_heads : ℕ → Heads
+no_heads keys = record { live = []; dead = []; capacity = keys; taken = keys }
+
+-- with room for so many keys at least, and with memory for no more than that asks for
+abbrev pub wider : ℕ → Heads → Heads
+wider keys heads = record heads { capacity = max heads.capacity keys; taken = max heads.taken keys }
 
 -- each place has a record, and their keys rise
 pub record IsSpread (cells : Cells) (heads : List ℕ) : Type 0 where

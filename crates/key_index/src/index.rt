@@ -1,10 +1,10 @@
 //! The index.
-ghost use Rattle.std.specs.Prelude.{◌≡◌, ◌+◌, ◌<◌, ◌≤◌, length, [], max};
+ghost use Rattle.std.specs.Prelude.{◌≡◌, ◌+◌, ◌<◌, ◌≤◌, length, max};
 ghost use Rattle.std.specs.Prelude.{MatchOption, IfOk, IfSome, IsOk, IsSome, OnOk, OnErr};
 ghost use Rattle.key_index.specs.Links.{IsChained, IsLast, IsPlaced, NoneUpTo, SameChanges, without};
 ghost use Rattle.key_index.specs.Compaction.{Frees, IsCompacted, IsCompactedAt};
 ghost use Rattle.key_index.specs.Index.{AreHeadsIn, AreParted, IsHeadOf, IsIndexOf, IsSpread};
-ghost use Rattle.key_index.specs.Index.{NoneOfKey, is_put_of, key_count};
+ghost use Rattle.key_index.specs.Index.{NoneOfKey, is_put_of, key_count, no_heads, wider};
 ghost use Rattle.key_index.specs.Moving.{IsMoved};
 
 use crate::compaction::{cut_head, cut_heads};
@@ -31,15 +31,20 @@ impl Model for KeyIndex {
 
     ghost Value = { Heads };
 
-    ghost view = { λ a. record { live = a.live.items; dead = a.dead.items; capacity = a.dead.room } };
+    ghost view = { λ a. record {
+      live = a.live.items;
+      dead = a.dead.items;
+      capacity = a.dead.room;
+      taken = a.live.room;
+    } };
 
     ghost invariant = { λ a. a.dead.room ≤ a.live.room };
 }
 
 impl KeyIndex {
-    /// For this many keys at most. Only `grow_rooms` takes memory later.
+    /// For this many keys at most, with memory for as many. Only `grow_rooms` takes more later.
     pub fn new(alloc: Global, capacity: usize) -> Result<KeyIndex, AllocError>
-        ensures { IfOk result (λ index. index ≡ record { live = []; dead = []; capacity = capacity }) }
+        ensures { IfOk result (λ index. index ≡ no_heads capacity) }
     {
         Ok(KeyIndex {
             live: ChunkList::new(alloc, capacity)?,
@@ -47,11 +52,12 @@ impl KeyIndex {
         })
     }
 
-    /// Makes room for as many keys as there are cells, or finds no memory and changes nothing. The room is
-    /// never less than before.
+    /// Makes room for as many keys as there are cells. The room is never less than before, and where there is
+    /// as much, no memory is taken. Where none is found, nothing changes but what was taken by then.
     pub fn grow_rooms(&mut self, cells: u32) -> Mem<()>
-        ensures ok { OnOk result (self.new ≡ record self.old { capacity = max self.old.capacity cells }) }
-        ensures err { OnErr result (self.new ≡ self.old) }
+        ensures ok { OnOk result (self.new ≡ wider cells self.old) }
+        ensures err { OnErr result (self.new ≡ record self.old { taken = self.new.taken }) }
+        ensures within { self.new.taken ≤ max self.old.taken cells }
         ensures sure { cells ≤ self.old.capacity → IsOk result }
     {
         self.live.grow_room(cells as usize)?;
@@ -115,6 +121,7 @@ impl KeyIndex {
         ensures chained { IsChained (R.cells records.new) }
         ensures same { SameChanges (R.cells records.old) (R.cells records.new) }
         ensures capacity { self.new.capacity ≡ self.old.capacity }
+        ensures taken { self.new.taken ≡ self.old.taken }
         ensures count { key_count self.new ≤ key_count self.old + 1 }
         ensures free { R.free records.new ≡ R.free records.old }
         ensures rest { R.same_rest records.old records.new }
@@ -139,6 +146,7 @@ impl KeyIndex {
         ensures compacted { IfSome (R.cells records.old cell)
             (λ e. IsCompactedAt (R.cells records.old) (R.cells records.new) revision e.change.key) }
         ensures capacity { self.new.capacity ≡ self.old.capacity }
+        ensures taken { self.new.taken ≡ self.old.taken }
         ensures free { Frees R.cost R.cells R.free records.old records.new }
         ensures rest { R.same_rest records.old records.new }
     {
@@ -161,6 +169,7 @@ impl KeyIndex {
         ensures chained { IsChained (R.cells records.new) }
         ensures compacted { IsCompacted (R.cells records.old) (R.cells records.new) revision }
         ensures capacity { self.new.capacity ≡ self.old.capacity }
+        ensures taken { self.new.taken ≡ self.old.taken }
         ensures free { Frees R.cost R.cells R.free records.old records.new }
         ensures rest { R.same_rest records.old records.new }
     {

@@ -53,6 +53,7 @@ pub fn cut_changes<R: RecordsMut>(
     ensures compacted { IsCompacted (R.cells records.old) (R.cells records.new) revision }
     ensures left { AreLeft (R.cells records.new) settled.old recent.old settled.new recent.new }
     ensures capacity { index.new.capacity ≡ index.old.capacity }
+    ensures taken { index.new.taken ≡ index.old.taken }
     ensures free { Frees R.cost R.cells R.free records.old records.new }
     ensures rest { R.same_rest records.old records.new }
 {
@@ -80,6 +81,7 @@ fn drop_all<R: RecordsMut>(
     ensures compacted { IsCompacted (R.cells records.old) (R.cells records.new) revision }
     ensures left { IsLeft (R.cells records.new) settled.old settled.new }
     ensures capacity { index.new.capacity ≡ index.old.capacity }
+    ensures taken { index.new.taken ≡ index.old.taken }
     ensures free { Frees R.cost R.cells R.free records.old records.new }
     ensures rest { R.same_rest records.old records.new }
 {
@@ -115,6 +117,7 @@ fn visit_all<R: RecordsMut>(
     ensures compacted { IsCompacted (R.cells records.old) (R.cells records.new) revision }
     ensures left { IsLeft (R.cells records.new) settled.old settled.new }
     ensures capacity { index.new.capacity ≡ index.old.capacity }
+    ensures taken { index.new.taken ≡ index.old.taken }
     ensures free { Frees R.cost R.cells R.free records.old records.new }
     ensures rest { R.same_rest records.old records.new }
 {
@@ -143,6 +146,7 @@ fn visit<R: RecordsMut>(
     ensures visits { Visits (R.cells records.old cell) (R.cells records.old) (R.cells records.new) revision
         settled.old.items settled.new.items }
     ensures capacity { index.new.capacity ≡ index.old.capacity }
+    ensures taken { index.new.taken ≡ index.old.taken }
     ensures room { settled.new.room ≡ settled.old.room }
     ensures free { Frees R.cost R.cells R.free records.old records.new }
     ensures rest { R.same_rest records.old records.new }

@@ -13,6 +13,7 @@ visiting-init g c = record {
   place = c.start-place.ensures.position_is;
   place_is = c.start-place.ensures.item_is;
   capacity = refl;
+  taken = refl;
   room = refl;
   gives = gives_nothing _ _ _;
   rest = g.met.R.RecordsMut.stays _;
@@ -49,6 +50,7 @@ visiting-preserved g c =
       place = omega (arith, c.next-place.ensures.position_is, c.visiting.invariant.place);
       place_is = λ more. c.next-place.ensures.item_is (omega (arith, more, c.visiting.invariant.place));
       capacity = c.visit.ensures.capacity ∙ c.visiting.invariant.capacity;
+      taken = c.visit.ensures.taken ∙ c.visiting.invariant.taken;
       room = c.visit.ensures.room ∙ c.visiting.invariant.room;
       gives = gives_then g.R.RecordsMut.cost m now (g.R.RecordsMut.free c.args.records.now) (g.R.RecordsMut.free c.visiting.records) c.visiting.invariant.gives new (g.R.RecordsMut.free c.visit.new.records) (λ b e has. let f = c.visiting.invariant.visiting.done.back b e has in (f.0, f.1)) c.visit.ensures.free;
       rest = g.met.R.RecordsMut.joins _ _ _ c.visiting.invariant.rest c.visit.ensures.rest;

@@ -14,6 +14,7 @@ invariant-visiting g l =
       place : position_of l.recent.sizes l.place ≡ l._visited;
       place_is : l._visited < length l.recent.items → HasItem l.recent.sizes l.place;
       capacity : l.index.capacity ≡ l.fn.index.capacity;
+      taken : l.index.taken ≡ l.fn.index.taken;
       room : l.settled.room ≡ l.fn.settled.room;
       gives : GivesBack g.R.RecordsMut.cost (cells l.fn.records) (cells l.records) (g.R.RecordsMut.free l.fn.records) (g.R.RecordsMut.free l.records);
       rest : g.R.RecordsMut.same_rest l.fn.records l.records;
