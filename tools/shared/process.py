@@ -163,11 +163,11 @@ def runs(pid):
 
 
 def memory(pid):
-    """Resident bytes, now and at their peak; none of a process that has ended.
+    """Resident bytes, now and at their peak, and the most bytes of its addresses; none of a process that has ended.
 
     The peak that wait4 tells is of no use here: it begins with that of the process that forked.
     """
     with open(f"/proc/{pid}/status", encoding="ascii", errors="replace") as file:
         fields = dict(line.split(":", 1) for line in file)
-    sizes = [("now", "VmRSS"), ("peak", "VmHWM")]
+    sizes = [("now", "VmRSS"), ("peak", "VmHWM"), ("addresses", "VmPeak")]
     return {name: int(fields.get(field, "0").split()[0]) * 1024 for name, field in sizes}
