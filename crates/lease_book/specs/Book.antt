@@ -1,5 +1,5 @@
 -- What a contract sees of a book of leases.
-use Rattle.std.specs.Prelude.{◌≡◌, ℕ, ◌≤◌, ℤ, pos, true, int_lt, int_le, List, [], length, map}
+use Rattle.std.specs.Prelude.{◌≡◌, ℕ, ◌≤◌, ℤ, pos, true, int_lt, int_le, List, [], length, map, max}
 use Rattle.std.specs.Prelude.{slice_index_or, Some, refl}
 use Rattle.std.specs.Coded.{Coded, code_by, coded×, coded_ℕ, coded_ℤ, coded_list}
 use Rattle.std.specs.List.{AllByRecursion, prefix_len}
@@ -15,19 +15,33 @@ use Rattle.lease_book.specs.declared.attachments.Attachment.{Attachment}
 use Rattle.lease_book.specs.declared.book.Booked.{Booked}
 
 -- the leases by ascending ID, the cells of their records in the same order, the number from which IDs are
--- chosen, for how many leases and for how many attachments there is room, the attachments, and the leases
--- that were collected as run out and are still to be taken
+-- chosen, for how many leases and for how many attachments there is room, for how many of either memory was
+-- taken at the most, which is more only where a growth found none, the attachments, and the leases that were
+-- collected as run out and are still to be taken
 pub record Book : Type 0 where
   pub leases : List Lease
   pub cells : List ℕ
   pub counter : ℕ
   pub room : ℕ
+  pub taken : ℕ
   pub attachments : List Attachment
   pub due : List Lease
 
--- no lease, and room for so many
+-- no lease, and room and memory for so many
 abbrev pub empty_book : ℕ → Book
-empty_book room = record { leases = []; cells = []; counter = 1; room = room; attachments = []; due = [] }
+empty_book room = record {
+  leases = [];
+  cells = [];
+  counter = 1;
+  room = room;
+  taken = room;
+  attachments = [];
+  due = [];
+}
+
+-- with room for so many at least, and with memory for no more than that asks for
+abbrev pub wider : ℕ → Book → Book
+wider room book = record book { room = max book.room room; taken = max book.taken room }
 
 abbrev lease_code : Coded Lease
 lease_code =
@@ -44,15 +58,17 @@ attachment_code =
 
 abbrev pub book_code : Coded Book
 book_code =
-    code_by ((List Lease × List ℕ) × ((ℕ × ℕ) × (List Attachment × List Lease)))
+    code_by ((List Lease × List ℕ) × ((ℕ × (ℕ × ℕ)) × (List Attachment × List Lease)))
     (coded× (coded× (coded_list lease_code) (coded_list coded_ℕ))
-    (coded× (coded× coded_ℕ coded_ℕ) (coded× (coded_list attachment_code) (coded_list lease_code))))
-    (λ b. ((b.leases, b.cells), ((b.counter, b.room), (b.attachments, b.due))))
+    (coded× (coded× coded_ℕ (coded× coded_ℕ coded_ℕ))
+    (coded× (coded_list attachment_code) (coded_list lease_code))))
+    (λ b. ((b.leases, b.cells), ((b.counter, (b.room, b.taken)), (b.attachments, b.due))))
     (λ p. record {
       leases = p.0.0;
       cells = p.0.1;
       counter = p.1.0.0;
-      room = p.1.0.1;
+      room = p.1.0.1.0;
+      taken = p.1.0.1.1;
       attachments = p.1.1.0;
       due = p.1.1.1;
     })
@@ -82,7 +98,7 @@ pub record IsBook (leases : List Lease) (soonest most : ℕ) : Type 0 where
   pub room : most ≤ 4294967295
 
 -- the same with no more attachments, whose IDs don't fall, and with room for as many attachments and to collect
--- all leases
+-- all leases; what there is room to collect is the most that memory was taken for
 pub record IsKeyedBook
     (leases : List Lease) (soonest most : ℕ) (attachments : List Attachment) (room due_room : ℕ) :
     Type 0 where
@@ -90,7 +106,7 @@ pub record IsKeyedBook
   pub rise : RiseById attachments
   pub keys : length attachments ≤ most
   pub keys_fit : most ≤ room
-  pub due_fits : most ≤ due_room
+  pub due_fits : room ≤ due_room
 
 -- the lease with an ID stands at a place, which is its own
 pub record IsFoundAt (list : Chunked Booked) (id : ℤ) (place : Place) : Type 0 where

@@ -12,7 +12,7 @@ ghost use Rattle.etcd_model.specs.Order.{put_in};
 ghost use Rattle.model_laws.specs.Leases.{without_lease};
 ghost use Rattle.lease_book.specs.Attached.{AreAttached, heads_of, with_attachment};
 ghost use Rattle.lease_book.specs.Attached.{without_attachment, without_keys};
-ghost use Rattle.lease_book.specs.Book.{Book, cells_of, empty_book, ids_below, leases_of};
+ghost use Rattle.lease_book.specs.Book.{Book, cells_of, empty_book, ids_below, leases_of, wider};
 ghost use Rattle.lease_book.specs.Granting.{Fits, IsIdOf, id_refusal};
 
 use crate::attachments::{Attachment, drop_key, drop_keys, keys_in, put_key};
@@ -66,6 +66,7 @@ impl Model for LeaseBook {
       cells = cells_of b.list.items;
       counter = b.counter;
       room = b.list.room;
+      taken = vec_capacity b.due;
       attachments = b.attachments.items;
       due = drop b.taken b.due.items;
     } };
@@ -76,7 +77,7 @@ impl Model for LeaseBook {
 }
 
 impl LeaseBook {
-    /// A book with no lease, and room for so many leases and as many attached keys.
+    /// A book with no lease, and room for so many leases and as many attached keys, for which it takes memory.
     pub fn new(alloc: Global, room: u32) -> Mem<LeaseBook>
         ensures { IfOk result (λ book. book ≡ empty_book room) }
     {
@@ -93,15 +94,17 @@ impl LeaseBook {
         })
     }
 
-    /// Makes room for so many leases and as many attached keys, or finds no memory and changes nothing that
-    /// a contract sees: what was made by then stays. The room is never less than before.
+    /// Makes room for so many leases and as many attached keys. The room is never less than before, and where
+    /// there is as much, no memory is taken. Where none is found, nothing changes but what was taken by then.
     pub fn grow_rooms(&mut self, cells: u32) -> Mem<()>
-        ensures ok { OnOk result (self.new ≡ record self.old { room = max self.old.room cells }) }
-        ensures err { OnErr result (self.new ≡ self.old) }
+        ensures ok { OnOk result (self.new ≡ wider cells self.old) }
+        ensures err { OnErr result (self.new ≡ record self.old { taken = self.new.taken }) }
+        ensures within { self.new.taken ≤ max self.old.taken cells }
         ensures sure { cells ≤ self.old.room → IsOk result }
     {
         let room = cells as usize;
         if room > self.list.room() {
+            // First, since this is what the book tells that it has taken.
             self.due.reserve_exact(room.saturating_sub(self.due.len()))?;
             self.attachments.grow_room(room)?;
             // Only now, since this is the room that the book tells.
@@ -191,6 +194,7 @@ impl LeaseBook {
         ensures cells { self.new.cells ≡ insert self.old.cells (ids_below self.old.leases new.lease.id) cell }
         ensures counter { self.new.counter ≡ new.counter }
         ensures room { self.new.room ≡ self.old.room }
+        ensures taken { self.new.taken ≡ self.old.taken }
         ensures attachments { self.new.attachments ≡ self.old.attachments }
         ensures due { self.new.due ≡ self.old.due }
     {
@@ -215,6 +219,7 @@ impl LeaseBook {
         ensures cells { self.new.cells ≡ self.old.cells }
         ensures counter { self.new.counter ≡ self.old.counter }
         ensures room { self.new.room ≡ self.old.room }
+        ensures taken { self.new.taken ≡ self.old.taken }
         ensures attachments { self.new.attachments ≡ self.old.attachments }
         ensures due { self.new.due ≡ self.old.due }
     {
@@ -233,6 +238,7 @@ impl LeaseBook {
         ensures cells { self.new.cells ≡ remove self.old.cells (ids_below self.old.leases id) }
         ensures counter { self.new.counter ≡ self.old.counter }
         ensures room { self.new.room ≡ self.old.room }
+        ensures taken { self.new.taken ≡ self.old.taken }
         ensures attachments { self.new.attachments ≡ without_keys self.old.attachments id }
         ensures due { self.new.due ≡ self.old.due }
     {

@@ -27,7 +27,7 @@ invariant_of-self g c =
       rise = rw c.put_key.ensures.items (rises cells _ new.ascend);
       keys = rw c.put_key.ensures.items (omega (arith, room, put_length (attachment_cmp cells) (record { id = id; head = c.args.head }) c.self.inside.attachments.items));
       keys_fit = omega (arith, c.put_key.ensures.room, c.self.invariant.keys_fit);
-      due_fits = c.self.invariant.due_fits;
+      due_fits = omega (arith, c.put_key.ensures.room, c.self.invariant.due_fits);
     }
 
 pub returns-clause-attached : goal.returns-clause-attached

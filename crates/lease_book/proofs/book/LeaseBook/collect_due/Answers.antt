@@ -1,4 +1,4 @@
-use Rattle.std.proofs.Common.{◌≡◌, List, sym, ap, ◌∙◌, arith}
+use Rattle.std.proofs.Common.{◌≡◌, ℕ, List, vec_capacity, sym, ap, ◌∙◌, arith}
 use Rattle.std.specs.Prelude.{drop, nat_le}
 use Rattle.std.proofs.lemmas.List.Kept.{IsStrictlySortedBy-filter}
 use Rattle.etcd_model.specs.declared.state.Lease.{Lease}
@@ -19,5 +19,5 @@ returns-else-self-moment c =
     let ls = leases_of inside.list.items in
     let none = none_due c.args.moment inside.soonest ls (omega arith) c.self.invariant.book.within in
     let due : drop 0 c.clear.new.self.items ≡ run_out c.args.moment ls = c.clear.ensures.items ∙ sym none in
-    let with_due : List Lease → Book = λ due. record { leases = ls; cells = cells_of inside.list.items; counter = inside.counter; room = inside.list.room; attachments = inside.attachments.items; due = due } in
-    rw (← c.self.view_is) (ap with_due due)
+    let with_due : List Lease → ℕ → Book = λ due taken. record { leases = ls; cells = cells_of inside.list.items; counter = inside.counter; room = inside.list.room; taken = taken; attachments = inside.attachments.items; due = due } in
+    rw (← c.self.view_is) (ap (λ xs. with_due xs (vec_capacity c.clear.new.self)) due ∙ ap (with_due (run_out c.args.moment ls)) c.clear.ensures.capacity)

@@ -23,7 +23,7 @@ invariant_of-self g c =
       rise = rw c.drop_key.ensures.items (rise_filter (λ (b : Attachment). not (is_eq (attachment_cmp cells b gone))) c.self.inside.attachments.items c.self.invariant.rise);
       keys = rw c.drop_key.ensures.items (omega (arith, filter_length (λ (b : Attachment). not (is_eq (attachment_cmp cells b gone))) c.self.inside.attachments.items, c.self.invariant.keys));
       keys_fit = omega (arith, c.drop_key.ensures.room, c.self.invariant.keys_fit);
-      due_fits = c.self.invariant.due_fits;
+      due_fits = omega (arith, c.drop_key.ensures.room, c.self.invariant.due_fits);
     }
 
 pub returns-clause-attached : goal.returns-clause-attached

@@ -18,7 +18,7 @@ invariant_of-self c =
     let sound = gone_book list.items c.self.inside.soonest list.room c.self.invariant.book c.args.id has in
     let attached = c.self.inside.attachments.items in
     let keys : length c.drop_keys.new.list.items ≤ list.room = rw c.drop_keys.ensures.items (omega (arith, filter_length (λ (a : Attachment). not (int_eq a.id (to_z w64 (of_z w64 c.args.id)))) attached, c.self.invariant.keys)) in
-    rw (items, c.remove.ensures.room) (record { book = sound; rise = c.drop_keys.ensures.rise; keys = keys; keys_fit = omega (arith, c.drop_keys.ensures.room, c.self.invariant.keys_fit); due_fits = c.self.invariant.due_fits })
+    rw (items, c.remove.ensures.room) (record { book = sound; rise = c.drop_keys.ensures.rise; keys = keys; keys_fit = omega (arith, c.drop_keys.ensures.room, c.self.invariant.keys_fit); due_fits = omega (arith, c.drop_keys.ensures.room, c.self.invariant.due_fits) })
 
 pub returns-clause-value : goal.returns-clause-value
 returns-clause-value c =

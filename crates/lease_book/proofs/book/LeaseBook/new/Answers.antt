@@ -9,5 +9,5 @@ invariant_of-result c =
       rise = tt;
       keys = omega arith;
       keys_fit = omega (arith, c.in_ok-list.ensures.room, c.in_ok-attachments.ensures.room);
-      due_fits = omega (arith, c.in_ok-list.ensures.room, c.in_ok-due.ensures.capacity);
+      due_fits = omega (arith, c.in_ok-attachments.ensures.room, c.in_ok-due.ensures.capacity);
     })
