@@ -18,7 +18,7 @@ use Rattle.etcd_model.specs.Changes.{Recorded, Rises, change_by, change_of}
 use Rattle.etcd_model.specs.Kept.{cost}
 use Rattle.etcd_model.specs.Store.{record_cells}
 use Rattle.key_index.specs.Links.{Cells, Linked, IsChained, IsPlaced, SameChanges, change_at, without}
-use Rattle.key_index.specs.Index.{Heads, IsIndexOf, key_count}
+use Rattle.key_index.specs.Index.{Heads, IsIndexOf, key_count, no_heads}
 use Rattle.key_index.specs.Order.{AreAll, AreSettled, IsInOrder, changes_in, with_record}
 use Rattle.key_index.proofs.Links.{if_other}
 use Rattle.key_index.proofs.Order.{changes_some, parted_few, which}
@@ -47,7 +47,7 @@ no_lease : (c : ℕ) → leases_of map.empty c ≡ None
 no_lease c = ap (option_and_then (λ (r : Record). lease_by r.kind r)) (get-empty nat_cmp c)
 
 pub empty_is_log : (cells room : ℕ) (settled recent : Chunked ℕ) → cells % 64 ≡ 0 → cells ≤ 2 ^ 20 → cells ≤ room → settled.items ≡ [] → recent.items ≡ [] → cells ≤ settled.room → cells ≤ recent.room
-    → IsLog (no_records cells) (record { live = []; dead = []; capacity = room }) settled recent 0
+    → IsLog (no_records cells) (no_heads room) settled recent 0
 empty_is_log cells room settled recent whole few has_room no_settled no_recent settled_room recent_room = record {
   index = record {
     heads = [];

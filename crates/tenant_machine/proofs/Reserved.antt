@@ -26,9 +26,9 @@ keeps_with_cells store book moment n keeps = record {
   revisions = keeps.revisions;
 }
 
--- the book may have more room than the store
-pub wider_machine : (store : StoreState) (book : Book) (moment : ℕ) (quota : Quota) (room : ℕ) → IsMachine store book moment quota → book.room ≤ room → IsMachine store (record book { room = room }) moment quota
-wider_machine store book moment quota room is more = record {
+-- the book may have more room than the store, and more memory than that asks for
+pub wider_machine : (store : StoreState) (book : Book) (moment : ℕ) (quota : Quota) (room taken : ℕ) → IsMachine store book moment quota → book.room ≤ room → IsMachine store (record book { room = room; taken = taken }) moment quota
+wider_machine store book moment quota room taken is more = record {
   used = is.used;
   leases = is.leases;
   room = omega (arith, is.room, more);

@@ -51,9 +51,9 @@ IsLentTo m loan = IsLent m.store.share loan
 abbrev pub SettlesWith : MachineState → Loan → MachineState → Loan → Type 0
 SettlesWith old from new to = Settles old.store.share from new.store.share to
 
--- a book as it is told: for how many leases it has room is left out
+-- a book as it is told: for how many leases it has room and memory is left out
 abbrev pub told_book : Book → Book
-told_book book = record book { room = 0 }
+told_book book = record book { room = 0; taken = 0 }
 
 -- the machine of a store, its leases and its watches at a moment, with its quota and the alarm
 abbrev pub machine_of :

@@ -1,7 +1,7 @@
 //! The keys of an index under test, beside lists of their records.
 
-ghost use Rattle.std.specs.Prelude.{◌≡◌, ◌+◌, ◌<◌, ◌≤◌, [], max, IfOk, IsSome, None, OnErr, OnOk};
-ghost use Rattle.key_index.specs.Index.{key_count};
+ghost use Rattle.std.specs.Prelude.{◌≡◌, ◌+◌, ◌<◌, ◌≤◌, IfOk, IsSome, None, OnErr, OnOk};
+ghost use Rattle.key_index.specs.Index.{key_count, no_heads, wider};
 
 use etcd_types::{CellNo, KeyValue, List, Mem};
 use key_index::record_list::{Record, RecordList};
@@ -52,7 +52,7 @@ impl Model for Changes {
 
 impl Changes {
     fn new(alloc: Global, keys: usize) -> Mem<Changes>
-        ensures { IfOk result (λ s. s ≡ record { live = []; dead = []; capacity = keys }) }
+        ensures { IfOk result (λ s. s ≡ no_heads keys) }
     {
         Ok(Changes {
             records: RecordList {
@@ -77,8 +77,8 @@ impl Changes {
     }
 
     fn grow(&mut self, keys: u32) -> Mem<()>
-        ensures ok { OnOk result (self.new ≡ record self.old { capacity = max self.old.capacity keys }) }
-        ensures err { OnErr result (self.new ≡ self.old) }
+        ensures ok { OnOk result (self.new ≡ wider keys self.old) }
+        ensures err { OnErr result (self.new ≡ record self.old { taken = self.new.taken }) }
     {
         self.index.grow_rooms(keys)
     }
