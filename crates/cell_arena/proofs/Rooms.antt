@@ -1,5 +1,5 @@
 -- A table with more bays, and one that gives all its segments back.
-use Rattle.std.proofs.Common.{◌≡◌, ℕ, zero, suc, ◌+◌, ◌-◌, ◌*◌, ◌/◌, ◌%◌, ◌<◌, ◌^◌, List, [], ◌∷◌, ◌++◌, length, map, get_or, replicate, sum_by, refl, sym, ap, ◌∙◌, inl, inr, ◌⊎◌, arith, subst}
+use Rattle.std.proofs.Common.{◌≡◌, ℕ, zero, suc, ◌+◌, ◌-◌, ◌*◌, ◌/◌, ◌%◌, ◌<◌, ◌^◌, List, [], ◌∷◌, ◌++◌, length, map, get_or, replicate, sum_by, vec_capacity, refl, sym, ap, ◌∙◌, inl, inr, ◌⊎◌, arith, subst}
 use Rattle.std.proofs.lemmas.Bool.{cases_eq, cases_lt}
 use Rattle.std.proofs.lemmas.List.{length_push, get_or_push, get_or_append_left}
 use Rattle.std.proofs.lemmas.List.Sums.{sum_by-cons}
@@ -10,15 +10,15 @@ use Rattle.cell_arena.specs.declared.bay.Bay.{Bay}
 use Rattle.cell_arena.specs.declared.table.Table.{Table}
 use Rattle.cell_arena.specs.Chain.{IsBare, IsLinked, cell_at, record_at}
 use Rattle.cell_arena.specs.Loan.{Share, with_rooms}
-use Rattle.cell_arena.specs.Order.{IsOrder, count_of, place_of}
+use Rattle.cell_arena.specs.Order.{IsOrder, IsOrderIn, IsWider, count_of, place_of}
 use Rattle.cell_arena.specs.Region.{IsRegion, region_of, roomier}
-use Rattle.cell_arena.specs.Table.{IsTable, IsBay, SameCells, bay_cells, hidden, share_of, table_at, free_of, used_of, busy_of, numbers_in}
+use Rattle.cell_arena.specs.Table.{IsTable, IsTableIn, IsBay, SameCells, bay_cells, hidden, share_of, table_at, free_of, used_of, busy_of, numbers_in}
 use Rattle.cell_arena.proofs.Records.{get_held}
 use Rattle.cell_arena.proofs.Tables.{none_listed}
 
 -- the next number, in the last place
-pub pushed_order : (o p : Order) → IsOrder o → p.order.items ≡ o.order.items ++ count_of o ∷ [] → p.place.items ≡ o.place.items ++ count_of o ∷ [] → IsOrder p
-pushed_order o p was order place =
+pub pushed_order : (o p : Order) (most : ℕ) → IsOrderIn most o → p.order.items ≡ o.order.items ++ count_of o ∷ [] → p.place.items ≡ o.place.items ++ count_of o ∷ [] → vec_capacity p.order ≡ most → vec_capacity p.place ≡ most → IsOrderIn most p
+pushed_order o p most was order place order_room place_room =
     let more : count_of p ≡ count_of o + 1 = ap length order ∙ length_push o.order.items (count_of o) in
     let wider : length p.place.items ≡ count_of o + 1 = ap length place ∙ length_push o.place.items (count_of o) ∙ ap (λ n. n + 1) was.size in
     record {
@@ -27,6 +27,8 @@ pushed_order o p was order place =
       back = λ i less. by_back i (omega (arith, more)) (cases_eq i (count_of o));
       of = λ q less. by_of q (omega (arith, more)) (cases_eq q (count_of o));
       there = λ q less. by_there q (omega (arith, more)) (cases_eq q (count_of o));
+      order_room = order_room;
+      place_room = place_room;
     }
   where
     more : count_of p ≡ count_of o + 1
@@ -60,6 +62,38 @@ pushed_order o p was order place =
     by_there q less (inl same) = ap (λ k. get_or p.order.items (get_or p.place.items k 0) 0) same ∙ ap (λ k. get_or p.order.items k 0) last_place ∙ last_number ∙ sym same
     by_there q less (inr other) = ap (λ k. get_or p.order.items k 0) (placed q (omega arith)) ∙ number (get_or o.place.items q 0) (was.of q (omega arith)) ∙ was.there q (omega arith)
 
+-- the same numbers in the same places
+pub same_order : (o p : Order) (most : ℕ) → IsOrder o → p.order.items ≡ o.order.items → p.place.items ≡ o.place.items → vec_capacity p.order ≡ most → vec_capacity p.place ≡ most → IsWider most o p
+same_order o p most was order place order_room place_room = record {
+  order = record {
+    size = rw (order, place) was.size;
+    at = rw order was.at;
+    back = rw (order, place) was.back;
+    of = rw (order, place) was.of;
+    there = rw (order, place) was.there;
+    order_room = order_room;
+    place_room = place_room;
+  };
+  numbers = order;
+  places = place;
+}
+
+-- a table with more memory, and the same bays
+pub widened_table : (t u : Table) (most : ℕ) → IsTable t → u.bays.items ≡ t.bays.items → vec_capacity u.bays ≡ most → IsWider most t.order u.order → u.ready ≡ t.ready → u.drawn ≡ t.drawn → u.reserved ≡ t.reserved → u.used ≡ t.used → IsTableIn most u
+widened_table t u most was bays room order ready drawn reserved used = record {
+  few = rw bays was.few;
+  room = room;
+  order = order.order;
+  size = rw (order.numbers, bays) was.size;
+  ready = rw (ready, drawn) was.ready;
+  drawn = rw (drawn, reserved) was.drawn;
+  reserved = rw (reserved, bays) was.reserved;
+  bays = rw (ready, drawn, order.places, bays) was.bays;
+  busy = rw (drawn, bays) was.busy;
+  held = rw (used, bays) was.held;
+  used = rw (used, bays, drawn) was.used;
+}
+
 pushed_cells : (bays : List Bay) (bare : Bay) → IsBare bare → (k : ℕ) → get_or (map bay_cells (bays ++ bare ∷ [])) k [] ≡ get_or (map bay_cells bays) k []
 pushed_cells [] bare is zero = is.cells
 pushed_cells [] bare is (suc k) = refl
@@ -77,10 +111,11 @@ pushed_sum f [] bare none = sum_by-cons f bare [] ∙ omega (arith, none)
 pushed_sum f (s ∷ bays) bare none = sum_by-cons f s (bays ++ bare ∷ []) ∙ ap (λ n. f s + n) (pushed_sum f bays bare none) ∙ sym (sum_by-cons f s bays)
 
 -- a table with one more bay
-pub opened_table : (t u : Table) (bare : Bay) → IsTable t → IsBare bare → length t.bays.items < 2 ^ 14 → u.bays.items ≡ t.bays.items ++ bare ∷ [] → IsOrder u.order → count_of u.order ≡ count_of t.order + 1 → place_of u.order (count_of t.order) ≡ count_of t.order → ((q : ℕ) → q < count_of t.order → place_of u.order q ≡ place_of t.order q) → u.ready ≡ t.ready → u.drawn ≡ t.drawn → u.reserved ≡ t.reserved → u.used ≡ t.used → IsTable u
-opened_table t u bare was is few bays order count last places ready drawn reserved used =
+pub opened_table : (t u : Table) (bare : Bay) (most : ℕ) → IsTableIn most t → vec_capacity u.bays ≡ most → IsBare bare → length t.bays.items < 2 ^ 14 → u.bays.items ≡ t.bays.items ++ bare ∷ [] → IsOrderIn most u.order → count_of u.order ≡ count_of t.order + 1 → place_of u.order (count_of t.order) ≡ count_of t.order → ((q : ℕ) → q < count_of t.order → place_of u.order q ≡ place_of t.order q) → u.ready ≡ t.ready → u.drawn ≡ t.drawn → u.reserved ≡ t.reserved → u.used ≡ t.used → IsTableIn most u
+opened_table t u bare most was room is few bays order count last places ready drawn reserved used =
     record {
       few = omega (arith, long);
+      room = room;
       order = order;
       size = omega (arith, count, was.size, long);
       ready = omega (arith, ready, drawn, was.ready);

@@ -1,5 +1,5 @@
 -- A table and an order as they begin.
-use Rattle.std.proofs.Common.{◌≡◌, ℕ, zero, suc, ◌+◌, ◌-◌, ◌*◌, ◌/◌, ◌%◌, ◌<◌, ◌≤◌, ◌^◌, List, [], ◌∷◌, ◌++◌, length, map, get_or, replicate, Some, None, sum_by, refl, sym, ap, ◌∙◌, inl, inr, arith, subst}
+use Rattle.std.proofs.Common.{◌≡◌, ℕ, zero, suc, ◌+◌, ◌-◌, ◌*◌, ◌/◌, ◌%◌, ◌<◌, ◌≤◌, ◌^◌, List, [], ◌∷◌, ◌++◌, length, map, get_or, replicate, vec_capacity, Some, None, sum_by, refl, sym, ap, ◌∙◌, inl, inr, arith, subst}
 use Rattle.std.proofs.lemmas.Bool.{cases_eq}
 use Rattle.std.proofs.lemmas.List.{length_push, get_or_push, get_or_append_left}
 use Rattle.std.proofs.lemmas.List.Sums.{sum_by-cons}
@@ -34,13 +34,15 @@ counting_more numbers count was = record {
   ];
 }
 
-pub counted_order : (o : Order) (count : ℕ) → IsCounting o.order.items count → IsCounting o.place.items count → IsOrder o
-counted_order o count order place = record {
+pub counted_order : (o : Order) (count : ℕ) → IsCounting o.order.items count → IsCounting o.place.items count → vec_capacity o.order ≡ count → vec_capacity o.place ≡ count → IsOrder o
+counted_order o count order place order_room place_room = record {
   size = place.size ∙ sym order.size;
   at = λ i less. omega (arith, order.at i (omega (arith, order.size)), order.size);
   back = λ i less. ap (λ k. get_or o.place.items k 0) (order.at i (omega (arith, order.size))) ∙ place.at i (omega (arith, order.size));
   of = λ q less. omega (arith, place.at q (omega (arith, order.size)), order.size);
   there = λ q less. ap (λ k. get_or o.order.items k 0) (place.at q (omega (arith, order.size))) ∙ order.at q (omega (arith, order.size));
+  order_room = order_room ∙ sym order.size;
+  place_room = place_room ∙ sym order.size;
 }
 
 pub bare_more : (bays : List Bay) (bay : Bay) → AllBare bays → IsBare bay → AllBare (bays ++ bay ∷ [])
@@ -75,13 +77,14 @@ bare_bay bay place bare =
     }
 
 -- a table without a segment
-pub bare_table : (t : Table) → AllBare t.bays.items → length t.bays.items ≤ 2 ^ 14 → IsOrder t.order → count_of t.order ≡ length t.bays.items → t.ready ≡ 0 → t.drawn ≡ 0 → t.used ≡ 0 → t.reserved ≤ length t.bays.items → IsTable t
-bare_table t all few order size ready drawn used reserved =
+pub bare_table : (t : Table) → AllBare t.bays.items → length t.bays.items ≤ 2 ^ 14 → vec_capacity t.bays ≡ length t.bays.items → IsOrder t.order → count_of t.order ≡ length t.bays.items → t.ready ≡ 0 → t.drawn ≡ 0 → t.used ≡ 0 → t.reserved ≤ length t.bays.items → IsTable t
+bare_table t all few room order size ready drawn used reserved =
     let none_free = bare_sum free_of t.bays.items (λ bay bare. bare.free) all in
     let none_busy = bare_sum busy_of t.bays.items (λ bay bare. omega (arith, none_in bay bare)) all in
     let none_used = bare_sum used_of t.bays.items (λ bay bare. none_in bay bare) all in
     record {
       few = few;
+      room = room ∙ sym size;
       order = order;
       size = size;
       ready = omega arith;

@@ -124,6 +124,7 @@ table_changed t s old new o ready drawn used was less read order count low high 
     let is'' : busy_of (get_or bays s old) ≡ busy_of old = ap busy_of read in
     record {
       few = omega (arith, size, was.few);
+      room = was.room ∙ sym count;
       order = order;
       size = count ∙ was.size ∙ sym size;
       ready = low;

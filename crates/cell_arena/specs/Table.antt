@@ -7,7 +7,7 @@ use Rattle.cell_arena.specs.declared.bay.Bay.{Bay}
 use Rattle.cell_arena.specs.declared.table.Table.{Table}
 use Rattle.cell_arena.specs.Chain.{cell_at, IsListed}
 use Rattle.cell_arena.specs.Loan.{Share}
-use Rattle.cell_arena.specs.Order.{IsOrder, count_of, place_of}
+use Rattle.cell_arena.specs.Order.{IsOrderIn, count_of, place_of}
 
 -- a cell, without the link of a free one
 abbrev pub hidden : Cell → Cell
@@ -50,10 +50,11 @@ abbrev pub numbers_in : List Bay → List ℕ
 numbers_in [] = []
 numbers_in (bay ∷ bays) = replicate (busy_of bay) bay.number ++ numbers_in bays
 
--- first the bays with free cells, then the full ones, then those without a segment
-pub record IsTable (t : Table) : Type 0 where
+-- first the bays with free cells, then the full ones, then those without a segment; there is memory for so many
+pub record IsTableIn (most : ℕ) (t : Table) : Type 0 where
   pub few : length t.bays.items ≤ 2 ^ 14
-  pub order : IsOrder t.order
+  pub room : vec_capacity t.bays ≡ most
+  pub order : IsOrderIn most t.order
   pub size : count_of t.order ≡ length t.bays.items
   pub ready : t.ready ≤ t.drawn
   pub drawn : t.drawn ≤ t.reserved
@@ -63,6 +64,10 @@ pub record IsTable (t : Table) : Type 0 where
   pub busy : t.drawn ≡ sum_by busy_of t.bays.items
   pub held : t.used ≡ sum_by used_of t.bays.items
   pub used : t.used + sum_by free_of t.bays.items ≡ 64 * t.drawn
+
+-- the same, with memory for the bays that there are
+abbrev pub IsTable : Table → Type 0
+IsTable t = IsTableIn (count_of t.order) t
 
 -- so many more cells fit
 abbrev pub HasCells : Table → ℕ → Type 0

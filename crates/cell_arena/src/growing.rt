@@ -1,8 +1,7 @@
 //! Rooms for more segments, and the end of a table.
 ghost use Rattle.std.specs.Prelude.{ℕ, ◌≡◌, ◌+◌, ◌<◌, ◌≤◌, ◌^◌, length, vec_capacity, OnOk, OnErr};
 ghost use Rattle.cell_arena.specs.Loan.{IsLent, Settles, KeepsShare, with_rooms, returned};
-ghost use Rattle.cell_arena.specs.Table.{IsTable, OpensBay, SameCells, share_of, table_at};
-ghost use Rattle.cell_arena.specs.Order.{HasRoom};
+ghost use Rattle.cell_arena.specs.Table.{IsTable, IsTableIn, OpensBay, SameCells, share_of, table_at};
 
 use crate::bay::{self, Bay};
 use crate::order;
@@ -13,22 +12,20 @@ use std::mem;
 
 /// One more bay without a segment, for which there is room.
 fn open_bay(table: &mut Table)
-    requires table { IsTable table.old }
+    requires table { IsTableIn (vec_capacity table.old.bays) table.old }
     requires few { length table.old.bays.items < 2 ^ 14 }
     requires room { length table.old.bays.items < vec_capacity table.old.bays }
-    requires order { HasRoom table.old.order 1 }
-    ensures table { IsTable table.new }
+    ensures table { IsTableIn (vec_capacity table.old.bays) table.new }
     ensures opens { OpensBay table.old table.new }
     ensures cells { SameCells table.old table.new }
-    ensures capacity { vec_capacity table.new.bays ≡ vec_capacity table.old.bays }
-    ensures order { (more : ℕ) → HasRoom table.old.order (more + 1) → HasRoom table.new.order more }
 {
     order::push(&mut table.order);
     let bay = bay::none(table.alloc);
     table.bays.push_reserved(bay);
 }
 
-/// Makes rooms for so many segments, if there are fewer.
+/// Makes rooms for so many segments, if there are fewer, and takes memory for no more. Where none is found, none
+/// is kept.
 pub(crate) fn grow(table: &mut Table, bays: u32) -> Mem<()>
     requires table { IsTable table.old }
     requires few { bays ≤ 2 ^ 14 }
@@ -39,8 +36,13 @@ pub(crate) fn grow(table: &mut Table, bays: u32) -> Mem<()>
     ensures err { OnErr result (share_of table.new ≡ share_of table.old) }
 {
     let more = bays.saturating_sub(table.bays.len() as u32);
-    order::reserve(&mut table.order, more)?;
-    table.bays.reserve(more as usize)?;
+    if more == 0 {
+        return Ok(());
+    }
+    // The numbers move, so that only the last step changes the memory that there is.
+    let order = order::wider(table.alloc, &table.order, bays)?;
+    table.bays.reserve_exact(more as usize)?;
+    table.order = order;
     'opening: for _i in 0..more {
         open_bay(table);
     }

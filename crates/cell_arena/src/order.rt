@@ -1,6 +1,6 @@
 //! Numbers in an order, with the place of each.
-ghost use Rattle.std.specs.Prelude.{◌≡◌, ◌+◌, ◌<◌, ◌^◌, ℕ, IfOk, OnOk};
-ghost use Rattle.cell_arena.specs.Order.{IsOrder, HasRoom, place_of, swapped, count_of};
+ghost use Rattle.std.specs.Prelude.{◌≡◌, ◌+◌, ◌<◌, ◌≤◌, ◌^◌, ℕ, IfOk, vec_capacity};
+ghost use Rattle.cell_arena.specs.Order.{IsOrder, IsOrderIn, IsWider, place_of, swapped, count_of};
 
 use etcd_types::Mem;
 use std::alloc::Global;
@@ -11,7 +11,7 @@ pub struct Order {
     pub place: Vec<u32>,
 }
 
-/// The numbers below this one, in order.
+/// The numbers below this one, in order, with memory for as many.
 pub(crate) fn new(alloc: Global, count: u32) -> Mem<Order>
     ensures { IfOk result (λ o. IsOrder o × (count_of o ≡ count)) }
 {
@@ -24,26 +24,30 @@ pub(crate) fn new(alloc: Global, count: u32) -> Mem<Order>
     Ok(Order { order, place })
 }
 
-/// Room for so many more numbers.
-pub(crate) fn reserve(o: &mut Order, more: u32) -> Mem<()>
-    ensures order { o.new.order.items ≡ o.old.order.items }
-    ensures place { o.new.place.items ≡ o.old.place.items }
-    ensures ok { OnOk result (HasRoom o.new more) }
+/// The same order, with memory for so many numbers.
+pub(crate) fn wider(alloc: Global, o: &Order, most: u32) -> Mem<Order>
+    requires order { IsOrder o.now }
+    requires room { count_of o.now ≤ most }
+    ensures { IfOk result (λ all. IsWider most o.now all) }
 {
-    o.order.reserve(more as usize)?;
-    o.place.reserve(more as usize)
+    let mut order = Vec::with_capacity(alloc, most as usize)?;
+    let mut place = Vec::with_capacity(alloc, most as usize)?;
+    'copying: for i in 0..o.order.len() {
+        order.push_reserved(o.order[i]);
+        place.push_reserved(o.place[i]);
+    }
+    Ok(Order { order, place })
 }
 
 /// One more number, the next, in the last place.
 pub(crate) fn push(o: &mut Order)
-    requires order { IsOrder o.old }
+    requires order { IsOrderIn (vec_capacity o.old.order) o.old }
     requires few { count_of o.old < 2 ^ 14 }
-    requires room { HasRoom o.old 1 }
-    ensures order { IsOrder o.new }
+    requires room { count_of o.old < vec_capacity o.old.order }
+    ensures order { IsOrderIn (vec_capacity o.old.order) o.new }
     ensures count { count_of o.new ≡ count_of o.old + 1 }
     ensures last { place_of o.new (count_of o.old) ≡ count_of o.old }
     ensures places { (q : ℕ) → q < count_of o.old → place_of o.new q ≡ place_of o.old q }
-    ensures room { (more : ℕ) → HasRoom o.old (more + 1) → HasRoom o.new more }
 {
     let next = o.order.len() as u32;
     o.order.push_reserved(next);

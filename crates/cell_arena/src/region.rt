@@ -137,8 +137,8 @@ impl Region {
         self.table.drawn
     }
 
-    /// Makes rooms for so many cells, which are 64 for each segment. Where no memory is found, nothing has
-    /// changed.
+    /// Makes rooms for so many cells, which are 64 for each segment. What was taken is always what the rooms ask
+    /// for: where there are as many, nothing is taken, and where no memory is found, nothing has changed.
     pub fn grow_rooms(&mut self, cells: u32) -> Mem<()>
         requires few { cells ≤ 2 ^ 20 }
         ensures ok { OnOk result (self.new ≡ roomier (cells / 64) self.old) }

@@ -1,13 +1,14 @@
-use Rattle.std.proofs.Common.{refl, ap, ◌∙◌, List, length}
+use Rattle.std.proofs.Common.{refl, ap, subst, ◌∙◌, List, length}
 use Rattle.std.proofs.lemmas.List.{length_push}
 use Rattle.cell_arena.specs.declared.bay.Bay.{Bay}
+use Rattle.cell_arena.specs.Order.{IsOrderIn}
 use Rattle.cell_arena.specs.Table.{numbers_in}
 use Rattle.cell_arena.proofs.Rooms.{opened_table, pushed_numbers}
 use Rattle.cell_arena.proofs.growing.open_bay.Goals as goal
 
 pub returns-clause-table : goal.returns-clause-table
 returns-clause-table c =
-    opened_table c.args.table.now _ c.none-bay.result c.requires.table c.none-bay.ensures c.requires.few c.push_reserved.ensures.items c.push.ensures.order c.push.ensures.count c.push.ensures.last c.push.ensures.places refl refl refl refl
+    opened_table c.args.table.now _ c.none-bay.result _ c.requires.table c.push_reserved.ensures.capacity c.none-bay.ensures c.requires.few c.push_reserved.ensures.items (subst (λ n. IsOrderIn n c.push.new.o) c.requires.table.order.order_room c.push.ensures.order) c.push.ensures.count c.push.ensures.last c.push.ensures.places refl refl refl refl
 
 pub returns-clause-opens : goal.returns-clause-opens
 returns-clause-opens c = record {

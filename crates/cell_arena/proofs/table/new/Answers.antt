@@ -15,4 +15,4 @@ returns c =
     let all : c.making._i ≡ c.args.bays = omega arith in
     let size : length c.making.all.items ≡ c.args.bays = c.making.invariant.size ∙ all in
     let order = c.in_ok-order.ensures in
-    (bare_table _ c.making.invariant.bare (omega (arith, size, c.requires)) order.0 (order.1 ∙ sym size) refl refl refl (omega (arith, size)), c.making.invariant.bare, size, refl, refl, refl)
+    (bare_table _ c.making.invariant.bare (omega (arith, size, c.requires)) (c.making.invariant.room ∙ sym size) order.0 (order.1 ∙ sym size) refl refl refl (omega (arith, size)), c.making.invariant.bare, size, refl, refl, refl)
