@@ -46,9 +46,9 @@ no_linked c e at = let none = no_change c in cc
 no_lease : (c : ℕ) → leases_of map.empty c ≡ None
 no_lease c = ap (option_and_then (λ (r : Record). lease_by r.kind r)) (get-empty nat_cmp c)
 
-pub empty_is_log : (cells room : ℕ) (settled recent : Chunked ℕ) → cells % 64 ≡ 0 → cells ≤ 2 ^ 20 → cells ≤ room → settled.items ≡ [] → recent.items ≡ [] → cells ≤ settled.room → cells ≤ recent.room
-    → IsLog (no_records cells) (no_heads room) settled recent 0
-empty_is_log cells room settled recent whole few has_room no_settled no_recent settled_room recent_room = record {
+pub empty_is_log : (cells : ℕ) (settled recent : Chunked ℕ) → cells % 64 ≡ 0 → cells ≤ 2 ^ 20 → settled.items ≡ [] → recent.items ≡ [] → settled.room ≡ cells → recent.room ≡ cells
+    → IsLog (no_records cells) (no_heads cells) settled recent 0
+empty_is_log cells settled recent whole few no_settled no_recent settled_room recent_room = record {
   index = record {
     heads = [];
     are = record {
@@ -80,9 +80,12 @@ empty_is_log cells room settled recent whole few has_room no_settled no_recent s
   space = omega (arith, whole, ap (λ (order : List ℕ). record_cells (changes_in (cells_of map.empty) order)) none);
   most = omega (arith, few);
   reserved = le_refl _;
-  index_capacity = omega (arith, has_room);
+  index_capacity = omega (arith, few);
   settled_capacity = omega (arith, settled_room);
   recent_capacity = omega (arith, recent_room);
+  index_taken = few;
+  settled_taken = omega (arith, few, settled_room);
+  recent_taken = omega (arith, few, recent_room);
 }
   where
     none : settled.items ++ recent.items ≡ []
@@ -174,10 +177,10 @@ module _ {r0 : RegionState} (r1 : RegionState) {heads0 : Heads} {settled recent 
     ]
 
     pub log_more : (heads2 : Heads) (after : Chunked ℕ) → after.items ≡ recent.items ++ c ∷ [] → after.room ≡ recent.room → AllByRecursion (λ x. x.revision ≤ revision) (changes_in (cells_of r0.records) order)
-        → IsIndexOf (cells_of r2.records) heads2.live heads2.dead → IsChained (cells_of r2.records) → heads2.capacity ≡ heads0.capacity
+        → IsIndexOf (cells_of r2.records) heads2.live heads2.dead → IsChained (cells_of r2.records) → heads2.capacity ≡ heads0.capacity → heads2.taken ≡ heads0.taken
         → leases_of r2.records ≡ leases_of r0.records → ArePlain r2.records → r2.free ≡ r1.free → r2.share.reserved ≡ r0.share.reserved → r2.share.rooms ≡ r0.share.rooms
         → IsLog r2 heads2 settled after leases
-    log_more heads2 after more places up index chained room same_leases plain same_free reserved rooms =
+    log_more heads2 after more places up index chained room taken same_leases plain same_free reserved rooms =
         let moved = order_more settled.items recent.items after.items c more in
         let seen = ap (λ (xs : List ℕ). record_cells (changes_in (cells_of r2.records) xs)) moved in
         let cells : record_cells (changes_in (cells_of r2.records) (order ++ c ∷ [])) ≡ record_cells (changes_in (cells_of r0.records) order ++ new_change ∷ []) = ap record_cells changes_more in
@@ -200,6 +203,9 @@ module _ {r0 : RegionState} (r1 : RegionState) {heads0 : Heads} {settled recent 
           index_capacity = omega (arith, rooms, room, log.index_capacity);
           settled_capacity = omega (arith, rooms, log.settled_capacity);
           recent_capacity = omega (arith, rooms, places, log.recent_capacity);
+          index_taken = omega (arith, taken, log.index_taken);
+          settled_taken = log.settled_taken;
+          recent_taken = omega (arith, places, log.recent_taken);
         }
 
 -- ---- one lease more or fewer
@@ -222,6 +228,9 @@ module _ {r0 : RegionState} (r1 : RegionState) {heads : Heads} {settled recent :
         index_capacity = omega (arith, rooms, log.index_capacity);
         settled_capacity = omega (arith, rooms, log.settled_capacity);
         recent_capacity = omega (arith, rooms, log.recent_capacity);
+        index_taken = log.index_taken;
+        settled_taken = log.settled_taken;
+        recent_taken = log.recent_taken;
       }
 
   pub lease_more : (l : LeaseRecord) (now : ℕ) → get r0.records c ≡ None → leases_of r1.records ≡ with_lease_cell (leases_of r0.records) c l → r1.free + 1 ≡ r0.free → now ≡ leases + 1 → IsLog r1 heads settled recent now

@@ -54,7 +54,8 @@ abbrev pub empty_log : ℕ → LogState
 empty_log cells = log_of (no_records cells) [] 0
 
 -- Index, links, order and capacities agree with the records, and each cell in use is of a change or a lease.
--- The order is that of the settled changes and then of the recent ones.
+-- The order is that of the settled changes and then of the recent ones. No part has taken memory for more cells
+-- than the greatest quota has, also where a growth found none for the next part.
 pub record IsLog (region : RegionState) (heads : Heads) (settled_order recent_order : Chunked ℕ)
     (lease_cells : ℕ) : Type 0 where
   pub index : IsIndexOf (cells_of region.records) heads.live heads.dead
@@ -72,6 +73,9 @@ pub record IsLog (region : RegionState) (heads : Heads) (settled_order recent_or
   pub index_capacity : 64 * region.share.rooms ≤ heads.capacity
   pub settled_capacity : 64 * region.share.rooms ≤ settled_order.room
   pub recent_capacity : 64 * region.share.rooms ≤ recent_order.room
+  pub index_taken : heads.taken ≤ 2 ^ 20
+  pub settled_taken : settled_order.room ≤ 2 ^ 20
+  pub recent_taken : recent_order.room ≤ 2 ^ 20
 
 -- how many cells are in use
 abbrev pub used_in : LogState → ℕ

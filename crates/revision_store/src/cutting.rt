@@ -33,6 +33,7 @@ pub(crate) fn cut<S: Segments>(
     ensures compacted { IsCompacted (cells_of region.old.records) (cells_of region.new.records) revision }
     ensures left { AreLeft (cells_of region.new.records) settled.old recent.old settled.new recent.new }
     ensures capacity { index.new.capacity ≡ index.old.capacity }
+    ensures taken { index.new.taken ≡ index.old.taken }
     ensures free { GivesBack
         (λ x. cost (change_of x)) (cells_of region.old.records) (cells_of region.new.records)
         region.old.free region.new.free }

@@ -52,6 +52,7 @@ machine_after_write store new leases after moment quota writes used is counted w
   used = counted ∙ ap (λ (s : Store). cells_used s leases.leases) (sym kept) ∙ ap (λ (b : Book). cells_used new.kept b.leases) (sym others);
   leases = cells ∙ is.leases ∙ ap (λ (b : Book). length b.leases) (sym others);
   room = omega (arith, is.room, rooms, ap (λ (b : Book). b.room) others);
+  taken = omega (arith, is.taken, ap (λ (b : Book). b.taken) others);
   clock = is.clock;
   within = omega (arith, within, reserved);
   allowed = omega (arith, is.allowed, reserved);
@@ -73,6 +74,7 @@ machine_after_compaction store new leases moment quota revision used is sound fi
       used = omega (arith, falls, is.used, taken, records, counted);
       leases = cells ∙ is.leases;
       room = omega (arith, is.room, rooms);
+      taken = is.taken;
       clock = is.clock;
       within = omega (arith, is.within, reserved, falls, fewer);
       allowed = omega (arith, is.allowed, reserved);
@@ -84,11 +86,12 @@ machine_after_compaction store new leases moment quota revision used is sound fi
 -- after a grant one more is
 pub machine_after_grant : (store new : StoreState) (leases after : Book) (moment : ℕ) (quota : Quota) → IsMachine store leases moment quota
     → cells_used store.kept leases.leases + 1 ≤ 64 * store.share.reserved → new.kept ≡ store.kept → new.lease_cells ≡ store.lease_cells + 1 → new.share.reserved ≡ store.share.reserved → new.share.rooms ≡ store.share.rooms
-    → length after.leases ≡ length leases.leases + 1 → after.room ≡ leases.room → KeepsLeases new after moment → IsMachine new after moment (record quota { used = quota.used + 1 })
-machine_after_grant store new leases after moment quota is within kept cells reserved rooms count room keeps = record {
+    → length after.leases ≡ length leases.leases + 1 → after.room ≡ leases.room → after.taken ≡ leases.taken → KeepsLeases new after moment → IsMachine new after moment (record quota { used = quota.used + 1 })
+machine_after_grant store new leases after moment quota is within kept cells reserved rooms count room taken keeps = record {
   used = omega (arith, is.used, ap counted_cells kept, count);
   leases = omega (arith, cells, is.leases, count);
   room = omega (arith, is.room, room, rooms);
+  taken = omega (arith, is.taken, taken);
   clock = is.clock;
   within = omega (arith, is.used, within, reserved);
   allowed = omega (arith, is.allowed, reserved);
@@ -98,11 +101,12 @@ machine_after_grant store new leases after moment quota is within kept cells res
 }
 
 -- new ends of leases change none of it
-pub machine_after_renewal : (store : StoreState) (leases after : Book) (moment : ℕ) (quota : Quota) → IsMachine store leases moment quota → length after.leases ≡ length leases.leases → after.room ≡ leases.room → KeepsLeases store after moment → IsMachine store after moment quota
-machine_after_renewal store leases after moment quota is count room keeps = record {
+pub machine_after_renewal : (store : StoreState) (leases after : Book) (moment : ℕ) (quota : Quota) → IsMachine store leases moment quota → length after.leases ≡ length leases.leases → after.room ≡ leases.room → after.taken ≡ leases.taken → KeepsLeases store after moment → IsMachine store after moment quota
+machine_after_renewal store leases after moment quota is count room taken keeps = record {
   used = omega (arith, is.used, count);
   leases = omega (arith, is.leases, count);
   room = omega (arith, is.room, room);
+  taken = omega (arith, is.taken, taken);
   clock = is.clock;
   within = is.within;
   allowed = is.allowed;
@@ -142,6 +146,7 @@ opened_machine first cells segments most low whole few allowed store book quota 
       used = refl;
       leases = refl;
       room = omega (arith, whole);
+      taken = omega (arith, whole, few);
       clock = omega arith;
       within = omega arith;
       allowed = omega (arith, whole, allowed);

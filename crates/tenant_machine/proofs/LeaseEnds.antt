@@ -172,9 +172,9 @@ module _ (store : StoreState) (book : Book) (moment : ℕ) (quota : Quota) (id :
       its_record = has_record (leases_of mid.records) book.cells book.leases id cell up has still_recorded at
 
       pub ended_machine : (new : StoreState) (after_it : Book) → new.kept ≡ mid.kept → cells_in new ≡ cells_in mid → leases_of new.records ≡ without_lease_cell (leases_of mid.records) cell → new.lease_cells + 1 ≡ mid.lease_cells
-          → new.share.reserved ≡ store.share.reserved → new.share.rooms ≡ store.share.rooms → after_it.leases ≡ without_lease book.leases id → after_it.cells ≡ remove book.cells (ids_below book.leases id) → after_it.counter ≡ book.counter → after_it.room ≡ book.room
+          → new.share.reserved ≡ store.share.reserved → new.share.rooms ≡ store.share.rooms → after_it.leases ≡ without_lease book.leases id → after_it.cells ≡ remove book.cells (ids_below book.leases id) → after_it.counter ≡ book.counter → after_it.room ≡ book.room → after_it.taken ≡ book.taken
           → after_it.attachments ≡ without_keys book.attachments id → IsMachine new after_it moment (record quota { used = quota.used - 1 })
-      ended_machine new after_it kept same_cells records lease_cells reserved rooms leases cells counter room attachments =
+      ended_machine new after_it kept same_cells records lease_cells reserved rooms leases cells counter room taken attachments =
           let done : new.kept ≡ finished store.kept id = kept ∙ kept_finished in
           let one_less : length after_it.leases + 1 ≡ length book.leases = omega (arith, ap length leases, finish_takes_one book.leases id up has) in
           let counted : counted_cells new.kept ≡ counted_cells store.kept = ap counted_cells done ∙ finish_takes_none store.kept id sound.kept in
@@ -182,6 +182,7 @@ module _ (store : StoreState) (book : Book) (moment : ℕ) (quota : Quota) (id :
             used = omega (arith, is.used, counted, one_less);
             leases = omega (arith, is.leases, commits.lease_cells, lease_cells, one_less);
             room = omega (arith, is.room, room, rooms);
+            taken = omega (arith, is.taken, taken);
             clock = is.clock;
             within = omega (arith, is.within, reserved);
             allowed = omega (arith, is.allowed, reserved);

@@ -27,11 +27,12 @@ keeps_with_cells store book moment n keeps = record {
 }
 
 -- the book may have more room than the store, and more memory than that asks for
-pub wider_machine : (store : StoreState) (book : Book) (moment : ℕ) (quota : Quota) (room taken : ℕ) → IsMachine store book moment quota → book.room ≤ room → IsMachine store (record book { room = room; taken = taken }) moment quota
-wider_machine store book moment quota room taken is more = record {
+pub wider_machine : (store : StoreState) (book : Book) (moment : ℕ) (quota : Quota) (room taken : ℕ) → IsMachine store book moment quota → book.room ≤ room → taken ≤ 2 ^ 20 → IsMachine store (record book { room = room; taken = taken }) moment quota
+wider_machine store book moment quota room taken is more few = record {
   used = is.used;
   leases = is.leases;
   room = omega (arith, is.room, more);
+  taken = few;
   clock = is.clock;
   within = is.within;
   allowed = is.allowed;
@@ -52,6 +53,7 @@ roomier_machine store book moment quota segments is few room = record {
   used = is.used;
   leases = is.leases;
   room = omega (arith, is.room, room);
+  taken = is.taken;
   clock = is.clock;
   within = is.within;
   allowed = is.allowed;
@@ -66,6 +68,7 @@ requota_machine store book moment quota n most is whole rooms used allowed = rec
   used = is.used;
   leases = is.leases;
   room = is.room;
+  taken = is.taken;
   clock = is.clock;
   within = omega (arith, used, whole);
   allowed = omega (arith, allowed, whole);

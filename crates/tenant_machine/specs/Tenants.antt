@@ -95,11 +95,13 @@ cells_used kept leases = counted_cells kept + length leases
 
 -- The cells in use are counted, and they and the quota are within the segments that are reserved. Each
 -- lease has a cell, and there is room for one in each cell that the store has rooms for. The book is that of
--- the store. That the store is sound it promises itself.
+-- the store, and has memory for no more leases than the greatest quota has cells. That the store is sound it
+-- promises itself.
 pub record IsMachine (store : StoreState) (book : Book) (moment : ℕ) (quota : Quota) : Type 0 where
   pub used : quota.used ≡ cells_used store.kept book.leases
   pub leases : store.lease_cells ≡ length book.leases
   pub room : 64 * store.share.rooms ≤ book.room
+  pub taken : book.taken ≤ 2 ^ 20
   pub clock : moment ≤ last_moment
   pub within : quota.used ≤ 64 * store.share.reserved
   pub allowed : quota.cells ≤ 64 * store.share.reserved

@@ -36,7 +36,7 @@ invariant_of-self g c =
     let rest = c.add.ensures.rest.1.1 in
     let leases : leases_of r2.records ≡ leases_of c.self.inside.region.records = fun_ext rest.leases ∙ c.place-cell.ensures.leases in
     log_more c.place-cell.new.region c.place-cell.result c.args.revision c.args.write.now c.self.invariant c.place-cell.ensures.fresh c.place-cell.ensures.placed c.place-cell.ensures.free
-    r2 c.add.ensures.same c.add.new.self c.append.new.self c.append.ensures.items c.append.ensures.room up c.add.ensures.index c.add.ensures.chained c.add.ensures.capacity leases c.add.new.records.plain c.add.ensures.free (rest.settles.reserved ∙ c.place-cell.ensures.settles.reserved) (rest.settles.rooms ∙ c.place-cell.ensures.settles.rooms)
+    r2 c.add.ensures.same c.add.new.self c.append.new.self c.append.ensures.items c.append.ensures.room up c.add.ensures.index c.add.ensures.chained c.add.ensures.capacity c.add.ensures.taken leases c.add.new.records.plain c.add.ensures.free (rest.settles.reserved ∙ c.place-cell.ensures.settles.reserved) (rest.settles.rooms ∙ c.place-cell.ensures.settles.rooms)
 
 pub place-cell-requires-clause-of : goal.place-cell-requires-clause-of
 place-cell-requires-clause-of g c = subst (λ (l : LogState). IsOf (cells_of l.records) c.args.revision c.args.write.now) (sym c.self.view_is) c.requires.takes.of.0

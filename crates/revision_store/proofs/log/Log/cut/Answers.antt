@@ -57,4 +57,7 @@ invariant_of-self g c =
       index_capacity = omega (arith, c.self.invariant.index_capacity, c.cut.ensures.rest.settles.rooms, c.cut.ensures.capacity);
       settled_capacity = omega (arith, c.self.invariant.settled_capacity, c.cut.ensures.rest.settles.rooms, c.cut.ensures.left.settled_room);
       recent_capacity = omega (arith, c.self.invariant.recent_capacity, c.cut.ensures.rest.settles.rooms, c.cut.ensures.left.recent_room);
+      index_taken = omega (arith, c.self.invariant.index_taken, c.cut.ensures.taken);
+      settled_taken = omega (arith, c.self.invariant.settled_taken, c.cut.ensures.left.settled_room);
+      recent_taken = omega (arith, c.self.invariant.recent_taken, c.cut.ensures.left.recent_room);
     }

@@ -1,9 +1,8 @@
 use Rattle.std.proofs.Common.{arith}
-use Rattle.std.proofs.Math.Nat.{le_refl}
 use Rattle.revision_store.proofs.Logged.{empty_is_log}
 use Rattle.revision_store.proofs.log.Log.new.Goals as goal
 
 pub invariant_of-result : goal.invariant_of-result
 invariant_of-result c =
     rw (c.in_ok-new.ensures, c.in_ok-new-2.ensures)
-    (empty_is_log c.args.cells c.args.cells c.in_ok-new-3.field-0 c.in_ok-new-4.field-0 c.requires.whole c.requires.few (le_refl _) c.in_ok-new-3.ensures.items c.in_ok-new-4.ensures.items (omega (arith, c.in_ok-new-3.ensures.room)) (omega (arith, c.in_ok-new-4.ensures.room)))
+    (empty_is_log c.args.cells c.in_ok-new-3.field-0 c.in_ok-new-4.field-0 c.requires.whole c.requires.few c.in_ok-new-3.ensures.items c.in_ok-new-4.ensures.items (omega (arith, c.in_ok-new-3.ensures.room)) (omega (arith, c.in_ok-new-4.ensures.room)))

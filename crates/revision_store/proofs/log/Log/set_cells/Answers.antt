@@ -21,4 +21,7 @@ invariant_of-self c =
       index_capacity = was.index_capacity;
       settled_capacity = was.settled_capacity;
       recent_capacity = was.recent_capacity;
+      index_taken = was.index_taken;
+      settled_taken = was.settled_taken;
+      recent_taken = was.recent_taken;
     })

@@ -39,7 +39,7 @@ invariant_of-self g c =
     let ended = c.end-cell.ensures in (
       ended_machine c.self.inside.store book c.self.inside.moment c.self.inside.quota id c.self.invariant.0 c.use_invariant.ensures c.use_invariant-2.ensures has c.delete_keys.new.store c.delete_keys.ensures.commits c.end-cell.result ended.value
           c.release_lease.new.self c.end-cell.new.self released.kept released.cells released.leases released.lease_cells (released.settles.reserved ∙ c.delete_keys.ensures.settles.reserved) (released.settles.rooms ∙ c.delete_keys.ensures.settles.rooms)
-          ended.leases ended.cells ended.counter ended.room ended.attachments,
+          ended.leases ended.cells ended.counter ended.room ended.taken ended.attachments,
       all_as_before c.delete_keys.new.store c.release_lease.new.self c.note.new.self released.kept released.cells
           (c.note.ensures.agree c.self.inside.store (head_deletes (heads_of book.attachments id)) c.delete_keys.ensures.commits c.self.invariant.1),
     )

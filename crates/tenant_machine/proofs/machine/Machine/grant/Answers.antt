@@ -21,7 +21,7 @@ invariant_of-self g c =
     let count : length c.grant.new.self.leases ≡ length book.leases + 1 =
     ap (λ (ls : List Lease). length ls) (c.grant.ensures.leases ∙ granted_is new c.self.inside.moment book.leases fits.end) ∙ grant_adds c.self.inside.moment book.leases new.lease.id new.lease.ttl fits.book.id in (
       machine_after_grant c.self.inside.store c.place_lease-cell.new.self book c.grant.new.self c.self.inside.moment c.self.inside.quota c.self.invariant.0 fits.within
-          c.place_lease-cell.ensures.kept c.place_lease-cell.ensures.lease_cells c.place_lease-cell.ensures.settles.reserved c.place_lease-cell.ensures.settles.rooms count c.grant.ensures.room
+          c.place_lease-cell.ensures.kept c.place_lease-cell.ensures.lease_cells c.place_lease-cell.ensures.settles.reserved c.place_lease-cell.ensures.settles.rooms count c.grant.ensures.room c.grant.ensures.taken
           (keeps_after_grant c.self.inside.store c.place_lease-cell.new.self book c.grant.new.self c.self.inside.moment new c.place_lease-cell.result c.self.invariant.0.keeps c.use_invariant-2.ensures fits.book.id fits.chosen fits.counter fits.end
           c.place_lease-cell.ensures.kept c.place_lease-cell.ensures.cells (ap (option_and_then (λ (r : Record). lease_by r.kind r)) c.place_lease-cell.ensures.fresh)
           (c.place_lease-cell.ensures.leases ∙ ap (λ (id : ℤ). with_lease_cell (leases_of c.self.inside.store.records) c.place_lease-cell.result (record { id = id; ttl = new.lease.ttl })) bits) c.grant.ensures.leases c.grant.ensures.cells c.grant.ensures.counter c.grant.ensures.attachments),

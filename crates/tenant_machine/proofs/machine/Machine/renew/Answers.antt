@@ -15,7 +15,7 @@ invariant_of-self c =
     let has = subst (λ (m : MachineState). has_lease m.leases.leases c.args.id ≡ true) (sym c.self.view_is) c.requires in
     let is = subst (λ z. IfSome (lease_at book.leases z) (λ l. c.renew.new.self.leases ≡ put_lease c.self.inside.moment book.leases z l.ttl)) bits c.renew.ensures.leases in (
       machine_after_renewal c.self.inside.store book c.renew.new.self c.self.inside.moment c.self.inside.quota c.self.invariant.0
-          (kept_alive_adds_none c.self.inside.moment book c.renew.new.self c.args.id c.use_invariant.ensures has is) c.renew.ensures.room
+          (kept_alive_adds_none c.self.inside.moment book c.renew.new.self c.args.id c.use_invariant.ensures has is) c.renew.ensures.room c.renew.ensures.taken
           (keeps_after_renewal c.self.inside.store book c.renew.new.self c.self.inside.moment c.args.id c.self.invariant.0.keeps c.use_invariant.ensures has is c.renew.ensures.cells c.renew.ensures.counter c.renew.ensures.attachments),
       c.self.invariant.1,
     )
