@@ -1,5 +1,5 @@
 -- The first rows of an order, where no more of them are held than are to be given.
-use Rattle.std.specs.Prelude.{◌≡◌, ℕ, ◌++◌, List, take}
+use Rattle.std.specs.Prelude.{◌≡◌, ℕ, ◌+◌, ◌*◌, ◌++◌, List, min, take}
 use Rattle.std.specs.declared.cmp.Ordering.{Ordering}
 use Rattle.std.specs.List.{IsDistinct}
 use Rattle.std.specs.Ordering.{eq_by_cmp}
@@ -28,3 +28,8 @@ pub record AreEnough (q : RangeReq) (limit : ℕ) (old new : List KeyValue) : Ty
 -- no two rows are of one key
 abbrev pub HaveOwnKeys : List KeyValue → Type 0
 HaveOwnKeys rows = IsDistinct (eq_by_cmp by_key) rows
+
+-- how many of some rows are held at most while the first `limit` of them are looked for: a new one, and
+-- those that are not yet cut
+abbrev pub most_held : ℕ → ℕ → ℕ
+most_held limit rows = min rows (2 * limit + 1)

@@ -6,4 +6,4 @@ mod sorting;
 mod taking;
 
 pub use answering::{is_by_key, is_cut, is_wanted, limit_of, needs_values, shown, wants_all};
-pub use taking::{keep_few, keep_first};
+pub use taking::{keep_few, keep_first, most_held};

@@ -7,4 +7,4 @@ pub returns-then-len-limit-clause-enough : goal.returns-then-len-limit-clause-en
 returns-then-len-limit-clause-enough c =
     let q = c.args.request.now in
     let rows = c.args.rows.now.items in
-    subst (AreEnough q c.args.limit rows) (sym c.keep_first.ensures) (first_enough q c.args.limit rows c.requires)
+    subst (AreEnough q c.args.limit rows) (sym c.keep_first.ensures.first) (first_enough q c.args.limit rows c.requires)

@@ -1,0 +1,162 @@
+"""Single calls of the replay program, each with the most bytes that it may take and leave."""
+import base64
+import json
+from typing import NamedTuple
+
+from shared.held import HeldProgram
+from shared.report import fault_of, want
+from shared.script import SEGMENT_CELLS
+from sizing.host_size import ROW, SEGMENT_MOST
+
+KEYS = 240_000
+CELLS = 1_048_576
+# As many operations as a branch of a transaction may have.
+MAX_OPS = 128
+# A tenant that is resized, from so many cells to twice as many.
+SMALL = 65_536
+ROWS = 1_000
+
+# What a call takes beside rows and lists: the tree of its short body, what is planned of it, and a text without rows.
+FRONT = 2_048
+# What an operation of a transaction takes while its body is a tree; and then the request, the change, and the answer.
+OPERATION_READ, OPERATION_PLANNED = 2_304, 512
+# A place in a list of cells; a row without its key and its value; and a change that a plan writes, with its tag.
+CELL_NUMBER, ROW_HELD, CHANGE = 4, 80, 88
+# The notes of a watch.
+RING = 256 * 16
+# A long list is rounded up to pages. One that doubles is held twice while it moves: as it was, and for twice as many.
+PAGE, DOUBLED = 4_096, 3
+
+
+def text(data):
+    return base64.b64encode(data).decode()
+
+
+def block(size):
+    """What the allocator keeps for so many bytes."""
+    return max(24, (size + 8 + 15) // 16 * 16 - 8) if size else 0
+
+
+def listed(size, count=KEYS):
+    """A list of so many items of a size."""
+    return size * count + PAGE
+
+
+def row(key, value):
+    """The bytes of one row that is answered, by the lengths of its key and its value: as it is held and as it is written."""
+    return ROW_HELD + block(key) + block(value) + ROW + len(text(bytes(key))) + len(text(bytes(value)))
+
+
+def key_of(number):
+    return b"key%06d" % number
+
+
+VALUE = b"v"
+ONE_ROW = row(len(key_of(0)), len(VALUE))
+
+
+class Single(NamedTuple):
+    """A call, or a line of the operator, with the front of its answer and the most bytes that it may take and leave."""
+
+    name: str
+    line: str
+    answer: str
+    most: int
+    left: int = 0
+
+
+def call(path, body, tenant="one"):
+    return f"call POST /t/{tenant}/v3/{path} {json.dumps(body, separators=(',', ':'))}\n"
+
+
+def all_keys(**more):
+    return {"key": "AA==", "range_end": "AA==", **more}
+
+
+def put_of(number, **more):
+    return {"key": text(key_of(number)), "value": text(VALUE), **more}
+
+
+def txn_of(numbers, *others):
+    """A transaction that puts keys, and whatever else it does."""
+    return call("kv/txn", {"success": [*({"request_put": put_of(number)} for number in numbers), *others]})
+
+
+def filled():
+    """The lines of a tenant with so many keys, and of one with none."""
+    yield f"pool {(CELLS + 2 * SMALL) // SEGMENT_CELLS}\n"
+    yield f"add one 7 {CELLS} 1\n"
+    yield f"add two 8 {SMALL} 1\n"
+    for first in range(0, KEYS, MAX_OPS):
+        yield txn_of(range(first, min(first + MAX_OPS, KEYS)))
+
+
+def ranges():
+    """Reads of all keys. They leave nothing."""
+    before = str(KEYS // MAX_OPS)
+    cells = listed(CELL_NUMBER)
+    for name, more, most in [
+        ("a count", {"count_only": True}, 0),
+        ("a count at a revision before", {"count_only": True, "revision": before}, 0),
+        ("the first row", {"limit": "1"}, ONE_ROW),
+        (f"the first {ROWS:,} rows", {"limit": str(ROWS)}, ROWS * (CELL_NUMBER + ONE_ROW)),
+        # All cells are listed, and three rows are held at the most.
+        ("the row of the least value", {"limit": "1", "sort_target": "VALUE"}, cells + 3 * ONE_ROW),
+        ("the first row at a revision before", {"limit": "1", "revision": before}, DOUBLED * cells + ONE_ROW),
+    ]:
+        yield Single(f"{name} of {KEYS:,} keys", call("kv/range", all_keys(**more)), '200 {"count":"2', FRONT + most)
+
+
+def transactions():
+    """Transactions of as many operations as one may have. The tree of their bodies is gone before they are planned."""
+    read, planned = MAX_OPS * OPERATION_READ, MAX_OPS * OPERATION_PLANNED
+    behind = {"request_range": all_keys(limit="1")}
+    answer = '200 {"header"'
+    yield Single(f"{MAX_OPS} puts", txn_of(range(MAX_OPS)), answer, FRONT + read)
+    # A range of an interval in which puts are pending lists its cells.
+    line = txn_of(range(MAX_OPS - 1), behind)
+    most = FRONT + max(read, planned + listed(CELL_NUMBER) + ONE_ROW)
+    # It is the longest line so far, and the program keeps room for that, which doubles.
+    yield Single(f"a range behind {MAX_OPS - 1} pending puts", line, answer, most, 2 * len(line))
+
+
+def short_calls():
+    """Calls whose answers have at most a row."""
+    watch = {"create_request": {"key": text(b"a"), "range_end": text(b"z")}}
+    interval = 2 * block(1)
+    yield Single("a grant", call("lease/grant", {"TTL": "100", "ID": "5"}), '200 {"ID":"5"', FRONT)
+    yield Single("a put that takes a lease", call("kv/put", put_of(7, lease="5")), '200 {"header"', FRONT)
+    yield Single("a lease and its key", call("lease/timetolive", {"ID": "5", "keys": True}), '200 {"ID":"5"', FRONT)
+    yield Single("a watch", call("watch", watch), '200 {"result":{"created":true', FRONT + RING, block(RING) + interval)
+    yield Single("a put that is watched", call("kv/put", put_of(8)), '200 {"header"', FRONT)
+    yield Single("a take", "take one 0\n", '200 {"result":{"events"', FRONT + ONE_ROW)
+    yield Single("the end of a lease", call("lease/revoke", {"ID": "5"}), '200 {"header"', FRONT)
+    yield Single("a compaction", call("kv/compaction", {"revision": str(KEYS // MAX_OPS)}), '200 {"header"', FRONT)
+
+
+def large_calls():
+    """A resize, which has room at the most for what tools/size counts; and a delete of all keys."""
+    room = SMALL // SEGMENT_CELLS * SEGMENT_MOST
+    yield Single(f"a resize by {SMALL:,} cells", f"resize two {2 * SMALL}\n", "ok", room, room)
+    yield Single("a resize back", f"resize two {SMALL}\n", "ok", 0)
+    deleted = listed(CELL_NUMBER) + listed(CHANGE)
+    yield Single("a delete of all keys", call("kv/deleterange", all_keys()), '200 {"deleted":"2', FRONT + deleted)
+
+
+def check(program, single):
+    told, most, left = program.ask_alone(single.line.encode())
+    print(f"{single.name}: {most:,} of {single.most:,} bytes, and {left:,} of {single.left:,} left", flush=True)
+    want(told.startswith(single.answer.encode()), f"it is answered {told[:200]!r}")
+    want(0 <= most <= single.most, "the call takes too much")
+    want(left <= single.left, "the call leaves too much")
+
+
+def results(path):
+    """Of each call its name, and what is wrong with it, or nothing."""
+    with HeldProgram(path) as program:
+        for line in filled():
+            told = program.ask_line(line.encode())
+            want(told.startswith((b"ok", b"200")), f"{line[:100]} is answered {told[:200]!r}")
+        for kind in [ranges, transactions, short_calls, large_calls]:
+            for single in kind():
+                yield single.name, fault_of(check, program, single)
