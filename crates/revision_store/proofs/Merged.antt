@@ -1,12 +1,12 @@
 -- Newest records of live keys and of deleted ones, merged by their keys.
-use Rattle.std.proofs.Common.{◌≡◌, ℕ, suc, ◌+◌, ◌-◌, ◌^◌, ◌≤◌, List, [], ◌∷◌, ◌++◌, length, get_or, drop, map, Option, Some, None, IsSome, IfSome, Bool, true, false, refl, sym, ap, ◌∙◌, subst, arith, cond}
-use Rattle.std.specs.Prelude.{not, filter, MatchOption, option_and_then}
+use Rattle.std.proofs.Common.{◌≡◌, ℕ, suc, ◌+◌, ◌-◌, ◌^◌, ◌≤◌, List, [], ◌∷◌, ◌++◌, length, get_or, drop, map, Option, Some, None, IsSome, IfSome, is_some, Bool, true, false, refl, sym, ap, ◌∙◌, subst, arith, cond}
+use Rattle.std.specs.Prelude.{not, filter, MatchOption, option_and_then, if◌then◌else◌}
 use Rattle.std.specs.Ordering.{is_lt, nat_cmp}
 use Rattle.std.specs.FinMap.{FinMap}
 use Rattle.std.specs.List.{All, AllByRecursion}
 use Rattle.std.specs.Option.{option_to_list}
 use Rattle.std.specs.declared.cmp.Ordering.TheVariants.{Less}
-use Rattle.std.proofs.lemmas.List.{append-nil, length-drop, length-take}
+use Rattle.std.proofs.lemmas.List.{append-nil, length-append, length-drop, length-map, length-take}
 use Rattle.std.proofs.lemmas.List.Elements.{All-filter, All-from_recursion, All-head, recursion_from_All, All-append}
 use Rattle.std.proofs.lemmas.List.Filters.{length-filter_both}
 use Rattle.chunk_list.specs.Chunked.{Chunked}
@@ -182,6 +182,12 @@ pub record IsReading (cells : Cells) (look : List ℕ → Option KeyValue) (left
   pub left_is : AreLeft cells heads left
   pub found_is : map (row_at cells) found ++ map Some (shown look cells heads) ≡ map Some all
 
+-- the same where the cells that are found are only counted
+pub record IsCounting (cells : Cells) (look : List ℕ → Option KeyValue) (left : HeadsLeft) (count : ℕ) (all : List KeyValue) : Type 0 where
+  pub found : List ℕ
+  pub reading : IsReading cells look left found all
+  pub count_is : length found ≡ count
+
 module _ (cells : Cells) (look : List ℕ → Option KeyValue) (left : HeadsLeft) (found : List ℕ) (all : List KeyValue) (reading : IsReading cells look left found all) where
   -- each that is left has a record
   pub left_there : AllByRecursion (λ c. IsSome (cells c)) (left.live ++ left.dead)
@@ -203,6 +209,10 @@ module _ (cells : Cells) (look : List ℕ → Option KeyValue) (left : HeadsLeft
       sym (append-nil (map (row_at cells) found))
       ∙ ap (λ (hs : List ℕ). map (row_at cells) found ++ map Some (shown look cells hs)) (sym none)
       ∙ reading.found_is
+
+  -- and they are as many
+  counted_done : reading.heads ≡ [] → length found ≡ length all
+  counted_done none = sym (length-map found (row_at cells)) ∙ ap length (reading_done none) ∙ length-map all Some
 
   module _ (after : HeadsLeft) (head : ℕ) (takes : TakesFirst cells reading.heads after head) where
     here : IsSpread cells (head ∷ takes.rest)
@@ -227,6 +237,25 @@ module _ (cells : Cells) (look : List ℕ → Option KeyValue) (left : HeadsLeft
       left_is = takes.left_is;
       found_is = found_on look cells takes.rest found new all head o is there added (ap (λ (hs : List ℕ). map (row_at cells) found ++ map Some (shown look cells hs)) (sym takes.first) ∙ reading.found_is);
     }
+
+one_more : (o : Option ℕ) (b : Bool) → b ≡ is_some o → length (option_to_list o) ≡ (if b then 1 else 0)
+one_more None b is = rw is refl
+one_more (Some x) b is = rw is refl
+
+-- one more is counted where the next head has a row
+pub counting_on : (cells : Cells) (look : List ℕ → Option KeyValue) (left : HeadsLeft) (count : ℕ) (all : List KeyValue) (counting : IsCounting cells look left count all) (after : HeadsLeft) (head : ℕ) → TakesFirst cells counting.reading.heads after head → (n : ℕ) (o : Option ℕ) (b : Bool)
+    → option_and_then (row_at cells) o ≡ look (key_at cells head) → IfSome o (λ c. IsSome (row_at cells c)) → b ≡ is_some o → n ≡ count + (if b then 1 else 0) → IsCounting cells look after n all
+counting_on cells look left count all counting after head takes n o b is there counts more =
+    let new : List ℕ = counting.found ++ option_to_list o in
+    record {
+      found = new;
+      reading = reading_on cells look left counting.found all counting.reading after head takes new o is there refl;
+      count_is = length-append counting.found (option_to_list o) ∙ ap (λ k. k + length (option_to_list o)) counting.count_is ∙ ap (λ k. count + k) (one_more o b counts) ∙ sym more;
+    }
+
+-- all are counted once none is left
+pub counting_done : (cells : Cells) (look : List ℕ → Option KeyValue) (left : HeadsLeft) (count : ℕ) (all : List KeyValue) (counting : IsCounting cells look left count all) → counting.reading.heads ≡ [] → count ≡ length all
+counting_done cells look left count all counting none = sym counting.count_is ∙ counted_done cells look left counting.found all counting.reading none
 
 module _ (cells : Cells) (live_heads dead_heads order key end : List ℕ) (parted : IsIndexOf cells live_heads dead_heads) (own : (c : ℕ) (e : Linked) → cells c ≡ Some e → OwnRow e.change) (r : ℕ) where
   abbrev inside : ℕ → Bool

@@ -11,3 +11,4 @@ pub mod Mixing
 pub mod Comparing
 pub mod Merging
 pub mod Walking
+pub mod Room

@@ -1,5 +1,6 @@
 //! A change under its cell: its key, its row, and what its key showed before.
-ghost use Rattle.std.specs.Prelude.{◌≡◌, ◌-◌, ◌≤◌, Some, IsSome, IfSome, IfOk, option_and_then, take};
+ghost use Rattle.std.specs.Prelude.{◌≡◌, ◌-◌, ◌≤◌, [], length, take, vec_capacity, Some, IsSome, IfSome, IfOk};
+ghost use Rattle.std.specs.Prelude.{option_and_then};
 ghost use Rattle.std.specs.List.{AllByRecursion};
 ghost use Rattle.etcd_model.specs.Changes.{live};
 ghost use Rattle.etcd_model.specs.Store.{kept_store};
@@ -74,9 +75,19 @@ impl Log {
         requires { IsSome (cells_of self.now.records cell) }
         ensures { IfOk result (λ key. key ≡ key_at (cells_of self.now.records) cell) }
     {
-        let mut key = Vec::with_capacity(alloc, self.region.key_len(cell) as usize)?;
+        let mut key = self.room_for_key(alloc, cell)?;
         self.region.read_key(cell, &mut key)?;
         Ok(List::from_vec(key))
+    }
+
+    /// Room for the key of the change under a cell, and for no more.
+    fn room_for_key(&self, alloc: Global, cell: CellNo) -> Mem<Vec<u8>>
+        requires { IsSome (cells_of self.now.records cell) }
+        ensures none { IfOk result (λ key. key.items ≡ []) }
+        ensures room { IfOk result
+            (λ key. vec_capacity key ≤ length (key_at (cells_of self.now.records) cell)) }
+    {
+        Vec::with_capacity(alloc, self.region.key_len(cell) as usize)
     }
 
     /// The first 48 bytes of the key of the change under a cell, or the whole key if it has no more.

@@ -4,6 +4,7 @@
 mod changes;
 mod comparing;
 mod cutting;
+mod growing;
 mod heads;
 mod keys;
 mod log;

@@ -1,5 +1,5 @@
 //! Ranges of an interval in which puts are pending: of the rows under some cells, and of those of the puts.
-ghost use Rattle.std.specs.Prelude.{◌≡◌, ◌++◌, ◌<◌, ◌^◌, IfOk, filter, map};
+ghost use Rattle.std.specs.Prelude.{◌≡◌, ◌+◌, ◌++◌, ◌<◌, ◌≤◌, ◌^◌, IfOk, filter, length, map, vec_capacity};
 ghost use Rattle.std.specs.List.Sorted.{IsStrictlySortedBy};
 ghost use Rattle.etcd_model.specs.Order.{by_key, in_order};
 ghost use Rattle.etcd_model.specs.Ranges.{is_wanted, range_reply};
@@ -9,8 +9,10 @@ ghost use Rattle.revision_store.specs.Pending.{AreRows};
 ghost use Rattle.range_rows.specs.Reading.{read};
 ghost use Rattle.revision_store.specs.Ranging.{rows_of};
 ghost use Rattle.revision_store.specs.Recorded.{cells_of};
-ghost use Rattle.range_rows.specs.Taking.{NoneTies, first_of};
+ghost use Rattle.range_rows.specs.Taking.{NoneTies, first_of, most_held};
+ghost use Rattle.revision_store.specs.Room.{most_room};
 
+use crate::growing::Growing;
 use crate::log::Log;
 use crate::ranging::{reply_of, wanted};
 use crate::taking::first_rows;
@@ -58,17 +60,18 @@ fn wanted_puts<'a>(
     request: &RangeReq,
     puts: &[&'a KeyValue],
 ) -> Mem<Vec<&'a KeyValue>>
-    ensures { IfOk result
+    ensures puts { IfOk result
         (λ found. map (λ row. row.now) found.items
         ≡ filter (is_wanted request.now) (map (λ row. row.now) puts.now)) }
+    ensures room { IfOk result (λ found. vec_capacity found ≤ most_room (length found.items)) }
 {
-    let mut found = Vec::new(alloc);
+    let mut found = Growing::new(alloc);
     for put in puts {
         if is_wanted(request, put.create_revision, put.mod_revision) {
             found.push(*put)?;
         }
     }
-    Ok(found)
+    Ok(found.into_vec())
 }
 
 /// What is given of the rows under some cells, which ascend by key, and of those of some puts, where all
@@ -93,12 +96,13 @@ fn mixed_given(
     if is_by_key(request) {
         cells.truncate(limit);
     }
-    let first = first_rows(alloc, log, request, &cells, limit)?;
+    let first = first_rows(alloc, log, request, &cells, limit, puts.len())?;
     let first = first_with(alloc, request, first, puts, limit)?;
     Ok(shown(alloc, request, first))
 }
 
-/// So many of some rows and of those of some puts, the first ones in the order of a range.
+/// So many of some rows and of those of some puts, the first ones in the order of a range. For those that are held at
+/// a time there is room.
 fn first_with(
     alloc: Global,
     request: &RangeReq,
@@ -106,15 +110,18 @@ fn first_with(
     puts: &[&KeyValue],
     limit: usize,
 ) -> Mem<Vec<KeyValue>>
-    requires { NoneTies request.now (first.items ++ map (read request.now) (map (λ row. row.now) puts.now)) }
-    ensures { IfOk result
+    requires apart { NoneTies request.now
+        (first.items ++ map (read request.now) (map (λ row. row.now) puts.now)) }
+    requires room { most_held limit (length first.items + length puts.now) ≤ vec_capacity first }
+    ensures rows { IfOk result
         (λ found. found.items
         ≡ first_of request.now limit
         (first.items ++ map (read request.now) (map (λ row. row.now) puts.now))) }
+    ensures room { IfOk result (λ found. vec_capacity found ≡ vec_capacity first) }
 {
     for put in puts {
         keep_few(&mut first, request, limit);
-        first.push(put_read(alloc, request, put)?)?;
+        first.push_reserved(put_read(alloc, request, put)?);
     }
     keep_first(&mut first, request, limit);
     Ok(first)

@@ -1,16 +1,19 @@
 //! Changes that are pending.
-ghost use Rattle.std.specs.Prelude.{◌≡◌, ◌+◌, ◌<◌, ◌^◌, [], false, map, pos, Some, None, IfOk, OnOk, OnErr};
+ghost use Rattle.std.specs.Prelude.{◌≡◌, ◌+◌, ◌<◌, ◌≤◌, ◌^◌, [], false, length, map, pos, vec_capacity, Some, None};
+ghost use Rattle.std.specs.Prelude.{IfOk, OnOk, OnErr};
 ghost use Rattle.etcd_types.specs.declared.reply.OpReply.TheVariants.{Delete as DeleteReply};
 ghost use Rattle.etcd_types.specs.declared.txn.Op.TheVariants.{Range as RangeOp, Put as PutOp};
 ghost use Rattle.etcd_types.specs.declared.txn.Op.TheVariants.{Delete as DeleteOp};
 ghost use Rattle.etcd_model.specs.Operations.{and_changes, op_reply};
 ghost use Rattle.etcd_model.specs.Ranges.{range_reply};
 ghost use Rattle.etcd_model.specs.Reads.{revision_read, unreadable};
+ghost use Rattle.revision_store.specs.Room.{most_room};
 ghost use Rattle.revision_store.specs.Stored.{IsPlanFor, cells, changes_of, look, reads, row_at};
 ghost use Rattle.revision_store.specs.Pending.{changes_key, pending_reads, puts_inside, puts_within};
 
+use crate::growing::make_room;
 use crate::mixing::mixed_reply;
-use crate::pending_deletes::{left_cells, push_deletes};
+use crate::pending_deletes::left_cells;
 use crate::pending_puts::{puts_in, puts_of, unput_cells};
 use crate::plan::{Plan, Write};
 use crate::putting::DecidedPut;
@@ -26,8 +29,8 @@ use std::marker::Model;
 pub struct Pending<'a> {
     store: &'a Store,
     /// In the order of their operations.
-    writes: Vec<Write>,
-    /// Where the puts stand among them.
+    plan: Plan,
+    /// Where the puts stand in the plan.
     puts: Vec<usize>,
     deletes: Vec<&'a DeleteReq>,
 }
@@ -41,10 +44,10 @@ impl<'a> Model for Pending<'a> {
 
     ghost coded = { pending_code };
 
-    ghost view = { λ p. record { store = p.store.now; changes = changes_of p.store.now p.writes.items } };
+    ghost view = { λ p. record { store = p.store.now; changes = changes_of p.store.now p.plan } };
 
     ghost invariant = { λ p.
-        IsPending p.store.now p.writes.items p.puts.items (map (λ d. d.now) p.deletes.items) };
+        IsPending p.store.now p.plan p.puts.items (map (λ d. d.now) p.deletes.items) };
 }
 
 impl<'a> Pending<'a> {
@@ -55,7 +58,7 @@ impl<'a> Pending<'a> {
         store.use_invariant();
         Pending {
             store,
-            writes: Vec::new(alloc),
+            plan: Plan::new(alloc),
             puts: Vec::new(alloc),
             deletes: Vec::new(alloc),
         }
@@ -66,7 +69,7 @@ impl<'a> Pending<'a> {
         ensures current { result ≡ (pending_reads self.now).current }
         ensures short { result < 2 ^ 63 }
     {
-        if self.writes.is_empty() {
+        if self.plan.is_empty() {
             self.store.current()
         } else {
             self.store.current() + 1
@@ -87,7 +90,7 @@ impl<'a> Pending<'a> {
         if request.revision > 0 {
             return self.store.range_at(alloc, request, self.current());
         }
-        if puts_in(&self.writes, &self.puts, key, range_end) {
+        if puts_in(self.plan.writes(), &self.puts, key, range_end) {
             return self.mixed_range(alloc, request);
         }
         let store = self.store;
@@ -109,7 +112,7 @@ impl<'a> Pending<'a> {
         let key = request.key.as_slice();
         let range_end = request.range_end.as_slice();
         let store = self.store;
-        let puts = puts_of(alloc, &self.writes, &self.puts, key, range_end)?;
+        let puts = puts_of(alloc, self.plan.writes(), &self.puts, key, range_end)?;
         let live = store.log.newest_list(alloc, key, range_end)?;
         let left = left_cells(alloc, &store.log, live, &self.deletes)?;
         let left = unput_cells(&store.log, left, &puts);
@@ -131,11 +134,11 @@ impl<'a> Pending<'a> {
             ≡ op_reply (pending_reads self.old) (self.old.store.kept.current + 1) (PutOp request.now)) }
         ensures memory { OnErr result (self.new ≡ self.old) }
     {
-        self.puts.reserve(1)?;
+        make_room(&mut self.puts, 1)?;
         let live = self.store.live(request.key.as_slice());
         let DecidedPut { row, reply } = self.store.decide_put(alloc, request, live)?;
-        let place = self.writes.len();
-        self.writes.push(Write::Put(row))?;
+        let place = self.plan.len();
+        self.plan.push(Write::Put(row))?;
         self.puts.push_reserved(place);
         Ok(reply)
     }
@@ -158,8 +161,8 @@ impl<'a> Pending<'a> {
         let cells = self.live_cells(alloc, request.key.as_slice(), request.range_end.as_slice())?;
         let store = self.store;
         let prev_kvs = rows_asked(alloc, &store.log, &cells, request.prev_kv)?;
-        self.deletes.reserve(1)?;
-        push_deletes(&mut self.writes, &cells)?;
+        make_room(&mut self.deletes, 1)?;
+        self.plan.push_deletes(&cells)?;
         self.deletes.push_reserved(request);
         Ok(delete_reply(self.current(), cells.len() as u64, prev_kvs))
     }
@@ -167,9 +170,10 @@ impl<'a> Pending<'a> {
     /// The cells of the rows of an interval that nothing pending puts.
     fn live_cells(&self, alloc: Global, key: &[u8], range_end: &[u8]) -> Mem<Vec<CellNo>>
         requires { puts_within key.now range_end.now self.now.changes ≡ false }
-        ensures { IfOk result
+        ensures cells { IfOk result
             (λ found. map (row_at (cells self.now.store)) found.items
             ≡ map Some ((pending_reads self.now).rows key.now range_end.now)) }
+        ensures room { IfOk result (λ found. vec_capacity found ≤ most_room (length found.items)) }
     {
         let store = self.store;
         let live = store.log.newest_list(alloc, key, range_end)?;
@@ -183,11 +187,11 @@ impl<'a> Pending<'a> {
     {
         let Pending {
             store: _,
-            writes,
+            plan,
             puts: _,
             deletes: _,
         } = self;
-        Plan::new(writes)
+        plan
     }
 }
 

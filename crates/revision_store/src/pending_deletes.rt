@@ -1,13 +1,13 @@
 //! The rows of the store that pending deletes leave.
-ghost use Rattle.std.specs.Prelude.{◌≡◌, ◌++◌, map, IsSome, IfOk, OnOk, OnErr};
+ghost use Rattle.std.specs.Prelude.{◌≡◌, ◌≤◌, length, map, vec_capacity, IsSome, IfOk};
 ghost use Rattle.revision_store.specs.Plans.{key_at};
 ghost use Rattle.revision_store.specs.Recorded.{cells_of};
 ghost use Rattle.revision_store.specs.Stored.{row_at};
 ghost use Rattle.revision_store.specs.Pending.{AreRows, is_erased, left_cells};
-ghost use Rattle.revision_store.specs.declared.plan.Write.TheVariants.{Delete};
+ghost use Rattle.revision_store.specs.Room.{most_room};
 
+use crate::growing::Growing;
 use crate::log::Log;
-use crate::plan::Write;
 use etcd_types::{CellNo, DeleteReq, Mem};
 use std::alloc::Global;
 
@@ -31,10 +31,12 @@ pub(crate) fn left_cells(
     cells: Vec<CellNo>,
     deletes: &[&DeleteReq],
 ) -> Mem<Vec<CellNo>>
-    requires { AreRows (cells_of log.now.records) cells.items }
-    ensures { IfOk result
+    requires rows { AreRows (cells_of log.now.records) cells.items }
+    requires room { vec_capacity cells ≤ most_room (length cells.items) }
+    ensures cells { IfOk result
         (λ left. left.items
         ≡ left_cells (cells_of log.now.records) (map (λ d. d.now) deletes.now) cells.items) }
+    ensures room { IfOk result (λ left. vec_capacity left ≤ most_room (length left.items)) }
 {
     if deletes.is_empty() {
         return Ok(cells);
@@ -50,27 +52,16 @@ fn without_erased(
     deletes: &[&DeleteReq],
 ) -> Mem<Vec<CellNo>>
     requires { AreRows (cells_of log.now.records) cells.now }
-    ensures { IfOk result
+    ensures cells { IfOk result
         (λ left. left.items
         ≡ left_cells (cells_of log.now.records) (map (λ d. d.now) deletes.now) cells.now) }
+    ensures room { IfOk result (λ left. vec_capacity left ≤ most_room (length left.items)) }
 {
-    let mut left = Vec::new(alloc);
+    let mut left = Growing::new(alloc);
     for cell in cells {
         if !is_erased(log, *cell, deletes) {
             left.push(*cell)?;
         }
     }
-    Ok(left)
-}
-
-/// One more write for each cell, a delete of the key that its row has.
-pub(crate) fn push_deletes(writes: &mut Vec<Write>, cells: &[CellNo]) -> Mem<()>
-    ensures ok { OnOk result (writes.new.items ≡ writes.old.items ++ map Delete cells.now) }
-    ensures err { OnErr result (writes.new.items ≡ writes.old.items) }
-{
-    writes.reserve(cells.len())?;
-    for cell in cells {
-        writes.push_reserved(Write::Delete(*cell));
-    }
-    Ok(())
+    Ok(left.into_vec())
 }

@@ -1,12 +1,14 @@
 //! The puts that are pending in an interval, and the rows of the store that they leave there.
-ghost use Rattle.std.specs.Prelude.{◌≡◌, ◌<◌, IfOk, IfSome, MatchOption, filter, length, map};
+ghost use Rattle.std.specs.Prelude.{◌≡◌, ◌<◌, ◌≤◌, IfOk, IfSome, MatchOption, filter, length, map, vec_capacity};
 ghost use Rattle.std.specs.List.{list_any, remove};
 ghost use Rattle.std.specs.List.Sorted.{IsStrictlySortedBy};
 ghost use Rattle.std.specs.Option.{option_copied};
 ghost use Rattle.revision_store.specs.Mixing.{by_cell, cells_without, unput_cells};
 ghost use Rattle.revision_store.specs.Pending.{AreRows, is_row_in, put_at, rows_at};
 ghost use Rattle.revision_store.specs.Recorded.{cells_of};
+ghost use Rattle.revision_store.specs.Room.{most_room};
 
+use crate::growing::Growing;
 use crate::log::Log;
 use crate::plan::Write;
 use etcd_types::{CellNo, KeyValue, Mem};
@@ -45,18 +47,19 @@ pub(crate) fn puts_of<'a>(
     key: &[u8],
     range_end: &[u8],
 ) -> Mem<Vec<&'a KeyValue>>
-    ensures { IfOk result
+    ensures puts { IfOk result
         (λ found. map (λ row. row.now) found.items
         ≡ filter (is_row_in key.now range_end.now) (rows_at writes.now places.now)) }
+    ensures room { IfOk result (λ found. vec_capacity found ≤ most_room (length found.items)) }
 {
-    let mut found = Vec::new(alloc);
+    let mut found = Growing::new(alloc);
     for place in places {
         match put_at(writes, *place) {
             Some(row) if is_in(key, range_end, row.key.as_slice()) => found.push(row)?,
             _ => {}
         }
     }
-    Ok(found)
+    Ok(found.into_vec())
 }
 
 /// Those of some cells, which ascend by key, whose keys none of some rows has. Takes no memory, and looks at

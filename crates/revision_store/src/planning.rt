@@ -54,12 +54,9 @@ impl Store {
             return Ok(Err(Refusal::KeyNotFound));
         }
         let DecidedPut { row, reply } = self.decide_put(alloc, request, live)?;
-        let mut writes = Vec::with_capacity(alloc, 1)?;
-        writes.push_reserved(Write::Put(row));
-        Ok(Ok(PlannedOp {
-            plan: Plan::new(writes),
-            reply,
-        }))
+        let mut plan = Plan::new(alloc);
+        plan.push(Write::Put(row))?;
+        Ok(Ok(PlannedOp { plan, reply }))
     }
 
     /// Decides a delete of the live keys of an interval.

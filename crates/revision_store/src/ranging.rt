@@ -1,5 +1,5 @@
 //! The answer of a range.
-ghost use Rattle.std.specs.Prelude.{◌≡◌, ◌<◌, ◌^◌, map, pos, true, false, None, Some, IsSome, is_some};
+ghost use Rattle.std.specs.Prelude.{◌≡◌, ◌<◌, ◌≤◌, ◌^◌, length, map, vec_capacity, pos, true, false, None, Some, IsSome, is_some};
 ghost use Rattle.std.specs.Prelude.{IfOk, IsOk, MatchResult};
 ghost use Rattle.std.specs.List.Sorted.{IsStrictlySortedBy};
 ghost use Rattle.etcd_types.specs.declared.reply.OpReply.TheVariants.{Range as RangeReply};
@@ -14,8 +14,10 @@ ghost use Rattle.range_rows.specs.Reading.{AllAreGiven, row_passes, read};
 ghost use Rattle.revision_store.specs.Ranging.{rows_of};
 ghost use Rattle.revision_store.specs.Ranging.{wanted_cells};
 ghost use Rattle.revision_store.specs.Recorded.{cells_of};
+ghost use Rattle.revision_store.specs.Room.{most_room};
 ghost use Rattle.revision_store.specs.Stored.{reads, row_at};
 
+use crate::growing::Growing;
 use crate::log::Log;
 use crate::rows::{first_cells, keys_under, rows_under};
 use crate::store::Store;
@@ -27,7 +29,7 @@ use std::alloc::Global;
 
 impl Store {
     /// Reads an interval at a revision, the newest for one of 0 or below. It is refused where that
-    /// one is compacted or still to come, and that takes no memory.
+    /// one is compacted or still to come, and that takes no memory. Nor does a range that only counts.
     pub fn plan_range(&self, alloc: Global, request: &RangeReq) -> Mem<Result<OpReply, Refusal>>
         ensures refusal { IfOk result
             (λ answer. MatchResult answer
@@ -38,6 +40,7 @@ impl Store {
         ensures sure { is_some
             (unreadable (reads self.now) (revision_read (reads self.now) request.now.revision)) ≡ true
             → IsOk result }
+        ensures sure_count { request.now.count_only ≡ true → IsOk result }
         ensures reply { IfOk result
             (λ answer. IfOk answer
             (λ reply. reply ≡ op_reply (reads self.now) self.now.kept.current (RangeOp request.now))) }
@@ -53,7 +56,9 @@ impl Store {
         requires readable { unreadable (reads self.now)
             (revision_read (reads self.now) request.now.revision) ≡ None }
         requires current { current < 2 ^ 63 }
-        ensures { IfOk result (λ reply. reply ≡ op_reply (reads self.now) current (RangeOp request.now)) }
+        ensures sure_count { request.now.count_only ≡ true → IsOk result }
+        ensures reply { IfOk result
+            (λ reply. reply ≡ op_reply (reads self.now) current (RangeOp request.now)) }
     {
         self.use_invariant();
         let key = request.key.as_slice();
@@ -62,6 +67,10 @@ impl Store {
         if revision == self.current() {
             let cells = self.log.newest_cells(key, range_end);
             return walked_reply(alloc, &self.log, request, cells, current);
+        }
+        if request.count_only {
+            let count = self.log.live_count(key, range_end, revision);
+            return Ok(reply_of(current, count as u64, List::new(alloc), false));
         }
         let cells = self.log.live_cells(alloc, key, range_end, revision)?;
         range_reply(alloc, &self.log, request, cells, current)
@@ -104,7 +113,8 @@ pub(crate) fn range_reply(
     requires rows { AreRows (cells_of log.now.records) cells.items }
     requires ascend { IsStrictlySortedBy by_key (rows_of (cells_of log.now.records) cells.items) }
     requires revision { revision < 2 ^ 63 }
-    ensures { IfOk result
+    ensures sure_count { request.now.count_only ≡ true → IsOk result }
+    ensures reply { IfOk result
         (λ reply. reply
         ≡ range_reply revision request.now (rows_of (cells_of log.now.records) cells.items)) }
 {
@@ -130,7 +140,8 @@ pub(crate) fn walked_reply(
     requires rows { AreRows (cells_of log.now.records) cells }
     requires ascend { IsStrictlySortedBy by_key (rows_of (cells_of log.now.records) cells) }
     requires revision { revision < 2 ^ 63 }
-    ensures { IfOk result
+    ensures sure_count { request.now.count_only ≡ true → IsOk result }
+    ensures reply { IfOk result
         (λ reply. reply
         ≡ range_reply revision request.now (rows_of (cells_of log.now.records) cells.entry)) }
 {
@@ -203,16 +214,17 @@ pub(crate) fn wanted(
 /// The same, tried one by one.
 fn passing(alloc: Global, log: &Log, request: &RangeReq, cells: &[CellNo]) -> Mem<Vec<CellNo>>
     requires { AreRows (cells_of log.now.records) cells.now }
-    ensures { IfOk result
+    ensures cells { IfOk result
         (λ found. found.items ≡ wanted_cells (cells_of log.now.records) request.now cells.now) }
+    ensures room { IfOk result (λ found. vec_capacity found ≤ most_room (length found.items)) }
 {
-    let mut found = Vec::new(alloc);
+    let mut found = Growing::new(alloc);
     for cell in cells {
         if passes(log, request, *cell) {
             found.push(*cell)?;
         }
     }
-    Ok(found)
+    Ok(found.into_vec())
 }
 
 /// The row under a cell passes the filters. None of its bytes is read.
@@ -243,7 +255,7 @@ fn rows_given(
         let rows = rows_read(alloc, log, request, &wanted)?;
         return Ok(shown(alloc, request, rows));
     }
-    let rows = first_rows(alloc, log, request, &wanted, limit)?;
+    let rows = first_rows(alloc, log, request, &wanted, limit, 0)?;
     Ok(shown(alloc, request, rows))
 }
 

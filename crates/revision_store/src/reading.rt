@@ -1,14 +1,18 @@
 //! Reading the kept changes at a revision.
-ghost use Rattle.std.specs.Prelude.{◌≡◌, ◌≤◌, ℕ, Some, IsSome, IfSome, IfOk, option_map, option_and_then};
+ghost use Rattle.std.specs.Prelude.{◌≡◌, ◌≤◌, ℕ, [], length, vec_capacity, Some, IsSome, IfSome, IfOk};
+ghost use Rattle.std.specs.Prelude.{option_map, option_and_then};
 ghost use Rattle.std.specs.List.{AllByRecursion};
-ghost use Rattle.etcd_model.specs.Changes.{Recorded, live};
+ghost use Rattle.etcd_model.specs.Changes.{Recorded, live, rows};
+ghost use Rattle.etcd_model.specs.Interval.{is_in};
 ghost use Rattle.etcd_model.specs.Ranges.{without_value};
 ghost use Rattle.key_index.specs.Links.{IsNewest, change_at};
 ghost use Rattle.revision_store.specs.Recorded.{cells_of};
 ghost use Rattle.revision_store.specs.Pending.{numbers_alone};
 ghost use Rattle.revision_store.specs.Plans.{key_at};
+ghost use Rattle.revision_store.specs.Room.{most_room};
 ghost use Rattle.revision_store.specs.Stored.{ShowRows, row_at};
 
+use crate::growing::Growing;
 use crate::heads::HeadsInOrder;
 use crate::log::Log;
 use crate::records::Reader;
@@ -53,21 +57,39 @@ impl Log {
         range_end: &[u8],
         revision: u64,
     ) -> Mem<Vec<CellNo>>
-        ensures { IfOk result
+        ensures cells { IfOk result
             (λ found. ShowRows (cells_of self.now.records) self.now.changes key.now range_end.now revision
             found.items) }
+        ensures room { IfOk result (λ found. vec_capacity found ≤ most_room (length found.items)) }
     {
         let reader = Reader::new(&self.region);
         let live = self.index.live_in(&reader, key, range_end);
         let dead = self.index.dead_in(&reader, key, range_end);
-        let mut found = Vec::with_capacity(alloc, live.len() + dead.len())?;
+        let mut found = Growing::new(alloc);
         let mut heads = HeadsInOrder::new(live, dead);
         while let Some(head) = heads.next(&reader) {
             if let Some(cell) = self.live_of(head, revision) {
-                found.push_reserved(cell);
+                found.push(cell)?;
             }
         }
-        Ok(found)
+        Ok(found.into_vec())
+    }
+
+    /// How many rows of an interval are live at a revision. It looks at each key of the interval, and takes no memory.
+    pub(crate) fn live_count(&self, key: &[u8], range_end: &[u8], revision: u64) -> usize
+        ensures { result ≡ length (rows (is_in key.now range_end.now) revision self.now.changes) }
+    {
+        let reader = Reader::new(&self.region);
+        let live = self.index.live_in(&reader, key, range_end);
+        let dead = self.index.dead_in(&reader, key, range_end);
+        let mut count = 0;
+        let mut heads = HeadsInOrder::new(live, dead);
+        while let Some(head) = heads.next(&reader) {
+            if self.live_of(head, revision).is_some() {
+                count += 1;
+            }
+        }
+        count
     }
 
     /// The cells of the rows of an interval that are live now, by ascending key. It looks at no other key.
@@ -86,10 +108,11 @@ impl Log {
         key: &[u8],
         range_end: &[u8],
     ) -> Mem<Vec<CellNo>>
-        ensures { IfOk result
+        ensures cells { IfOk result
             (λ found. (revision : ℕ) → AllByRecursion (λ x. x.revision ≤ revision) self.now.changes
             → ShowRows (cells_of self.now.records) self.now.changes key.now range_end.now revision
             found.items) }
+        ensures room { IfOk result (λ found. vec_capacity found ≤ length found.items) }
     {
         let cells = self.newest_cells(key, range_end);
         let count = cells.len();
@@ -102,10 +125,20 @@ impl Log {
         ensures { IfOk result (λ row. row_at (cells_of self.now.records) cell ≡ Some row) }
     {
         let mut row = self.row_without_value(alloc, cell)?;
-        let mut value = Vec::with_capacity(alloc, self.region.value_len(cell) as usize)?;
+        let mut value = self.room_for_value(alloc, cell)?;
         self.region.read_value(cell, &mut value)?;
         row.value = List::from_vec(value);
         Ok(row)
+    }
+
+    /// Room for the value of the row under a cell, and for no more.
+    fn room_for_value(&self, alloc: Global, cell: CellNo) -> Mem<Vec<u8>>
+        requires { IsSome (row_at (cells_of self.now.records) cell) }
+        ensures none { IfOk result (λ value. value.items ≡ []) }
+        ensures room { IfOk result (λ value. IfSome (row_at (cells_of self.now.records) cell)
+            (λ row. vec_capacity value ≤ length row.value)) }
+    {
+        Vec::with_capacity(alloc, self.region.value_len(cell) as usize)
     }
 
     /// The row under a cell without its value, which is not read.

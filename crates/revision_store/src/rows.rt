@@ -1,5 +1,6 @@
 //! The rows under some cells.
-ghost use Rattle.std.specs.Prelude.{◌≡◌, ◌≤◌, [], length, take, map, Some, IfOk, option_map, if◌then◌else◌};
+ghost use Rattle.std.specs.Prelude.{◌≡◌, ◌≤◌, [], length, take, map, vec_capacity, Some, IfOk};
+ghost use Rattle.std.specs.Prelude.{option_map, if◌then◌else◌};
 ghost use Rattle.etcd_model.specs.Ranges.{without_value};
 ghost use Rattle.revision_store.specs.Pending.{AreRows};
 ghost use Rattle.revision_store.specs.Recorded.{cells_of};
@@ -17,7 +18,8 @@ pub(crate) fn first_cells(
     count: usize,
 ) -> Mem<Vec<CellNo>>
     requires { count ≤ length cells }
-    ensures { IfOk result (λ found. found.items ≡ take count cells.entry) }
+    ensures cells { IfOk result (λ found. found.items ≡ take count cells.entry) }
+    ensures room { IfOk result (λ found. vec_capacity found ≤ length found.items) }
 {
     let mut found = Vec::with_capacity(alloc, count)?;
     'taking: for _taken in 0..count {
@@ -31,12 +33,13 @@ pub(crate) fn first_cells(
 /// The rows under some cells.
 pub(crate) fn rows_under(alloc: Global, log: &Log, cells: &[CellNo]) -> Mem<Vec<KeyValue>>
     requires { AreRows (cells_of log.now.records) cells.now }
-    ensures { IfOk result
+    ensures rows { IfOk result
         (λ found. map Some found.items ≡ map (row_at (cells_of log.now.records)) cells.now) }
+    ensures room { IfOk result (λ found. vec_capacity found ≤ length found.items) }
 {
     let mut found = Vec::with_capacity(alloc, cells.len())?;
     for cell in cells {
-        found.push(log.row(alloc, *cell)?)?;
+        found.push_reserved(log.row(alloc, *cell)?);
     }
     Ok(found)
 }
@@ -63,13 +66,14 @@ pub(crate) fn rows_asked(
 /// The rows under some cells without their values, which are not read.
 pub(crate) fn keys_under(alloc: Global, log: &Log, cells: &[CellNo]) -> Mem<Vec<KeyValue>>
     requires { AreRows (cells_of log.now.records) cells.now }
-    ensures { IfOk result
+    ensures rows { IfOk result
         (λ found. map Some found.items
         ≡ map (λ c. option_map without_value (row_at (cells_of log.now.records) c)) cells.now) }
+    ensures room { IfOk result (λ found. vec_capacity found ≤ length found.items) }
 {
     let mut found = Vec::with_capacity(alloc, cells.len())?;
     for cell in cells {
-        found.push(log.row_without_value(alloc, *cell)?)?;
+        found.push_reserved(log.row_without_value(alloc, *cell)?);
     }
     Ok(found)
 }

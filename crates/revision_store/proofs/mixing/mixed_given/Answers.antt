@@ -43,8 +43,8 @@ first_rows-requires-clause-few c =
     ] in
     subst (λ cs. is_by_key q ≡ true → length cs ≤ n) (sym c.deref.ensures.value) cut.few
 
-pub first_with-requires : goal.first_with-requires
-first_with-requires c =
+pub first_with-requires-clause-apart : goal.first_with-requires-clause-apart
+first_with-requires-clause-apart c =
     let q = c.args.request.now in
     let cells = cells_of c.args.log.now.records in
     let all = c.args.cells.items in
@@ -57,8 +57,11 @@ first_with-requires c =
       | else-is_by_key w ↦ rw w.cells-is (not_cut (row_at cells) q n all c.requires.rows c.requires.ascend (sym c.is_by_key.ensures ∙ w.if-is_by_key.false))
     ] in
     let first : c.in_ok-first.first.items ≡ first_of q n (map (read q) (rows_of cells all)) =
-    c.in_ok-first.ensures ∙ ap (λ cs. first_of q n (map (read q) (rows_of cells cs))) c.deref.ensures.value ∙ cut.first in
+    c.in_ok-first.ensures.rows ∙ ap (λ cs. first_of q n (map (read q) (rows_of cells cs))) c.deref.ensures.value ∙ cut.first in
     subst (λ rs. NoneTies q (rs ++ map (read q) puts)) (sym first) (first_apart q n (rows_of cells all) puts c.requires.apart)
+
+pub first_with-requires-clause-room : goal.first_with-requires-clause-room
+first_with-requires-clause-room c = omega (arith, c.in_ok-first.ensures.fewer, c.in_ok-first.ensures.room)
 
 pub returns : goal.returns
 returns c =
@@ -74,10 +77,10 @@ returns c =
       | else-is_by_key w ↦ rw w.cells-is (not_cut (row_at cells) q n all c.requires.rows c.requires.ascend (sym c.is_by_key.ensures ∙ w.if-is_by_key.false))
     ] in
     let first : c.in_ok-first.first.items ≡ first_of q n (map (read q) (rows_of cells all)) =
-    c.in_ok-first.ensures ∙ ap (λ cs. first_of q n (map (read q) (rows_of cells cs))) c.deref.ensures.value ∙ cut.first in
+    c.in_ok-first.ensures.rows ∙ ap (λ cs. first_of q n (map (read q) (rows_of cells cs))) c.deref.ensures.value ∙ cut.first in
     let long : length (rows_of cells all) ≡ length all = length-filter_map (row_at cells) all c.requires.rows in
     let many : length puts ≡ length c.args.puts.now = length-map c.args.puts.now (λ (row : Bor KeyValue). row.now) in
     let limit : IsLimit q (length (rows_of cells all) + length puts) n = λ rs few. c.limit_of-limit.ensures.limit rs (omega (arith, few, long, many, c.len.ensures)) in
     c.shown.ensures
-    ∙ ap (map (shown q)) (c.in_ok-first-2.ensures ∙ ap (λ rs. first_of q n (rs ++ map (read q) puts)) first)
+    ∙ ap (map (shown q)) (c.in_ok-first-2.ensures.rows ∙ ap (λ rs. first_of q n (rs ++ map (read q) puts)) first)
     ∙ given_both q n (rows_of cells all) puts c.requires.apart limit

@@ -45,7 +45,7 @@ mixed_given-requires-clause-apart c =
     let cells = cells_of c.args.log.now.records in
     let puts : List KeyValue = map (λ row. row.now) c.args.puts.now in
     let is = ap (rows_of cells) c.in_ok-cells.ensures ∙ wanted_rows (row_at cells) q c.args.cells.items in
-    let others : map (λ (row : Bor KeyValue). row.now) c.deref.result.now ≡ filter (is_wanted q) puts = ap (map (λ (row : Bor KeyValue). row.now)) c.deref.ensures.value ∙ c.in_ok-puts.ensures in
+    let others : map (λ (row : Bor KeyValue). row.now) c.deref.result.now ≡ filter (is_wanted q) puts = ap (map (λ (row : Bor KeyValue). row.now)) c.deref.ensures.value ∙ c.in_ok-puts.ensures.puts in
     own_kept q (rows_of cells c.args.cells.items) puts _ _ is others c.requires.apart
 
 pub returns : goal.returns
@@ -57,7 +57,7 @@ returns c =
     let some = rows_of cells c.in_ok-cells.cells.items in
     let others : List KeyValue = map (λ row. row.now) c.in_ok-puts.puts.items in
     let is = ap (rows_of cells) c.in_ok-cells.ensures ∙ wanted_rows (row_at cells) q c.args.cells.items in
-    let both : some ++ others ≡ filter (is_wanted q) (rows ++ puts) = both_kept q rows puts some others is c.in_ok-puts.ensures in
+    let both : some ++ others ≡ filter (is_wanted q) (rows ++ puts) = both_kept q rows puts some others is c.in_ok-puts.ensures.puts in
     let all = subst (AreRows cells) (sym c.in_ok-cells.ensures) (all_kept (λ k. IsSome (row_at cells k)) (λ k. row_passes q (row_at cells k)) c.args.cells.items c.requires.rows) in
     let long : length rows ≡ length c.args.cells.items = length-filter_map (row_at cells) c.args.cells.items c.requires.rows in
     let many : length puts ≡ length c.args.puts.now = length-map c.args.puts.now (λ (row : Bor KeyValue). row.now) in

@@ -5,6 +5,6 @@ use Rattle.revision_store.proofs.pending_deletes.without_erased.Given as goal
 
 abbrev pub invariant-loop-cell : goal.invariant-loop-cell
 invariant-loop-cell l = record {
-  left : l.left.items ++ left_cells (cells_of l.log.records) (map (λ d. d.now) l.deletes) (drop l.cell-index l.cells) ≡ left_cells (cells_of l.log.records) (map (λ d. d.now) l.deletes) l.cells;
+  left : l.left ++ left_cells (cells_of l.log.records) (map (λ d. d.now) l.deletes) (drop l.cell-index l.cells) ≡ left_cells (cells_of l.log.records) (map (λ d. d.now) l.deletes) l.cells;
   rows : AreRows (cells_of l.log.records) (drop l.cell-index l.cells);
 }

@@ -15,7 +15,7 @@ use Rattle.revision_store.proofs.ranging.first_reply.Goals as goal
 pub rows_given-requires-clause-ascend : goal.rows_given-requires-clause-ascend
 rows_given-requires-clause-ascend c =
     let cells = cells_of c.args.log.now.records in
-    let is = ap (rows_of cells) c.in_ok-first.ensures ∙ filter_map-take (row_at cells) c.limit_of.result c.args.cells c.requires.rows in
+    let is = ap (rows_of cells) c.in_ok-first.ensures.cells ∙ filter_map-take (row_at cells) c.limit_of.result c.args.cells c.requires.rows in
     subst (IsStrictlySortedBy by_key) (sym is) (sorted-take by_key c.limit_of.result (rows_of cells c.args.cells) c.requires.ascend)
 
 pub returns : goal.returns
@@ -25,7 +25,7 @@ returns c =
     let rows = rows_of cells c.args.cells in
     let n = c.limit_of.result in
     let counted = length-filter_map (row_at cells) c.args.cells c.requires.rows in
-    let is = ap (rows_of cells) c.in_ok-first.ensures ∙ filter_map-take (row_at cells) n c.args.cells c.requires.rows in
+    let is = ap (rows_of cells) c.in_ok-first.ensures.cells ∙ filter_map-take (row_at cells) n c.args.cells c.requires.rows in
     let whole = all_wanted q rows c.requires.all in
     let few : length rows ≤ c.len-count.result = omega (arith, counted, c.len-count.ensures) in
     let count : c.len-count.result ≡ length rows = omega (arith, counted, c.len-count.ensures) in

@@ -14,8 +14,8 @@ use Rattle.range_rows.proofs.RangingCells.{all_kept, length-filter_map, wanted_r
 use Rattle.range_rows.proofs.RangingAnswers.{answer_counted, answer_given}
 use Rattle.revision_store.proofs.ranging.range_reply.Goals as goal
 
-pub returns-then-request : goal.returns-then-request
-returns-then-request c =
+pub returns-then-request-clause-reply : goal.returns-then-request-clause-reply
+returns-then-request-clause-reply c =
     let rows = rows_of (cells_of c.args.log.now.records) c.args.cells.items in
     let counted = length-filter_map (row_at (cells_of c.args.log.now.records)) c.args.cells.items c.requires.rows in
     rw (c.reply_of.ensures, c.new.ensures) (answer_counted c.args.request.now c.args.revision rows c.len-count.result c.if-request.true (c.len-count.ensures ∙ c.args.cells.ok.0 ∙ sym counted))
@@ -32,8 +32,8 @@ rows_given-requires-clause-ascend c =
     let is = ap (rows_of cells) c.in_ok-wanted.ensures ∙ wanted_rows (row_at cells) q c.args.cells.items in
     subst (IsStrictlySortedBy by_key) (sym is) (IsStrictlySortedBy-filter by_key (is_wanted q) (rows_of cells c.args.cells.items) c.requires.ascend)
 
-pub returns : goal.returns
-returns c =
+pub returns-clause-reply : goal.returns-clause-reply
+returns-clause-reply c =
     let q = c.args.request.now in
     let cells = cells_of c.args.log.now.records in
     let wanted = c.in_ok-wanted.wanted.items in

@@ -42,5 +42,5 @@ returns c =
     let wanted = c.args.wanted.items in
     let limit : IsLimit q (length wanted) c.limit_of-limit.result = λ rows few. c.limit_of-limit.ensures.limit rows (omega (arith, few, c.len.ensures)) in
     c.shown-2.ensures
-    ∙ ap (map (shown q)) (c.in_ok-rows-2.ensures ∙ ap (λ cs. first_of q c.limit_of-limit.result (map (read q) (rows_of cells cs))) c.deref-2.ensures.value)
+    ∙ ap (map (shown q)) (c.in_ok-rows-2.ensures.rows ∙ ap (λ cs. first_of q c.limit_of-limit.result (map (read q) (rows_of cells cs))) c.deref-2.ensures.value)
     ∙ given_first (row_at cells) q wanted c.limit_of-limit.result c.requires.rows c.requires.ascend limit

@@ -18,7 +18,7 @@ returns-then-needs_values c =
     let whole = read_whole q (rows_of cells cs) (sym c.needs_values.ensures ∙ c.if-needs_values.true) in
     IfOk-weaker c.rows_under.result (λ found. map Some found.items ≡ map (row_at cells) cs) (λ found. found.items ≡ map (read q) (rows_of cells cs))
     (λ found h. filter_map-is (row_at cells) cs found.items h ∙ sym whole)
-    c.rows_under.ensures
+    c.rows_under.ensures.rows
 
 pub returns-else-needs_values : goal.returns-else-needs_values
 returns-else-needs_values c =
@@ -28,4 +28,4 @@ returns-else-needs_values c =
     let keys = read_keys q (rows_of cells cs) (sym c.needs_values.ensures ∙ c.if-needs_values.false) in
     IfOk-weaker c.keys_under.result (λ found. map Some found.items ≡ map (λ k. option_map without_value (row_at cells k)) cs) (λ found. found.items ≡ map (read q) (rows_of cells cs))
     (λ found h. filter_map-is (λ k. option_map without_value (row_at cells k)) cs found.items h ∙ filter_map-option_map (row_at cells) without_value cs ∙ sym keys)
-    c.keys_under.ensures
+    c.keys_under.ensures.rows

@@ -6,8 +6,8 @@ use Rattle.range_rows.proofs.RangingCells.{length-filter_map}
 use Rattle.range_rows.proofs.RangingAnswers.{answer_counted}
 use Rattle.revision_store.proofs.ranging.walked_reply.Goals as goal
 
-pub returns-then-request : goal.returns-then-request
-returns-then-request c =
+pub returns-then-request-clause-reply : goal.returns-then-request-clause-reply
+returns-then-request-clause-reply c =
     let cells = cells_of c.args.log.now.records in
     let rows = rows_of cells c.args.cells in
     let counted = length-filter_map (row_at cells) c.args.cells c.requires.rows in

@@ -14,12 +14,6 @@ use Rattle.revision_store.specs.Stored.{row_at}
 use Rattle.revision_store.proofs.Merged.{IsReading, fewer_left, heads_fit_in, left_there, reading_as, reading_first, reading_on}
 use Rattle.revision_store.proofs.log.Log.live_cells.Goals as goal
 
-pub overflow_add-len : goal.overflow_add-len
-overflow_add-len c =
-    let of_live = subst (λ (h : RegionState). AreHeadsIn (cells_of h.records) c.self.inside.index.live c.args.key.now c.args.range_end.now c.live_in-live.result) c.new-reader.ensures c.live_in-live.ensures in
-    let of_dead = subst (λ (h : RegionState). AreHeadsIn (cells_of h.records) c.self.inside.index.dead c.args.key.now c.args.range_end.now c.dead_in-dead.result) c.new-reader.ensures c.dead_in-dead.ensures in
-    omega (arith, heads_fit_in _ _ _ _ _ _ _ _ _ c.self.invariant of_live of_dead, c.len.ensures, c.len-2.ensures)
-
 pub loop-head-init : goal.loop-head-init
 loop-head-init c =
     let records = ap (λ (l : LogState). l.records) c.self.view_is in
@@ -28,44 +22,33 @@ loop-head-init c =
     let of_dead = subst (λ (h : RegionState). AreHeadsIn (cells_of h.records) c.self.inside.index.dead c.args.key.now c.args.range_end.now c.dead_in-dead.result) c.new-reader.ensures c.dead_in-dead.ensures in
     let first = reading_first _ _ _ _ _ _ _ c.args.key.now c.args.range_end.now c.args.revision c.live_in-live.result c.dead_in-dead.result c.self.invariant records changes of_live of_dead in
     let seen = reading_as _ _ _ _ _ _ c.new-heads.result c.new-heads.ensures.live c.new-heads.ensures.dead first in
-    record {
-      reading = subst (λ (cs : List ℕ). IsReading (cells_of c.args.self.now.records) (λ key. live key c.args.revision c.args.self.now.changes) c.new-heads.result cs (rows (is_in c.args.key.now c.args.range_end.now) c.args.revision c.args.self.now.changes)) (sym c.in_ok-found.ensures.items) seen;
-      room = omega (arith, c.in_ok-found.ensures.capacity, ap length c.in_ok-found.ensures.items, ap length c.new-heads.ensures.live, ap length c.new-heads.ensures.dead, c.len.ensures, c.len-2.ensures);
-    }
+    subst (λ (cs : List ℕ). IsReading (cells_of c.args.self.now.records) (λ key. live key c.args.revision c.args.self.now.changes) c.new-heads.result cs (rows (is_in c.args.key.now c.args.range_end.now) c.args.revision c.args.self.now.changes)) (sym c.new-found.ensures) seen
 
 pub next-requires : goal.next-requires
 next-requires c =
     let same = ap (λ (h : RegionState). h.records) c.new-reader.ensures ∙ ap (λ (l : LogState). l.records) c.self.view_is in
-    subst (λ m. AllByRecursion (λ k. IsSome (cells_of m k)) (c.loop-head.heads.live ++ c.loop-head.heads.dead)) (sym same) (left_there _ _ _ _ _ c.loop-head.invariant.reading)
+    subst (λ m. AllByRecursion (λ k. IsSome (cells_of m k)) (c.loop-head.heads.live ++ c.loop-head.heads.dead)) (sym same) (left_there _ _ _ _ _ c.loop-head.invariant)
 
-pub loop-head-preserved-in-Some-live_of : goal.loop-head-preserved-in-Some-live_of
-loop-head-preserved-in-Some-live_of c =
+pub loop-head-preserved-in-Continue-1 : goal.loop-head-preserved-in-Continue-1
+loop-head-preserved-in-Continue-1 c =
     let same = ap (λ (h : RegionState). h.records) c.new-reader.ensures ∙ ap (λ (l : LogState). l.records) c.self.view_is in
     let look = λ (key : List ℕ). live key c.args.revision c.args.self.now.changes in
     let all = rows (is_in c.args.key.now c.args.range_end.now) c.args.revision c.args.self.now.changes in
-    let seen = subst (λ m. IsReading (cells_of m) look c.loop-head.heads c.loop-head.found.items all) (sym same) c.loop-head.invariant.reading in
+    let seen = subst (λ m. IsReading (cells_of m) look c.loop-head.heads c.loop-head.found all) (sym same) c.loop-head.invariant in
     let takes = c.in-Some.ensures seen.heads seen.spread seen.left_is in
     let row = subst (λ m. option_and_then (row_at (cells_of m)) c.live_of.result ≡ look (key_at (cells_of m) c.in-Some.head)) (sym same) c.live_of.ensures.row in
     let there = subst (λ m. IfSome c.live_of.result (λ k. IsSome (row_at (cells_of m) k))) (sym same) c.live_of.ensures.there in
-    let added = c.push_reserved.ensures.items ∙ ap (λ o. c.loop-head.found.items ++ option_to_list o) (sym c.in-Some-live_of.is) in
-    let fewer = fewer_left _ _ _ _ _ seen _ _ takes in
-    record {
-      reading = subst (λ m. IsReading (cells_of m) look c.next.new.self c.push_reserved.new.self.items all) same (reading_on _ _ _ _ _ seen _ _ takes c.push_reserved.new.self.items c.live_of.result row there added);
-      room = omega (arith, fewer, c.loop-head.invariant.room, c.push_reserved.ensures.capacity, ap length c.push_reserved.ensures.items, length_push c.loop-head.found.items c.in-Some-live_of.cell);
-    }
+    let added = c.in_ok-push.ensures.ok ∙ ap (λ o. c.loop-head.found ++ option_to_list o) (sym c.in-Some-live_of.is) in
+    subst (λ m. IsReading (cells_of m) look c.next.new.self c.push.new.self all) same (reading_on _ _ _ _ _ seen _ _ takes c.push.new.self c.live_of.result row there added)
 
 pub loop-head-preserved : goal.loop-head-preserved
 loop-head-preserved c =
     let same = ap (λ (h : RegionState). h.records) c.new-reader.ensures ∙ ap (λ (l : LogState). l.records) c.self.view_is in
     let look = λ (key : List ℕ). live key c.args.revision c.args.self.now.changes in
     let all = rows (is_in c.args.key.now c.args.range_end.now) c.args.revision c.args.self.now.changes in
-    let seen = subst (λ m. IsReading (cells_of m) look c.loop-head.heads c.loop-head.found.items all) (sym same) c.loop-head.invariant.reading in
+    let seen = subst (λ m. IsReading (cells_of m) look c.loop-head.heads c.loop-head.found all) (sym same) c.loop-head.invariant in
     let takes = c.in-Some.ensures seen.heads seen.spread seen.left_is in
     let row = subst (λ m. option_and_then (row_at (cells_of m)) c.live_of.result ≡ look (key_at (cells_of m) c.in-Some.head)) (sym same) c.live_of.ensures.row in
     let there = subst (λ m. IfSome c.live_of.result (λ k. IsSome (row_at (cells_of m) k))) (sym same) c.live_of.ensures.there in
-    let added = sym (append-nil c.loop-head.found.items) ∙ ap (λ o. c.loop-head.found.items ++ option_to_list o) (sym c.in_default-live_of.is) in
-    let fewer = fewer_left _ _ _ _ _ seen _ _ takes in
-    record {
-      reading = subst (λ m. IsReading (cells_of m) look c.next.new.self c.loop-head.found.items all) same (reading_on _ _ _ _ _ seen _ _ takes c.loop-head.found.items c.live_of.result row there added);
-      room = omega (arith, fewer, c.loop-head.invariant.room);
-    }
+    let added = sym (append-nil c.loop-head.found) ∙ ap (λ o. c.loop-head.found ++ option_to_list o) (sym c.in_default-live_of.is) in
+    subst (λ m. IsReading (cells_of m) look c.next.new.self c.loop-head.found all) same (reading_on _ _ _ _ _ seen _ _ takes c.loop-head.found c.live_of.result row there added)

@@ -1,5 +1,4 @@
-use Rattle.std.proofs.Common.{◌+◌, ◌≤◌, length}
-use Rattle.std.specs.Prelude.{vec_capacity}
+use Rattle.std.proofs.Common.{◌+◌, length}
 use Rattle.etcd_model.specs.Changes.{live, rows}
 use Rattle.etcd_model.specs.Interval.{is_in}
 use Rattle.revision_store.specs.Recorded.{cells_of}
@@ -7,10 +6,7 @@ use Rattle.revision_store.proofs.Merged.{IsReading}
 use Rattle.revision_store.proofs.log.Log.live_cells.Given as goal
 
 abbrev pub invariant-loop-head : goal.invariant-loop-head
-invariant-loop-head l = record {
-  reading : IsReading (cells_of l.self.records) (λ key. live key l.revision l.self.changes) l.heads l.found.items (rows (is_in l.key l.range_end) l.revision l.self.changes);
-  room : length l.found.items + (length l.heads.live + length l.heads.dead) ≤ vec_capacity l.found;
-}
+invariant-loop-head l = IsReading (cells_of l.self.records) (λ key. live key l.revision l.self.changes) l.heads l.found (rows (is_in l.key l.range_end) l.revision l.self.changes)
 
 abbrev pub decreases-loop-head : goal.decreases-loop-head
 decreases-loop-head l = length l.heads.live + length l.heads.dead

@@ -17,13 +17,13 @@ use Rattle.revision_store.proofs.MixingPuts.{AreMixed, are_mixed, kept_are_rows,
 use Rattle.revision_store.proofs.PendingDeletes.{Under, under_rows}
 use Rattle.revision_store.proofs.pending.Pending.mixed_range.Goals as goal
 
-pub left_cells-requires : goal.left_cells-requires
-left_cells-requires c = under_rows (row_at (cells_of c.store.inside.log.records)) c.in_ok-live.live.items _ (c.in_ok-live.ensures c.store.inside.current c.store.invariant.up)
+pub left_cells-requires-clause-rows : goal.left_cells-requires-clause-rows
+left_cells-requires-clause-rows c = under_rows (row_at (cells_of c.store.inside.log.records)) c.in_ok-live.live.items _ (c.in_ok-live.ensures.cells c.store.inside.current c.store.invariant.up)
 
 pub unput_cells-left-requires-clause-rows : goal.unput_cells-left-requires-clause-rows
 unput_cells-left-requires-clause-rows c =
     let store = c.self.inside.store.now in
-    let ws = c.self.inside.writes.items in
+    let ws = c.self.inside.plan in
     let places = c.self.inside.puts.items in
     let deletes = map (λ d. d.now) c.self.inside.deletes.items in
     let key = c.as_slice-key.result.now in
@@ -33,14 +33,14 @@ unput_cells-left-requires-clause-rows c =
     let records : c.store.inside.log.records ≡ store.records = ap (λ (s : StoreState). s.records) c.store.view_is in
     let current : c.store.inside.current ≡ store.kept.current = ap (λ (s : StoreState). s.kept.current) c.store.view_is in
     let changes : c.store.inside.log.changes ≡ store.kept.changes = ap (λ (s : StoreState). s.kept.changes) c.store.view_is in
-    let under : Under (row_at (cells store)) live (rows (is_in key end) store.kept.current store.kept.changes) = rw (records, changes, current) at (c.in_ok-live.ensures c.store.inside.current c.store.invariant.up) in
-    let is_left : left ≡ left_cells (cells store) deletes live = rw (records, c.deref-3.ensures.value) at c.in_ok-left.ensures in
+    let under : Under (row_at (cells store)) live (rows (is_in key end) store.kept.current store.kept.changes) = rw (records, changes, current) at (c.in_ok-live.ensures.cells c.store.inside.current c.store.invariant.up) in
+    let is_left : left ≡ left_cells (cells store) deletes live = rw (records, c.deref-2.ensures.value) at c.in_ok-left.ensures.cells in
     rw records (kept_are_rows store ws places deletes c.self.invariant key end live left under is_left)
 
 pub unput_cells-left-requires-clause-ascend : goal.unput_cells-left-requires-clause-ascend
 unput_cells-left-requires-clause-ascend c =
     let store = c.self.inside.store.now in
-    let ws = c.self.inside.writes.items in
+    let ws = c.self.inside.plan in
     let places = c.self.inside.puts.items in
     let deletes = map (λ d. d.now) c.self.inside.deletes.items in
     let key = c.as_slice-key.result.now in
@@ -50,14 +50,14 @@ unput_cells-left-requires-clause-ascend c =
     let records : c.store.inside.log.records ≡ store.records = ap (λ (s : StoreState). s.records) c.store.view_is in
     let current : c.store.inside.current ≡ store.kept.current = ap (λ (s : StoreState). s.kept.current) c.store.view_is in
     let changes : c.store.inside.log.changes ≡ store.kept.changes = ap (λ (s : StoreState). s.kept.changes) c.store.view_is in
-    let under : Under (row_at (cells store)) live (rows (is_in key end) store.kept.current store.kept.changes) = rw (records, changes, current) at (c.in_ok-live.ensures c.store.inside.current c.store.invariant.up) in
-    let is_left : left ≡ left_cells (cells store) deletes live = rw (records, c.deref-3.ensures.value) at c.in_ok-left.ensures in
+    let under : Under (row_at (cells store)) live (rows (is_in key end) store.kept.current store.kept.changes) = rw (records, changes, current) at (c.in_ok-live.ensures.cells c.store.inside.current c.store.invariant.up) in
+    let is_left : left ≡ left_cells (cells store) deletes live = rw (records, c.deref-2.ensures.value) at c.in_ok-left.ensures.cells in
     rw records (kept_ascend store ws places deletes c.self.invariant key end live left under is_left)
 
 pub mixed_reply-requires-clause-rows : goal.mixed_reply-requires-clause-rows
 mixed_reply-requires-clause-rows c =
     let store = c.self.inside.store.now in
-    let ws = c.self.inside.writes.items in
+    let ws = c.self.inside.plan in
     let places = c.self.inside.puts.items in
     let deletes = map (λ d. d.now) c.self.inside.deletes.items in
     let key = c.as_slice-key.result.now in
@@ -67,20 +67,20 @@ mixed_reply-requires-clause-rows c =
     let records : c.store.inside.log.records ≡ store.records = ap (λ (s : StoreState). s.records) c.store.view_is in
     let current : c.store.inside.current ≡ store.kept.current = ap (λ (s : StoreState). s.kept.current) c.store.view_is in
     let changes : c.store.inside.log.changes ≡ store.kept.changes = ap (λ (s : StoreState). s.kept.changes) c.store.view_is in
-    let under : Under (row_at (cells store)) live (rows (is_in key end) store.kept.current store.kept.changes) = rw (records, changes, current) at (c.in_ok-live.ensures c.store.inside.current c.store.invariant.up) in
-    let is_left : left ≡ left_cells (cells store) deletes live = rw (records, c.deref-3.ensures.value) at c.in_ok-left.ensures in
+    let under : Under (row_at (cells store)) live (rows (is_in key end) store.kept.current store.kept.changes) = rw (records, changes, current) at (c.in_ok-live.ensures.cells c.store.inside.current c.store.invariant.up) in
+    let is_left : left ≡ left_cells (cells store) deletes live = rw (records, c.deref-2.ensures.value) at c.in_ok-left.ensures.cells in
     let rest = c.unput_cells-left.result.items in
     let all : List KeyValue = filter (is_row_in key end) (rows_at ws places) in
-    let puts : map (λ (row : Bor KeyValue). row.now) c.in_ok-puts.puts.items ≡ all = rw (c.deref.ensures.value, c.deref-2.ensures.value) at c.in_ok-puts.ensures in
+    let puts : map (λ (row : Bor KeyValue). row.now) c.in_ok-puts.puts.items ≡ all = rw (c.writes.ensures, c.deref.ensures.value) at c.in_ok-puts.ensures.puts in
     let is_rest : rest ≡ unput_cells (cells store) all left =
-    (rw records at c.unput_cells-left.ensures) ∙ ap (λ ps. unput_cells (cells store) ps left) (ap (map (λ (row : Bor KeyValue). row.now)) c.deref-4.ensures.value ∙ puts) in
+    (rw records at c.unput_cells-left.ensures) ∙ ap (λ ps. unput_cells (cells store) ps left) (ap (map (λ (row : Bor KeyValue). row.now)) c.deref-3.ensures.value ∙ puts) in
     let mixed : AreMixed store ws places deletes c.self.invariant key end rest all = are_mixed store ws places deletes c.self.invariant key end live left rest under is_left is_rest in
     rw records mixed.there
 
 pub mixed_reply-requires-clause-ascend : goal.mixed_reply-requires-clause-ascend
 mixed_reply-requires-clause-ascend c =
     let store = c.self.inside.store.now in
-    let ws = c.self.inside.writes.items in
+    let ws = c.self.inside.plan in
     let places = c.self.inside.puts.items in
     let deletes = map (λ d. d.now) c.self.inside.deletes.items in
     let key = c.as_slice-key.result.now in
@@ -90,20 +90,20 @@ mixed_reply-requires-clause-ascend c =
     let records : c.store.inside.log.records ≡ store.records = ap (λ (s : StoreState). s.records) c.store.view_is in
     let current : c.store.inside.current ≡ store.kept.current = ap (λ (s : StoreState). s.kept.current) c.store.view_is in
     let changes : c.store.inside.log.changes ≡ store.kept.changes = ap (λ (s : StoreState). s.kept.changes) c.store.view_is in
-    let under : Under (row_at (cells store)) live (rows (is_in key end) store.kept.current store.kept.changes) = rw (records, changes, current) at (c.in_ok-live.ensures c.store.inside.current c.store.invariant.up) in
-    let is_left : left ≡ left_cells (cells store) deletes live = rw (records, c.deref-3.ensures.value) at c.in_ok-left.ensures in
+    let under : Under (row_at (cells store)) live (rows (is_in key end) store.kept.current store.kept.changes) = rw (records, changes, current) at (c.in_ok-live.ensures.cells c.store.inside.current c.store.invariant.up) in
+    let is_left : left ≡ left_cells (cells store) deletes live = rw (records, c.deref-2.ensures.value) at c.in_ok-left.ensures.cells in
     let rest = c.unput_cells-left.result.items in
     let all : List KeyValue = filter (is_row_in key end) (rows_at ws places) in
-    let puts : map (λ (row : Bor KeyValue). row.now) c.in_ok-puts.puts.items ≡ all = rw (c.deref.ensures.value, c.deref-2.ensures.value) at c.in_ok-puts.ensures in
+    let puts : map (λ (row : Bor KeyValue). row.now) c.in_ok-puts.puts.items ≡ all = rw (c.writes.ensures, c.deref.ensures.value) at c.in_ok-puts.ensures.puts in
     let is_rest : rest ≡ unput_cells (cells store) all left =
-    (rw records at c.unput_cells-left.ensures) ∙ ap (λ ps. unput_cells (cells store) ps left) (ap (map (λ (row : Bor KeyValue). row.now)) c.deref-4.ensures.value ∙ puts) in
+    (rw records at c.unput_cells-left.ensures) ∙ ap (λ ps. unput_cells (cells store) ps left) (ap (map (λ (row : Bor KeyValue). row.now)) c.deref-3.ensures.value ∙ puts) in
     let mixed : AreMixed store ws places deletes c.self.invariant key end rest all = are_mixed store ws places deletes c.self.invariant key end live left rest under is_left is_rest in
     rw records mixed.ascend
 
 pub mixed_reply-requires-clause-apart : goal.mixed_reply-requires-clause-apart
 mixed_reply-requires-clause-apart c =
     let store = c.self.inside.store.now in
-    let ws = c.self.inside.writes.items in
+    let ws = c.self.inside.plan in
     let places = c.self.inside.puts.items in
     let deletes = map (λ d. d.now) c.self.inside.deletes.items in
     let key = c.as_slice-key.result.now in
@@ -113,21 +113,21 @@ mixed_reply-requires-clause-apart c =
     let records : c.store.inside.log.records ≡ store.records = ap (λ (s : StoreState). s.records) c.store.view_is in
     let current : c.store.inside.current ≡ store.kept.current = ap (λ (s : StoreState). s.kept.current) c.store.view_is in
     let changes : c.store.inside.log.changes ≡ store.kept.changes = ap (λ (s : StoreState). s.kept.changes) c.store.view_is in
-    let under : Under (row_at (cells store)) live (rows (is_in key end) store.kept.current store.kept.changes) = rw (records, changes, current) at (c.in_ok-live.ensures c.store.inside.current c.store.invariant.up) in
-    let is_left : left ≡ left_cells (cells store) deletes live = rw (records, c.deref-3.ensures.value) at c.in_ok-left.ensures in
+    let under : Under (row_at (cells store)) live (rows (is_in key end) store.kept.current store.kept.changes) = rw (records, changes, current) at (c.in_ok-live.ensures.cells c.store.inside.current c.store.invariant.up) in
+    let is_left : left ≡ left_cells (cells store) deletes live = rw (records, c.deref-2.ensures.value) at c.in_ok-left.ensures.cells in
     let rest = c.unput_cells-left.result.items in
     let all : List KeyValue = filter (is_row_in key end) (rows_at ws places) in
-    let puts : map (λ (row : Bor KeyValue). row.now) c.in_ok-puts.puts.items ≡ all = rw (c.deref.ensures.value, c.deref-2.ensures.value) at c.in_ok-puts.ensures in
+    let puts : map (λ (row : Bor KeyValue). row.now) c.in_ok-puts.puts.items ≡ all = rw (c.writes.ensures, c.deref.ensures.value) at c.in_ok-puts.ensures.puts in
     let is_rest : rest ≡ unput_cells (cells store) all left =
-    (rw records at c.unput_cells-left.ensures) ∙ ap (λ ps. unput_cells (cells store) ps left) (ap (map (λ (row : Bor KeyValue). row.now)) c.deref-4.ensures.value ∙ puts) in
+    (rw records at c.unput_cells-left.ensures) ∙ ap (λ ps. unput_cells (cells store) ps left) (ap (map (λ (row : Bor KeyValue). row.now)) c.deref-3.ensures.value ∙ puts) in
     let mixed : AreMixed store ws places deletes c.self.invariant key end rest all = are_mixed store ws places deletes c.self.invariant key end live left rest under is_left is_rest in
-    let others : all ≡ map (λ (row : Bor KeyValue). row.now) c.deref-5.result.now = sym (ap (map (λ (row : Bor KeyValue). row.now)) c.deref-5.ensures.value ∙ puts) in
+    let others : all ≡ map (λ (row : Bor KeyValue). row.now) c.deref-4.result.now = sym (ap (map (λ (row : Bor KeyValue). row.now)) c.deref-4.ensures.value ∙ puts) in
     rw records (subst (λ (ps : List KeyValue). HaveOwnKeys (rows_of (cells store) rest ++ ps)) others mixed.own)
 
 pub returns : goal.returns
 returns c =
     let store = c.self.inside.store.now in
-    let ws = c.self.inside.writes.items in
+    let ws = c.self.inside.plan in
     let places = c.self.inside.puts.items in
     let deletes = map (λ d. d.now) c.self.inside.deletes.items in
     let key = c.as_slice-key.result.now in
@@ -137,23 +137,23 @@ returns c =
     let records : c.store.inside.log.records ≡ store.records = ap (λ (s : StoreState). s.records) c.store.view_is in
     let current : c.store.inside.current ≡ store.kept.current = ap (λ (s : StoreState). s.kept.current) c.store.view_is in
     let changes : c.store.inside.log.changes ≡ store.kept.changes = ap (λ (s : StoreState). s.kept.changes) c.store.view_is in
-    let under : Under (row_at (cells store)) live (rows (is_in key end) store.kept.current store.kept.changes) = rw (records, changes, current) at (c.in_ok-live.ensures c.store.inside.current c.store.invariant.up) in
-    let is_left : left ≡ left_cells (cells store) deletes live = rw (records, c.deref-3.ensures.value) at c.in_ok-left.ensures in
+    let under : Under (row_at (cells store)) live (rows (is_in key end) store.kept.current store.kept.changes) = rw (records, changes, current) at (c.in_ok-live.ensures.cells c.store.inside.current c.store.invariant.up) in
+    let is_left : left ≡ left_cells (cells store) deletes live = rw (records, c.deref-2.ensures.value) at c.in_ok-left.ensures.cells in
     let rest = c.unput_cells-left.result.items in
     let all : List KeyValue = filter (is_row_in key end) (rows_at ws places) in
-    let puts : map (λ (row : Bor KeyValue). row.now) c.in_ok-puts.puts.items ≡ all = rw (c.deref.ensures.value, c.deref-2.ensures.value) at c.in_ok-puts.ensures in
+    let puts : map (λ (row : Bor KeyValue). row.now) c.in_ok-puts.puts.items ≡ all = rw (c.writes.ensures, c.deref.ensures.value) at c.in_ok-puts.ensures.puts in
     let is_rest : rest ≡ unput_cells (cells store) all left =
-    (rw records at c.unput_cells-left.ensures) ∙ ap (λ ps. unput_cells (cells store) ps left) (ap (map (λ (row : Bor KeyValue). row.now)) c.deref-4.ensures.value ∙ puts) in
+    (rw records at c.unput_cells-left.ensures) ∙ ap (λ ps. unput_cells (cells store) ps left) (ap (map (λ (row : Bor KeyValue). row.now)) c.deref-3.ensures.value ∙ puts) in
     let mixed : AreMixed store ws places deletes c.self.invariant key end rest all = are_mixed store ws places deletes c.self.invariant key end live left rest under is_left is_rest in
     let q = c.args.request.now in
     let R = look store (changes_of store ws) in
-    let others : map (λ (row : Bor KeyValue). row.now) c.deref-5.result.now ≡ all = ap (map (λ (row : Bor KeyValue). row.now)) c.deref-5.ensures.value ∙ puts in
+    let others : map (λ (row : Bor KeyValue). row.now) c.deref-4.result.now ≡ all = ap (map (λ (row : Bor KeyValue). row.now)) c.deref-4.ensures.value ∙ puts in
     let now : c.current.result ≡ R.current = rw (← c.self.view_is) at c.current.ensures.current in
-    let same : in_order by_key (rows_of (cells store) rest ++ map (λ (row : Bor KeyValue). row.now) c.deref-5.result.now) ≡ R.rows q.key q.range_end =
+    let same : in_order by_key (rows_of (cells store) rest ++ map (λ (row : Bor KeyValue). row.now) c.deref-4.result.now) ≡ R.rows q.key q.range_end =
     ap (λ ps. in_order by_key (rows_of (cells store) rest ++ ps)) others ∙ mixed.is_read
     ∙ ap (λ k. R.rows k end) c.as_slice-key.ensures ∙ ap (R.rows q.key) c.as_slice-range_end.ensures in
     rw (← c.self.view_is)
-    (IfOk-weaker c.mixed_reply.result (λ reply. reply ≡ range_reply c.current.result q (in_order by_key (rows_of (cells store) rest ++ map (λ (row : Bor KeyValue). row.now) c.deref-5.result.now)))
+    (IfOk-weaker c.mixed_reply.result (λ reply. reply ≡ range_reply c.current.result q (in_order by_key (rows_of (cells store) rest ++ map (λ (row : Bor KeyValue). row.now) c.deref-4.result.now)))
     (λ reply. reply ≡ range_reply R.current q (R.rows q.key q.range_end))
-    (λ reply h. h ∙ ap (λ n. range_reply n q (in_order by_key (rows_of (cells store) rest ++ map (λ (row : Bor KeyValue). row.now) c.deref-5.result.now))) now ∙ ap (range_reply R.current q) same)
+    (λ reply h. h ∙ ap (λ n. range_reply n q (in_order by_key (rows_of (cells store) rest ++ map (λ (row : Bor KeyValue). row.now) c.deref-4.result.now))) now ∙ ap (range_reply R.current q) same)
     (rw records at c.mixed_reply.ensures))

@@ -50,7 +50,7 @@ returns-then-request-gt0 c =
     let stored : rows_read (reads store) q.key q.range_end q.revision ≡ rows_read R q.key q.range_end q.revision = ap (λ (s : PendingState). rows_read (reads s.store) q.key q.range_end q.revision) c.self.view_is ∙ sym same in
     IfOk-weaker c.range_at.result (λ reply. reply ≡ op_reply (reads store) c.current.result (RangeOp q)) (λ reply. reply ≡ op_reply R R.current (RangeOp q))
     (λ reply h. h ∙ ap (λ n. range_reply n q (rows_read (reads store) q.key q.range_end q.revision)) c.current.ensures.current ∙ ap (range_reply R.current q) stored)
-    c.range_at.ensures
+    c.range_at.ensures.reply
 
 -- something of the interval is put
 pub returns-then-puts_in : goal.returns-then-puts_in
@@ -66,38 +66,38 @@ live_cells-requires c =
     let key = c.as_slice-key.result.now in
     let end = c.as_slice-range_end.result.now in
     rw (← c.self.view_is)
-    (sym (puts_are c.self.inside.store.now key end c.self.inside.writes.items)
+    (sym (puts_are c.self.inside.store.now key end c.self.inside.plan)
     ∙ ap (list_any (is_row_in key end)) (sym c.self.invariant.puts)
-    ∙ (rw (c.deref.ensures.value, c.deref-2.ensures.value) at (sym c.puts_in.ensures))
+    ∙ (rw (c.writes.ensures, c.deref.ensures.value) at (sym c.puts_in.ensures))
     ∙ c.if-puts_in.false)
 
 pub range_reply-requires-clause-rows : goal.range_reply-requires-clause-rows
 range_reply-requires-clause-rows c =
     let records : c.store.inside.log.records ≡ c.self.inside.store.now.records = ap (λ (s : StoreState). s.records) c.store.view_is in
     let at = row_at (cells c.self.inside.store.now) in
-    rw records (all_show at c.in_ok-cells.cells.items _ (sym (rw (← c.self.view_is) at c.in_ok-cells.ensures)))
+    rw records (all_show at c.in_ok-cells.cells.items _ (sym (rw (← c.self.view_is) at c.in_ok-cells.ensures.cells)))
 
 pub range_reply-requires-clause-ascend : goal.range_reply-requires-clause-ascend
 range_reply-requires-clause-ascend c =
     let store = c.self.inside.store.now in
-    let changes = changes_of store c.self.inside.writes.items in
+    let changes = changes_of store c.self.inside.plan in
     let records : c.store.inside.log.records ≡ store.records = ap (λ (s : StoreState). s.records) c.store.view_is in
-    let found = filter_map-is (row_at (cells store)) c.in_ok-cells.cells.items _ (sym (rw (← c.self.view_is) at c.in_ok-cells.ensures)) in
+    let found = filter_map-is (row_at (cells store)) c.in_ok-cells.cells.items _ (sym (rw (← c.self.view_is) at c.in_ok-cells.ensures.cells)) in
     rw records (subst (IsStrictlySortedBy by_key) found (rows_ascend store.kept changes c.as_slice-key.result.now c.as_slice-range_end.result.now c.self.invariant.sound.kept))
 
 pub returns : goal.returns
 returns c =
     let q = c.args.request.now in
     let store = c.self.inside.store.now in
-    let R = look store (changes_of store c.self.inside.writes.items) in
+    let R = look store (changes_of store c.self.inside.plan) in
     let bits : to_z w64 (of_z w64 q.revision) ≡ q.revision = search rules in
     let records : c.store.inside.log.records ≡ store.records = ap (λ (s : StoreState). s.records) c.store.view_is in
-    let found = filter_map-is (row_at (cells store)) c.in_ok-cells.cells.items _ (sym (rw (← c.self.view_is) at c.in_ok-cells.ensures)) in
+    let found = filter_map-is (row_at (cells store)) c.in_ok-cells.cells.items _ (sym (rw (← c.self.view_is) at c.in_ok-cells.ensures.cells)) in
     let current : c.current-2.result ≡ R.current = rw (← c.self.view_is) at c.current-2.ensures.current in
     rw (← c.self.view_is)
     (newest R q c.range_reply.result c.current-2.result (rows_of (cells store) c.in_ok-cells.cells.items) (ap (int_lt (pos 0)) (sym bits) ∙ c.if-request-gt0.false) current
     (sym found ∙ ap (λ k. R.rows k c.as_slice-range_end.result.now) c.as_slice-key.ensures ∙ ap (R.rows q.key) c.as_slice-range_end.ensures)
-    (rw records at c.range_reply.ensures))
+    (rw records at c.range_reply.ensures.reply))
 
 -- ---- and nothing is deleted
 
@@ -139,7 +139,7 @@ returns-then-is_empty c =
     let store = c.self.inside.store.now in
     let key = c.as_slice-key.result.now in
     let end = c.as_slice-range_end.result.now in
-    let ws = c.self.inside.writes.items in
+    let ws = c.self.inside.plan in
     let deletes = map (λ d. d.now) c.self.inside.deletes.items in
     let R = look store (changes_of store ws) in
     let bits : to_z w64 (of_z w64 q.revision) ≡ q.revision = search rules in
@@ -147,7 +147,7 @@ returns-then-is_empty c =
     let current : c.store.inside.current ≡ store.kept.current = ap (λ (s : StoreState). s.kept.current) c.store.view_is in
     let changes : c.store.inside.log.changes ≡ store.kept.changes = ap (λ (s : StoreState). s.kept.changes) c.store.view_is in
     let under : map (row_at (cells store)) c.newest_cells-cells.result ≡ map Some (rows (is_in key end) store.kept.current store.kept.changes) = rw (records, changes, current) at (c.newest_cells-cells.ensures c.store.inside.current c.store.invariant.up) in
-    let free : puts_within key end (changes_of store ws) ≡ false = sym (puts_are store key end ws) ∙ ap (list_any (is_row_in key end)) (sym c.self.invariant.puts) ∙ (rw (c.deref.ensures.value, c.deref-2.ensures.value) at (sym c.puts_in.ensures)) ∙ c.if-puts_in.false in
+    let free : puts_within key end (changes_of store ws) ≡ false = sym (puts_are store key end ws) ∙ ap (list_any (is_row_in key end)) (sym c.self.invariant.puts) ∙ (rw (c.writes.ensures, c.deref.ensures.value) at (sym c.puts_in.ensures)) ∙ c.if-puts_in.false in
     let empty : vec_len c.self.inside.deletes ≡ 0 = eqb-true (vec_len c.self.inside.deletes) 0 (sym c.is_empty.ensures ∙ c.if-is_empty.true) in
     let none : length deletes ≡ 0 = omega (arith, empty, c.self.inside.deletes.ok.0, length-map c.self.inside.deletes.items (λ d. d.now)) in
     let read = newest_are store ws c.self.inside.puts.items deletes key end c.newest_cells-cells.result c.self.invariant free none under in
@@ -156,4 +156,4 @@ returns-then-is_empty c =
     rw (← c.self.view_is)
     (newest R q c.walked_reply.result c.current-then-is_empty.result (rows_of (cells store) c.newest_cells-cells.result) (ap (int_lt (pos 0)) (sym bits) ∙ c.if-request-gt0.false) now
     (sym found ∙ ap (λ k. R.rows k end) c.as_slice-key.ensures ∙ ap (R.rows q.key) c.as_slice-range_end.ensures)
-    (rw records at c.walked_reply.ensures))
+    (rw records at c.walked_reply.ensures.reply))

@@ -1,4 +1,4 @@
-use Rattle.std.proofs.Common.{◌≡◌, ◌∙◌, sym, ap, subst, w64, to_z, of_z, rules}
+use Rattle.std.proofs.Common.{◌≡◌, ◌∙◌, length, sym, ap, subst, w64, to_z, of_z, rules}
 use Rattle.std.specs.List.Sorted.{IsStrictlySortedBy}
 use Rattle.std.proofs.lemmas.Result.{IfOk-weaker}
 use Rattle.etcd_types.specs.declared.txn.Op.TheVariants.{Range as RangeOp}
@@ -12,6 +12,7 @@ use Rattle.model_laws.proofs.RowLaws.{rows_rise}
 use Rattle.revision_store.specs.Recorded.{cells_of}
 use Rattle.revision_store.specs.Stored.{StoreState, reads, row_at}
 use Rattle.revision_store.specs.Ranging.{rows_of}
+use Rattle.range_rows.proofs.RangingAnswers.{answer_counted}
 use Rattle.range_rows.proofs.RangingCells.{all_show, filter_map-is}
 use Rattle.revision_store.proofs.RangingReads.{rows_live}
 use Rattle.revision_store.proofs.store.Store.range_at.Goals as goal
@@ -19,31 +20,45 @@ use Rattle.revision_store.proofs.store.Store.range_at.Goals as goal
 pub range_reply-requires-clause-rows : goal.range_reply-requires-clause-rows
 range_reply-requires-clause-rows c =
     let cells = cells_of c.self.inside.log.records in
-    all_show (row_at cells) c.in_ok-cells.cells.items _ (sym c.in_ok-cells.ensures)
+    all_show (row_at cells) c.in_ok-cells.cells.items _ (sym c.in_ok-cells.ensures.cells)
 
 pub range_reply-requires-clause-ascend : goal.range_reply-requires-clause-ascend
 range_reply-requires-clause-ascend c =
     let cells = cells_of c.self.inside.log.records in
     let changes = ap (λ (s : StoreState). s.kept.changes) c.self.view_is in
-    let found = filter_map-is (row_at cells) c.in_ok-cells.cells.items _ (sym c.in_ok-cells.ensures) in
+    let found = filter_map-is (row_at cells) c.in_ok-cells.cells.items _ (sym c.in_ok-cells.ensures.cells) in
     subst (IsStrictlySortedBy by_key) (ap (rows (is_in c.as_slice-key.result.now c.as_slice-range_end.result.now) c.revision_read-revision.result) (sym changes) ∙ found)
     (rows_rise c.args.self.now.kept.changes c.use_invariant.ensures.kept.own c.revision_read-revision.result (is_in c.as_slice-key.result.now c.as_slice-range_end.result.now))
 
-pub returns : goal.returns
-returns c =
+pub returns-clause-reply : goal.returns-clause-reply
+returns-clause-reply c =
     let q = c.args.request.now in
     let store = c.args.self.now in
     let bits : to_z w64 (of_z w64 q.revision) ≡ q.revision = search rules in
     let cells = cells_of c.self.inside.log.records in
     let cs = c.in_ok-cells.cells.items in
     let changes = ap (λ (s : StoreState). s.kept.changes) c.self.view_is in
-    let found = filter_map-is (row_at cells) cs _ (sym c.in_ok-cells.ensures) in
+    let found = filter_map-is (row_at cells) cs _ (sym c.in_ok-cells.ensures.cells) in
     let read : rows_of cells cs ≡ rows_read (reads store) q.key q.range_end q.revision =
     sym found ∙ ap (rows (is_in c.as_slice-key.result.now c.as_slice-range_end.result.now) c.revision_read-revision.result) changes
     ∙ rows_live store.kept q.key q.range_end c.as_slice-key.result.now c.as_slice-range_end.result.now q.revision c.revision_read-revision.result c.as_slice-key.ensures c.as_slice-range_end.ensures (c.revision_read-revision.ensures ∙ ap (revision_read (reads store)) bits) c.requires.readable in
     IfOk-weaker c.range_reply.result (λ reply. reply ≡ range_reply c.args.current q (rows_of cells cs)) (λ reply. reply ≡ op_reply (reads store) c.args.current (RangeOp q))
     (λ reply h. h ∙ ap (range_reply c.args.current q) read)
-    c.range_reply.ensures
+    c.range_reply.ensures.reply
+
+-- ---- the rows are only counted
+
+pub returns-then-request-clause-reply : goal.returns-then-request-clause-reply
+returns-then-request-clause-reply c =
+    let q = c.args.request.now in
+    let store = c.args.self.now in
+    let bits : to_z w64 (of_z w64 q.revision) ≡ q.revision = search rules in
+    let changes = ap (λ (s : StoreState). s.kept.changes) c.self.view_is in
+    let read : rows (is_in c.as_slice-key.result.now c.as_slice-range_end.result.now) c.revision_read-revision.result c.self.inside.log.changes ≡ rows_read (reads store) q.key q.range_end q.revision =
+    ap (rows (is_in c.as_slice-key.result.now c.as_slice-range_end.result.now) c.revision_read-revision.result) changes
+    ∙ rows_live store.kept q.key q.range_end c.as_slice-key.result.now c.as_slice-range_end.result.now q.revision c.revision_read-revision.result c.as_slice-key.ensures c.as_slice-range_end.ensures (c.revision_read-revision.ensures ∙ ap (revision_read (reads store)) bits) c.requires.readable in
+    rw (c.reply_of.ensures, c.new.ensures)
+    (answer_counted q c.args.current (rows_read (reads store) q.key q.range_end q.revision) c.live_count-count.result c.if-request.true (c.live_count-count.ensures ∙ ap length read))
 
 -- ---- the newest revision is read
 
@@ -60,8 +75,8 @@ walked_reply-requires-clause-ascend c =
     subst (IsStrictlySortedBy by_key) (ap (rows (is_in c.as_slice-key.result.now c.as_slice-range_end.result.now) c.self.inside.current) (sym changes) ∙ found)
     (rows_rise c.args.self.now.kept.changes c.use_invariant.ensures.kept.own c.self.inside.current (is_in c.as_slice-key.result.now c.as_slice-range_end.result.now))
 
-pub returns-then-revision-current : goal.returns-then-revision-current
-returns-then-revision-current c =
+pub returns-then-revision-current-clause-reply : goal.returns-then-revision-current-clause-reply
+returns-then-revision-current-clause-reply c =
     let q = c.args.request.now in
     let store = c.args.self.now in
     let bits : to_z w64 (of_z w64 q.revision) ≡ q.revision = search rules in
@@ -76,4 +91,4 @@ returns-then-revision-current c =
     ∙ rows_live store.kept q.key q.range_end c.as_slice-key.result.now c.as_slice-range_end.result.now q.revision c.revision_read-revision.result c.as_slice-key.ensures c.as_slice-range_end.ensures (c.revision_read-revision.ensures ∙ ap (revision_read (reads store)) bits) c.requires.readable in
     IfOk-weaker c.walked_reply.result (λ reply. reply ≡ range_reply c.args.current q (rows_of cells cs)) (λ reply. reply ≡ op_reply (reads store) c.args.current (RangeOp q))
     (λ reply h. h ∙ ap (range_reply c.args.current q) read)
-    c.walked_reply.ensures
+    c.walked_reply.ensures.reply
