@@ -10,7 +10,7 @@ use crate::list::write_item;
 use crate::member::write_unsigned;
 use crate::refusal::write_refusal;
 use crate::responses::write_key_reply;
-use crate::size::body_size;
+use crate::size::empty_text;
 use crate::streams::write_stream_reply;
 use etcd_types::{Header, Mem, Reply};
 use std::alloc::Global;
@@ -20,7 +20,7 @@ pub fn write_reply(alloc: Global, reply: &Reply) -> Mem<(u16, Vec<u8>)>
     ensures status { IfOk result (λ answer. answer.0 ≡ reply_status reply.now) }
     ensures body { IfOk result (λ answer. answer.1.items ≡ reply_body reply.now) }
 {
-    let mut out = String::with_capacity(alloc, body_size(reply))?;
+    let mut out = empty_text(alloc, reply)?;
     write_body(&mut out, reply)?;
     Ok((status_of(reply), out.into_bytes()))
 }

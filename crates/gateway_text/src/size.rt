@@ -2,8 +2,13 @@
 //!
 //! The sizes are upper estimates: each number counts as the longest there is, and each member
 //! counts even where it is left out.
+ghost use Rattle.std.specs.Prelude.{◌≡◌, ◌-◌, ◌^◌, ℕ, [], min, sum_by, string_bytes, string_capacity, IfOk};
+ghost use Rattle.gateway_text.specs.Room.{body_room, bytes_room, event_room, key_room, lease_room, op_room, row_room};
+ghost use Rattle.gateway_text.specs.Room.{some_room};
+
 use base64::encoded_len;
-use etcd_types::{Event, KeyValue, List, OpReply, Reply};
+use etcd_types::{Event, KeyValue, List, Mem, OpReply, Reply};
+use std::alloc::Global;
 
 /// The longest reply with no rows and no lists.
 const REPLY: usize = 218;
@@ -20,64 +25,92 @@ const QUOTES: usize = 3;
 
 /// A part of a reply whose size depends on its value.
 trait TextSize {
-    /// How many bytes the text has at most, with a comma.
-    fn text_size(&self) -> usize;
+    ghost room_of: { Self → ℕ };
+
+    /// How many bytes the text has at most, with a comma, or the most that a number says.
+    fn text_size(&self) -> usize
+        ensures { result ≡ min (room_of self.now) (2 ^ 64 - 1) };
+}
+
+/// A text with nothing in it, and with room for the body of a reply and for no more.
+pub(crate) fn empty_text(alloc: Global, reply: &Reply) -> Mem<String>
+    ensures none { IfOk result (λ out. string_bytes out ≡ []) }
+    ensures room { IfOk result (λ out. string_capacity out ≡ min (body_room reply.now) (2 ^ 64 - 1)) }
+{
+    String::with_capacity(alloc, body_size(reply))
 }
 
 /// How many bytes the body of a reply has at most.
-pub(crate) fn body_size(reply: &Reply) -> usize {
-    let parts = match reply {
-        Reply::Range { kvs, .. } => list_size(kvs),
+fn body_size(reply: &Reply) -> usize
+    ensures { result ≡ min (body_room reply.now) (2 ^ 64 - 1) }
+{
+    let lists = match reply {
+        Reply::Range { kvs, .. } => list_size(kvs.as_slice()),
         Reply::Put { prev_kv, .. } => row_size(prev_kv),
-        Reply::Delete { prev_kvs, .. } => list_size(prev_kvs),
-        Reply::Txn { responses, .. } => list_size(responses),
-        Reply::Events { events, .. } => list_size(events),
-        Reply::TimeToLive { keys, .. } => list_size(keys),
-        Reply::Leases { ids, .. } => list_size(ids),
+        Reply::Delete { prev_kvs, .. } => list_size(prev_kvs.as_slice()),
+        Reply::Txn { responses, .. } => list_size(responses.as_slice()),
+        Reply::Events { events, .. } => list_size(events.as_slice()),
+        Reply::TimeToLive { keys, .. } => list_size(keys.as_slice()),
+        Reply::Leases { ids, .. } => list_size(ids.as_slice()),
         Reply::Quiet => return 0,
         _ => 0,
     };
-    REPLY.saturating_add(parts)
+    REPLY.saturating_add(lists)
 }
 
-fn list_size<T: TextSize>(items: &List<T>) -> usize {
-    items
-        .as_slice()
-        .iter()
-        .fold(0, |size, item| size.saturating_add(item.text_size()))
+fn list_size<T: TextSize>(items: &[T]) -> usize
+    ensures { result ≡ min (sum_by T.room_of items.now) (2 ^ 64 - 1) }
+{
+    let mut size = 0usize;
+    for item in items {
+        size = size.saturating_add(item.text_size());
+    }
+    size
 }
 
-fn row_size(row: &Option<KeyValue>) -> usize {
+fn row_size(row: &Option<KeyValue>) -> usize
+    ensures { result ≡ min (some_room row.now) (2 ^ 64 - 1) }
+{
     match row {
         Some(row) => row.text_size(),
         None => 0,
     }
 }
 
-fn base64_size(bytes: &List<u8>) -> usize {
-    encoded_len(bytes.as_slice().len(), true).unwrap_or(usize::MAX)
+fn base64_size(bytes: &[u8]) -> usize
+    ensures { result ≡ min (bytes_room bytes.now) (2 ^ 64 - 1) }
+{
+    encoded_len(bytes.len(), true).unwrap_or(usize::MAX)
 }
 
 impl TextSize for i64 {
+    ghost room_of = { lease_room };
+
     fn text_size(&self) -> usize {
         LEASE
     }
 }
 
 impl TextSize for List<u8> {
+    ghost room_of = { key_room };
+
     fn text_size(&self) -> usize {
-        QUOTES.saturating_add(base64_size(self))
+        QUOTES.saturating_add(base64_size(self.as_slice()))
     }
 }
 
 impl TextSize for KeyValue {
+    ghost room_of = { row_room };
+
     fn text_size(&self) -> usize {
-        ROW.saturating_add(base64_size(&self.key))
-            .saturating_add(base64_size(&self.value))
+        ROW.saturating_add(base64_size(self.key.as_slice()))
+            .saturating_add(base64_size(self.value.as_slice()))
     }
 }
 
 impl TextSize for Event {
+    ghost room_of = { event_room };
+
     fn text_size(&self) -> usize {
         EVENT
             .saturating_add(self.kv.text_size())
@@ -86,11 +119,13 @@ impl TextSize for Event {
 }
 
 impl TextSize for OpReply {
+    ghost room_of = { op_room };
+
     fn text_size(&self) -> usize {
         let rows = match self {
-            OpReply::Range { kvs, .. } => list_size(kvs),
+            OpReply::Range { kvs, .. } => list_size(kvs.as_slice()),
             OpReply::Put { prev_kv, .. } => row_size(prev_kv),
-            OpReply::Delete { prev_kvs, .. } => list_size(prev_kvs),
+            OpReply::Delete { prev_kvs, .. } => list_size(prev_kvs.as_slice()),
         };
         RESPONSE.saturating_add(rows)
     }
