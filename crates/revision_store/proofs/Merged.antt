@@ -6,7 +6,7 @@ use Rattle.std.specs.FinMap.{FinMap}
 use Rattle.std.specs.List.{All, AllByRecursion}
 use Rattle.std.specs.Option.{option_to_list}
 use Rattle.std.specs.declared.cmp.Ordering.TheVariants.{Less}
-use Rattle.std.proofs.lemmas.List.{append-nil, length-append, length-drop, length-map, length-take}
+use Rattle.std.proofs.lemmas.List.{append-nil, length-append, length-drop, length-take}
 use Rattle.std.proofs.lemmas.List.Elements.{All-filter, All-from_recursion, All-head, recursion_from_All, All-append}
 use Rattle.std.proofs.lemmas.List.Filters.{length-filter_both}
 use Rattle.chunk_list.specs.Chunked.{Chunked}
@@ -210,10 +210,6 @@ module _ (cells : Cells) (look : List ℕ → Option KeyValue) (left : HeadsLeft
       ∙ ap (λ (hs : List ℕ). map (row_at cells) found ++ map Some (shown look cells hs)) (sym none)
       ∙ reading.found_is
 
-  -- and they are as many
-  counted_done : reading.heads ≡ [] → length found ≡ length all
-  counted_done none = sym (length-map found (row_at cells)) ∙ ap length (reading_done none) ∙ length-map all Some
-
   module _ (after : HeadsLeft) (head : ℕ) (takes : TakesFirst cells reading.heads after head) where
     here : IsSpread cells (head ∷ takes.rest)
     here = subst (IsSpread cells) takes.first reading.spread
@@ -252,10 +248,6 @@ counting_on cells look left count all counting after head takes n o b is there c
       reading = reading_on cells look left counting.found all counting.reading after head takes new o is there refl;
       count_is = length-append counting.found (option_to_list o) ∙ ap (λ k. k + length (option_to_list o)) counting.count_is ∙ ap (λ k. count + k) (one_more o b counts) ∙ sym more;
     }
-
--- all are counted once none is left
-pub counting_done : (cells : Cells) (look : List ℕ → Option KeyValue) (left : HeadsLeft) (count : ℕ) (all : List KeyValue) (counting : IsCounting cells look left count all) → counting.reading.heads ≡ [] → count ≡ length all
-counting_done cells look left count all counting none = sym counting.count_is ∙ counted_done cells look left counting.found all counting.reading none
 
 module _ (cells : Cells) (live_heads dead_heads order key end : List ℕ) (parted : IsIndexOf cells live_heads dead_heads) (own : (c : ℕ) (e : Linked) → cells c ≡ Some e → OwnRow e.change) (r : ℕ) where
   abbrev inside : ℕ → Bool

@@ -1,8 +1,8 @@
-use Rattle.std.proofs.Common.{◌≡◌, ◌++◌, ◌∙◌, ℕ, List, IfSome, IsSome, ap, arith, length, subst, sym}
+use Rattle.std.proofs.Common.{◌≡◌, ◌++◌, ◌∙◌, ℕ, List, IfSome, IsSome, ap, subst, sym}
 use Rattle.std.specs.Prelude.{option_and_then}
 use Rattle.std.specs.List.{AllByRecursion}
 use Rattle.std.specs.Option.{option_to_list}
-use Rattle.std.proofs.lemmas.List.{append-nil, length_push}
+use Rattle.std.proofs.lemmas.List.{append-nil}
 use Rattle.cell_arena.specs.Region.{RegionState}
 use Rattle.etcd_model.specs.Changes.{live, rows}
 use Rattle.etcd_model.specs.Interval.{is_in}
@@ -11,7 +11,7 @@ use Rattle.revision_store.specs.Recorded.{cells_of}
 use Rattle.revision_store.specs.Logged.{LogState}
 use Rattle.revision_store.specs.Plans.{key_at}
 use Rattle.revision_store.specs.Stored.{row_at}
-use Rattle.revision_store.proofs.Merged.{IsReading, fewer_left, heads_fit_in, left_there, reading_as, reading_first, reading_on}
+use Rattle.revision_store.proofs.Merged.{IsReading, left_there, reading_as, reading_first, reading_on}
 use Rattle.revision_store.proofs.log.Log.live_cells.Goals as goal
 
 pub loop-head-init : goal.loop-head-init

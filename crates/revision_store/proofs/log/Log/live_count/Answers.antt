@@ -9,7 +9,7 @@ use Rattle.revision_store.specs.Recorded.{cells_of}
 use Rattle.revision_store.specs.Logged.{LogState}
 use Rattle.revision_store.specs.Plans.{key_at}
 use Rattle.revision_store.specs.Stored.{row_at}
-use Rattle.revision_store.proofs.Merged.{IsCounting, counting_done, counting_on, fewer_left, heads_fit_in, left_there, reading_as, reading_first}
+use Rattle.revision_store.proofs.Merged.{IsCounting, counting_on, fewer_left, heads_fit_in, left_there, reading_as, reading_first}
 use Rattle.revision_store.proofs.log.Log.live_count.Goals as goal
 
 pub loop-head-init : goal.loop-head-init
