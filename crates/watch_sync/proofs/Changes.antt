@@ -14,7 +14,7 @@ pub all_from : (a b : ℕ) (xs : List Recorded) → a ≤ b → AllByRecursion (
 all_from a b [] le all = tt
 all_from a b (x ∷ xs) le all = (omega (arith, all.0), all_from a b xs le all.1)
 
-none_before : (r : ℕ) (xs : List Recorded) → AllByRecursion (λ y. r ≤ y.revision) xs → before r xs ≡ []
+pub none_before : (r : ℕ) (xs : List Recorded) → AllByRecursion (λ y. r ≤ y.revision) xs → before r xs ≡ []
 none_before r [] all = refl
 none_before r (x ∷ xs) all = grind (arith, nat_tests, all.0, none_before r xs all.1)
 
@@ -61,7 +61,7 @@ before_before : (p r : ℕ) (xs : List Recorded) → p ≤ r → before r (befor
 before_before p r [] le = refl
 before_before p r (x ∷ xs) le = grind (arith, nat_tests, before_before p r xs le)
 
-since_since : (p r : ℕ) (xs : List Recorded) → p ≤ r → since r (since p xs) ≡ since r xs
+pub since_since : (p r : ℕ) (xs : List Recorded) → p ≤ r → since r (since p xs) ≡ since r xs
 since_since p r [] le = refl
 since_since p r (x ∷ xs) le = grind (arith, nat_tests, since_since p r xs le)
 

@@ -11,4 +11,7 @@ pub mod Told
 pub mod Takes
 pub mod Committed
 pub mod Filling
+pub mod Passing
+pub mod Hints
+pub mod Nothing
 pub mod Others

@@ -160,7 +160,7 @@ passes_on w d v s cs r sound whole stretch taken moved agrees =
     (before_more w.position r s.kept.changes stretch.order sound.rises)
     (moved ∙ ap (λ (u : WatchState). moved_to u r) taken) agrees
 
-all_from : (p : ℕ) (xs : List Recorded) → AllByRecursion (λ x. p ≤ x.revision) (since p xs)
+pub all_from : (p : ℕ) (xs : List Recorded) → AllByRecursion (λ x. p ≤ x.revision) (since p xs)
 all_from p xs = subst (AllByRecursion (λ x. p ≤ x.revision)) (same xs) (picked_from (λ x. true) p xs)
   where
     same : (ys : List Recorded) → picked (λ x. true) p ys ≡ since p ys

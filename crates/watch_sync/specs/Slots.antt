@@ -1,6 +1,6 @@
 -- The watches of a tenant in their slots, and what is planned for one of them.
 use Rattle.std.specs.Prelude.{◌≡◌, ℕ, ◌≤◌, List, map, Option, Some, None, option_and_then, option_map}
-use Rattle.std.specs.Prelude.{Bool, false, slice_get, slice_set, IfSome}
+use Rattle.std.specs.Prelude.{Bool, false, ◌&&◌, length, nat_le, nat_lt, slice_get, slice_set, IfSome}
 use Rattle.std.specs.List.{All}
 use Rattle.etcd_types.specs.declared.reply.Header.{Header}
 use Rattle.etcd_model.specs.declared.state.Watch.{Watch}
@@ -9,6 +9,7 @@ use Rattle.etcd_model.specs.Store.{Store, kept_store}
 use Rattle.etcd_model.specs.Tenant.{Outcome, header}
 use Rattle.etcd_model.specs.Watches as model
 use Rattle.revision_store.specs.Stored.{StoreState}
+use Rattle.watch_sync.specs.Ahead.{ahead}
 use Rattle.watch_sync.specs.Agreeing.{Agrees, WatchState, may_tell, with_next}
 use Rattle.watch_sync.specs.declared.planned.Taken.{Taken}
 use Rattle.watch_sync.specs.declared.planned.Taken.TheVariants.{Nothing, Canceled, Told}
@@ -63,6 +64,12 @@ abbrev pub FitsTake : List (Option WatchState) → StoreState → Taken → Type
 FitsTake slots store Nothing = Unit {0}
 FitsTake slots store (Canceled slot) = Unit {0}
 FitsTake slots store (Told slot next last) = IfSome (watch_in slots slot) (GoesOn store next)
+
+-- A take gives events: the slot has a watch that missed nothing that a compaction took, and to which some kept change
+-- is still to be told. Of another slot a take is a cancel, word of progress or quiet.
+abbrev pub gives_events : Store → Option Watch → Bool
+gives_events store None = false
+gives_events store (Some w) = nat_le store.compacted w.next && nat_lt 0 (length (ahead w store.changes))
 
 -- a tenant over a store and some watches, which answers under a header, at a moment
 pub record IsTenant

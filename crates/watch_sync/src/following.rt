@@ -1,5 +1,5 @@
 //! How a ring follows its store: over the newest revision, over those before, and over a compaction.
-ghost use Rattle.std.specs.Prelude.{◌≡◌, ◌<◌, ◌≤◌, ◌++◌, IfSome, IsFalse, IsSome, IsTrue, Some, map, nat_le};
+ghost use Rattle.std.specs.Prelude.{◌≡◌, ◌<◌, ◌≤◌, ◌+◌, ◌++◌, IfSome, IsFalse, IsSome, IsTrue, None, Some, map, nat_le};
 ghost use Rattle.std.specs.Prelude.{ℕ, List, false, length, take};
 ghost use Rattle.std.specs.List.{AllByRecursion};
 ghost use Rattle.etcd_model.specs.Interval.{is_in};
@@ -7,6 +7,7 @@ ghost use Rattle.etcd_model.specs.Changes.{since};
 ghost use Rattle.key_index.specs.Links.{change_at};
 ghost use Rattle.revision_store.specs.Stored.{cells};
 ghost use Rattle.watch_sync.specs.Ahead.{is_ahead_at, notes_at};
+ghost use Rattle.watch_sync.specs.Catching.{IsStuck, MayStop, next_changes, passed, ring_entries};
 ghost use Rattle.watch_sync.specs.Agreeing.{Agrees, IsStretch, cut_to, front_of, may_tell, reached, with_ring};
 
 use crate::wanting::{is_ahead, is_other, note_of, revision_at};
@@ -58,12 +59,11 @@ impl OpenWatch {
     }
 
     /// Whether the ring has room for the changes of the next revision that has some, so that a catch-up can go on.
-    fn has_room_for_next(&self, store: &Store) -> bool {
-        store.use_invariant();
-        let changes = store.since(self.position());
-        let later = store.since(reached(store, &changes));
-        let count = changes.len().saturating_sub(later.len());
-        self.ring_len().saturating_add(count) <= RING_ENTRIES
+    fn has_room_for_next(&self, store: &Store) -> bool
+        requires { self.now.position ≤ store.now.kept.current }
+    {
+        let (changes, _) = self.next_stretch(store);
+        self.ring_len().saturating_add(changes.len()) <= RING_ENTRIES
     }
 
     /// Whether it is to be told of the change under a cell.
@@ -90,6 +90,8 @@ impl OpenWatch {
             → self.new ≡ with_ring self.old
             (self.old.ring ++ notes_at (cells store.now) self.old.watch changes.now) }
         ensures none { IsFalse result → self.new ≡ self.old }
+        ensures full { IsFalse result → ring_entries
+            < length self.old.ring + length (notes_at (cells store.now) self.old.watch changes.now) }
     {
         let before = self.ring_len();
         for cell in changes.again() {
@@ -110,6 +112,9 @@ impl OpenWatch {
         ensures agrees { Agrees self.old store.now → Agrees self.new store.now }
         ensures watch { self.new.watch ≡ self.old.watch }
         ensures moved { IsTrue result → self.new.position ≡ to }
+        ensures none { IsFalse result → self.new ≡ self.old }
+        ensures full { IsFalse result → ring_entries
+            < length self.old.ring + length (notes_at (cells store.now) self.old.watch changes.now) }
     {
         store.use_invariant();
         if !self.take_up(store, changes) {
@@ -142,6 +147,23 @@ impl OpenWatch {
         self.pass(store, newest, current + 1);
     }
 
+    /// The changes of the next revision that has some, from the position on, and the revision after it; where none
+    /// has, no change and the revision after the current one.
+    fn next_stretch<'a>(&self, store: &'a Store) -> (Changes<'a>, u64)
+        requires { self.now.position ≤ store.now.kept.current }
+        ensures stretch { IsStretch store.now self.now.position result.1 result.0 }
+        ensures next { map (change_at (cells store.now)) result.0
+            ≡ map Some (next_changes store.now.kept self.now.position) }
+        ensures later { self.now.position < result.1 }
+    {
+        store.use_invariant();
+        let changes = store.since(self.position());
+        let to = reached(store, &changes);
+        let later = store.since(to);
+        let count = changes.len() - later.len();
+        (changes.first(count), to)
+    }
+
     /// Goes on by one revision that has changes, or to the end, over so many changes at most. Answers
     /// how many it went over, or nothing if it can't go on.
     fn go_on(&mut self, store: &Store, budget: usize) -> Option<usize>
@@ -149,27 +171,30 @@ impl OpenWatch {
         requires behind { self.old.position ≤ store.now.kept.current }
         ensures agrees { Agrees self.old store.now → Agrees self.new store.now }
         ensures watch { self.new.watch ≡ self.old.watch }
-        ensures further { IfSome result (λ n. (n ≤ budget) × (self.old.position < self.new.position)) }
+        ensures further { IfSome result (λ n. self.old.position < self.new.position) }
+        ensures passed { IfSome result (λ n. n ≡ passed store.now.kept self.old.position self.new.position) }
+        ensures within { IfSome result (λ n. n ≤ budget) }
+        ensures stays { result ≡ None → self.new ≡ self.old }
+        ensures stuck { result ≡ None → IsStuck store.now.kept budget self.old }
     {
-        store.use_invariant();
-        let changes = store.since(self.position());
-        let to = reached(store, &changes);
-        let later = store.since(to);
-        let count = changes.len() - later.len();
+        let (changes, to) = self.next_stretch(store);
+        let count = changes.len();
         if count > budget {
             return None;
         }
-        if !self.pass(store, &changes.first(count), to) {
+        if !self.pass(store, &changes, to) {
             return None;
         }
         Some(count)
     }
 
-    /// Goes on over so many changes at most. Answers how many are left of them.
+    /// Goes on over so many changes at most, as far as that and the ring's room go. Answers how many are left of them.
     pub fn catch_up(&mut self, store: &Store, budget: usize) -> usize
         ensures agrees { Agrees self.old store.now → Agrees self.new store.now }
         ensures watch { self.new.watch ≡ self.old.watch }
-        ensures left { result ≤ budget }
+        ensures forth { self.old.position ≤ self.new.position }
+        ensures budget { passed store.now.kept self.old.position self.new.position + result ≡ budget }
+        ensures stops { MayStop store.now.kept result self.new }
     {
         let mut left = budget;
         if !self.is_whole(store) {

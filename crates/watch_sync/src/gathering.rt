@@ -1,5 +1,5 @@
 //! What a watch is told next.
-ghost use Rattle.std.specs.Prelude.{◌≡◌, ◌<◌, ◌≤◌, IfOk, IsSome, OnOk, Some, fold, map};
+ghost use Rattle.std.specs.Prelude.{◌≡◌, ◌<◌, ◌≤◌, [], IfOk, IsOk, IsSome, OnOk, Some, fold, map};
 ghost use Rattle.std.specs.List.{AllByRecursion};
 ghost use Rattle.etcd_model.specs.Changes.{since};
 ghost use Rattle.key_index.specs.Links.{change_at};
@@ -27,6 +27,7 @@ impl OpenWatch {
         ensures later { IfOk result (λ g. self.now.watch.next
             ≤ next_after store.now.kept.current self.now.watch.next g) }
         ensures last { IfOk result (λ g. g.last ≤ store.now.kept.current) }
+        ensures sure { ahead self.now.watch store.now.kept.changes ≡ [] → IsOk result }
     {
         store.use_invariant();
         let mut found = Gathered::new(alloc);
@@ -53,8 +54,9 @@ impl OpenWatch {
     /// Goes over some cells, until there is one revision more than a response has.
     fn scan(&self, store: &Store, changes: &Changes<'_>, found: &mut Gathered) -> Mem<()>
         requires { AllByRecursion (λ c. IsSome (cells store.now c)) changes.now }
-        ensures { OnOk result
+        ensures notes { OnOk result
             (found.new ≡ fold offered found.old (notes_at (cells store.now) self.now.watch changes.now)) }
+        ensures sure { notes_at (cells store.now) self.now.watch changes.now ≡ [] → IsOk result }
     {
         for cell in changes.again() {
             if found.more() {

@@ -1,4 +1,7 @@
 //! Which watches may have something to be told.
+ghost use Rattle.std.specs.Prelude.{◌≡◌};
+ghost use Rattle.watch_sync.specs.Hints.{is_hinted};
+
 use etcd_types::limits::WATCH_SLOTS;
 
 /// What is told of a slot.
@@ -17,8 +20,8 @@ impl SlotHint {
 }
 
 /// The slots whose take may not be quiet: of watches that have notes, that are behind, that are to be
-/// cancelled, or that are to be told that there is no event. It promises nothing: whoever drives watches
-/// takes these, and is answered what each take is answered at its own time.
+/// cancelled, or that are to be told that there is no event. Whoever drives watches takes these, and is answered
+/// what each take is answered at its own time.
 #[derive(Clone, Copy)]
 pub struct Hint {
     pub(crate) slots: [SlotHint; WATCH_SLOTS],
@@ -26,14 +29,17 @@ pub struct Hint {
 
 impl Hint {
     /// Whether the take of a slot may not be quiet.
-    pub fn has(&self, slot: u8) -> bool {
+    pub fn has(&self, slot: u8) -> bool
+        ensures { result ≡ is_hinted self.now slot }
+    {
         match self.slots.get(slot as usize) {
             Some(hint) => hint.may_tell,
             None => false,
         }
     }
 
-    /// Whether the take of a slot would look at many changes, over which catch-ups bring its watch in small steps.
+    /// Whether the take of a slot would look at many changes, over which catch-ups bring its watch in small steps. It
+    /// promises nothing.
     pub fn is_far_behind(&self, slot: u8) -> bool {
         match self.slots.get(slot as usize) {
             Some(hint) => hint.is_far_behind,

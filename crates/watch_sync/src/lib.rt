@@ -41,5 +41,5 @@ mod watch;
 mod watchers;
 
 pub use hint::Hint;
-pub use planned::{NewWatch, PlannedTake, Taken};
+pub use planned::{NewWatch, PlannedTake, Taken, WatchFault};
 pub use watchers::Watchers;

@@ -3,7 +3,27 @@ ghost use Rattle.std.specs.Prelude.{◌≡◌};
 
 use crate::watch::OpenWatch;
 use etcd_types::Reply;
+use std::alloc::AllocError;
 use std::marker::Model;
+
+/// Why no watch is opened.
+#[derive(Clone, Copy, Debug, PartialEq, Eq)]
+pub enum WatchFault {
+    /// No slot is free: 64 watches are open.
+    Full,
+    /// A growth was refused.
+    Memory,
+}
+
+impl From<AllocError> for WatchFault {
+    ghost use Rattle.watch_sync.specs.declared.planned.WatchFault.TheVariants.{Memory};
+
+    ghost from_gives = { λ _ fault. fault ≡ Memory };
+
+    fn from(_: AllocError) -> WatchFault {
+        WatchFault::Memory
+    }
+}
 
 /// A watch that is to be opened: the slot that it gets, and its ring, which is made.
 #[derive(Drop)]

@@ -1,11 +1,14 @@
 //! Slots: what a watch does, if a slot has one, and what all do.
-ghost use Rattle.std.specs.Prelude.{◌≡◌, ◌≤◌, Some, IfSome, map, option_map};
+ghost use Rattle.std.specs.List.{All};
+ghost use Rattle.std.specs.Prelude.{◌≡◌, ◌+◌, Some, IfSome, map, option_map};
 ghost use Rattle.etcd_model.specs.Changes.{since};
 ghost use Rattle.key_index.specs.Links.{change_at};
 ghost use Rattle.revision_store.specs.Stored.{cells};
 ghost use Rattle.watch_sync.specs.Agreeing.{cut_to, front_of, with_next};
+ghost use Rattle.watch_sync.specs.Catching.{MayStopIn, passed_all, passed_in};
 ghost use Rattle.watch_sync.specs.Slots.{AllAgree, GoesOn, OneAgrees, hinted, watches};
 
+use crate::hint::SlotHint;
 use crate::wanting::front_of;
 use crate::watch::OpenWatch;
 use revision_store::{Changes, Store};
@@ -27,7 +30,8 @@ fn note(slot: &mut Option<OpenWatch>, store: &Store, newest: &Changes<'_>, front
 fn catch_up(slot: &mut Option<OpenWatch>, store: &Store, budget: usize) -> usize
     ensures agrees { OneAgrees store.now slot.old → OneAgrees store.now slot.new }
     ensures watch { option_map (λ w. w.watch) slot.new ≡ option_map (λ w. w.watch) slot.old }
-    ensures left { result ≤ budget }
+    ensures budget { passed_in store.now.kept slot.old slot.new + result ≡ budget }
+    ensures stops { MayStopIn store.now.kept result slot.new }
 {
     match slot {
         Some(watch) => watch.catch_up(store, budget),
@@ -45,7 +49,7 @@ fn cut(slot: &mut Option<OpenWatch>, store: &Store)
 }
 
 /// Whether a take at a moment may not be quiet.
-pub(crate) fn may_tell(slot: &Option<OpenWatch>, store: &Store, moment: u64) -> bool
+fn may_tell(slot: &Option<OpenWatch>, store: &Store, moment: u64) -> bool
     ensures { result ≡ hinted store.now moment slot.now }
 {
     match slot {
@@ -55,10 +59,20 @@ pub(crate) fn may_tell(slot: &Option<OpenWatch>, store: &Store, moment: u64) -> 
 }
 
 /// Whether a take would look at many changes, over which catch-ups bring the watch in small steps.
-pub(crate) fn is_far_behind(slot: &Option<OpenWatch>, store: &Store) -> bool {
+fn is_far_behind(slot: &Option<OpenWatch>, store: &Store) -> bool {
     match slot {
         Some(watch) => watch.is_far_behind(store),
         None => false,
+    }
+}
+
+/// What is told of a slot at a moment.
+pub(crate) fn hint_of(slot: &Option<OpenWatch>, store: &Store, moment: u64) -> SlotHint
+    ensures { result.may_tell ≡ hinted store.now moment slot.now }
+{
+    SlotHint {
+        may_tell: may_tell(slot, store, moment),
+        is_far_behind: is_far_behind(slot, store),
     }
 }
 
@@ -87,15 +101,18 @@ pub(crate) fn note_all(slots: &mut [Option<OpenWatch>], store: &Store)
     }
 }
 
-/// Goes on in each slot, over so many changes at most in all.
-pub(crate) fn catch_up_all(slots: &mut [Option<OpenWatch>], store: &Store, budget: usize)
+/// Goes on in each slot, over so many changes at most in all. Answers how many are left of them.
+pub(crate) fn catch_up_all(slots: &mut [Option<OpenWatch>], store: &Store, budget: usize) -> usize
     ensures agree { AllAgree slots.old store.now → AllAgree slots.new store.now }
     ensures watches { watches slots.new ≡ watches slots.old }
+    ensures budget { passed_all store.now.kept slots.old slots.new + result ≡ budget }
+    ensures stops { All (MayStopIn store.now.kept result) slots.new }
 {
     let mut left = budget;
     for slot in slots.iter_mut() {
         left = catch_up(slot, store, left);
     }
+    left
 }
 
 /// Follows a compaction in each slot.

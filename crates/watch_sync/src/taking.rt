@@ -1,10 +1,10 @@
 //! What a take is answered.
-ghost use Rattle.std.specs.Prelude.{◌≡◌, ◌<◌, ◌^◌, List, Option, Some, IfOk, pos, slice_get};
+ghost use Rattle.std.specs.Prelude.{◌≡◌, ◌<◌, ◌^◌, List, Option, Some, IfOk, IsOk, false, pos, slice_get};
 ghost use Rattle.std.specs.Option.{option_copied};
-ghost use Rattle.etcd_types.specs.declared.reply.Reply.TheVariants.{Canceled};
+ghost use Rattle.etcd_types.specs.declared.reply.Reply.TheVariants.{Canceled, Quiet};
 ghost use Rattle.etcd_model.specs.Watches.{last_told};
-ghost use Rattle.watch_sync.specs.Agreeing.{Agrees, WatchState};
-ghost use Rattle.watch_sync.specs.Slots.{AllAgree, PlansTake, watch_in};
+ghost use Rattle.watch_sync.specs.Agreeing.{Agrees, WatchState, may_tell};
+ghost use Rattle.watch_sync.specs.Slots.{AllAgree, PlansTake, gives_events, hinted, watch_in, watches};
 
 use crate::planned::{PlannedTake, Taken};
 use crate::watch::OpenWatch;
@@ -54,10 +54,13 @@ impl OpenWatch {
         slot: u8,
     ) -> Mem<PlannedTake>
         requires { Agrees self.now store.now }
-        ensures { IfOk result (λ planned. (slots : List (Option WatchState))
+        ensures plans { IfOk result (λ planned. (slots : List (Option WatchState))
             → slice_get slots slot ≡ Some (Some self.now)
             → PlansTake slots store.now header moment slot planned) }
+        ensures sure { gives_events store.now.kept (Some self.now.watch) ≡ false → IsOk result }
+        ensures quiet { may_tell store.now moment self.now ≡ false → IfOk result (λ p. p.reply ≡ Quiet) }
     {
+        store.use_invariant();
         if self.next() < store.compacted() {
             let reply = self.cancel(store, header);
             return Ok(PlannedTake {
@@ -86,7 +89,8 @@ impl Watchers {
     }
 
     /// What a slot is told next, and what its watch is then: nothing if it is free or there is no event, unless
-    /// that is to be told, and a cancel if a compaction took what it was still to be told of.
+    /// that is to be told, and a cancel if a compaction took what it was still to be told of. Only events take
+    /// memory.
     pub fn plan_take(
         &self,
         alloc: Global,
@@ -96,7 +100,10 @@ impl Watchers {
         slot: u8,
     ) -> Mem<PlannedTake>
         requires { AllAgree self.now store.now }
-        ensures { IfOk result (PlansTake self.now store.now header moment slot) }
+        ensures plans { IfOk result (PlansTake self.now store.now header moment slot) }
+        ensures sure { gives_events store.now.kept (watch_in (watches self.now) slot) ≡ false → IsOk result }
+        ensures quiet { hinted store.now moment (watch_in self.now slot) ≡ false
+            → IfOk result (λ p. p.reply ≡ Quiet) }
     {
         match self.watch(slot) {
             Some(watch) => watch.plan(alloc, store, header, moment, slot),

@@ -1,5 +1,5 @@
 //! The events that a watch is told, read from the cells of their records.
-ghost use Rattle.std.specs.Prelude.{◌≡◌, ◌+◌, ◌≤◌, [], IfOk, IfSome, IsSome, false, map, nat_le, true};
+ghost use Rattle.std.specs.Prelude.{◌≡◌, ◌+◌, ◌≤◌, [], IfOk, IfSome, IsOk, IsSome, false, map, nat_le, true};
 ghost use Rattle.std.specs.List.{AllByRecursion};
 ghost use Rattle.etcd_types.specs.Limits.{progress_seconds};
 ghost use Rattle.etcd_types.specs.declared.reply.Reply.TheVariants.{Events};
@@ -177,6 +177,7 @@ impl OpenWatch {
         ensures next { IfOk result (λ told. told.1
             ≡ next_told store.now.kept.current self.now.watch (ahead self.now.watch store.now.kept.changes)) }
         ensures later { IfOk result (λ told. self.now.watch.next ≤ told.1) }
+        ensures sure { ahead self.now.watch store.now.kept.changes ≡ [] → IsOk result }
     {
         let found = self.gather(alloc, store)?;
         let next = found.next(store.current(), self.next());

@@ -1,7 +1,8 @@
 //! An open watch, and its ring.
-ghost use Rattle.std.specs.Prelude.{◌≡◌, ◌<◌, ◌++◌, ◌∷◌, [], IsFalse, IsTrue, Some, drop, length, slice_get};
+ghost use Rattle.std.specs.Prelude.{◌≡◌, ◌<◌, ◌≤◌, ◌++◌, ◌∷◌, [], IsFalse, IsTrue, Some, drop, length, slice_get};
 ghost use Rattle.std.specs.Prelude.{take};
 ghost use Rattle.watch_sync.specs.Agreeing.{from_next, moved_to, with_ring};
+ghost use Rattle.watch_sync.specs.Catching.{ring_entries};
 
 use crate::noted::Noted;
 use circular_buffer::HeapCircularBuffer;
@@ -17,16 +18,21 @@ pub(crate) struct OpenWatch {
 }
 
 impl Model for OpenWatch {
+    ghost use Rattle.std.specs.Prelude.{◌≡◌};
     ghost use Rattle.watch_sync.specs.Agreeing.{WatchState};
+    ghost use Rattle.watch_sync.specs.Catching.{ring_entries};
 
     ghost Value = { WatchState };
 
     ghost view = { λ w. record { watch = w.watch; ring = w.ring.items; position = w.position } };
+
+    ghost invariant = { λ w. w.ring.capacity ≡ ring_entries };
 }
 
 impl OpenWatch {
     /// A watch with its ring, which is filled up to a revision.
     pub fn new(watch: Watch, ring: HeapCircularBuffer<Noted>, position: u64) -> OpenWatch
+        requires { ring.capacity ≡ ring_entries }
         ensures { result ≡ record { watch = watch; ring = ring.items; position = position } }
     {
         OpenWatch {
@@ -85,7 +91,8 @@ impl OpenWatch {
     /// Puts a note behind the others, if there is a place for it.
     pub fn push(&mut self, note: Noted) -> bool
         ensures room { IsTrue result → self.new ≡ with_ring self.old (self.old.ring ++ note ∷ []) }
-        ensures full { IsFalse result → self.new ≡ self.old }
+        ensures stays { IsFalse result → self.new ≡ self.old }
+        ensures full { IsFalse result → ring_entries ≤ length self.old.ring }
     {
         self.ring.try_push_back(note).is_ok()
     }

@@ -1,20 +1,22 @@
 //! The watches of one tenant.
-ghost use Rattle.std.specs.Prelude.{◌≡◌, ℕ, List, None, Some, IfOk, IsOk, MatchResult, is_none, position};
+ghost use Rattle.std.specs.List.{All};
+ghost use Rattle.std.specs.Prelude.{◌≡◌, ◌+◌, ℕ, List, None, Some, IfOk, IsErrOf, ◌↔◌, is_none, position};
 ghost use Rattle.std.specs.Prelude.{replicate, slice_set};
 ghost use Rattle.etcd_types.specs.Limits.{watch_slots};
-ghost use Rattle.etcd_types.specs.declared.refusal.Refusal.TheVariants.{TooManyWatches};
 ghost use Rattle.etcd_model.specs.Watches.{watch_of};
 ghost use Rattle.revision_store.specs.Stored.{StoreState, Commits};
 ghost use Rattle.revision_store.specs.declared.plan.Write.{Write};
 ghost use Rattle.watch_sync.specs.Agreeing.{Agrees, Compacts};
-ghost use Rattle.watch_sync.specs.Slots.{AllAgree, FitsTake, StillAgree, slots_after, watches};
+ghost use Rattle.watch_sync.specs.Catching.{MayStopIn, passed_all};
+ghost use Rattle.watch_sync.specs.Slots.{AllAgree, FitsTake, StillAgree, hinted, slots_after, watch_in, watches};
+ghost use Rattle.watch_sync.specs.Hints.{is_hinted};
 
 use crate::hint::{Hint, SlotHint};
-use crate::planned::{NewWatch, Taken};
-use crate::slots::{catch_up_all, cut_all, is_far_behind, may_tell, note_all, told};
+use crate::planned::{NewWatch, Taken, WatchFault};
+use crate::slots::{catch_up_all, cut_all, hint_of, note_all, told};
 use crate::watch::OpenWatch;
 use etcd_types::limits::WATCH_SLOTS;
-use etcd_types::{Mem, Refusal, WatchReq};
+use etcd_types::{Mem, WatchReq};
 use revision_store::Store;
 use std::alloc::Global;
 use std::marker::Model;
@@ -61,42 +63,38 @@ impl Watchers {
     }
 
     /// Which takes may not be quiet at a moment, and which watches are far behind.
-    pub fn hint(&self, store: &Store, moment: u64) -> Hint {
+    pub fn hint(&self, store: &Store, moment: u64) -> Hint
+        ensures { (slot : ℕ) → is_hinted result slot ≡ hinted store.now moment (watch_in self.now slot) }
+    {
         let mut slots = [SlotHint::QUIET; WATCH_SLOTS];
-        for (hint, slot) in slots.iter_mut().zip(self.slots.iter()) {
-            *hint = SlotHint {
-                may_tell: may_tell(slot, store, moment),
-                is_far_behind: is_far_behind(slot, store),
-            };
+        for (place, slot) in self.slots.iter().enumerate() {
+            slots[place] = hint_of(slot, store, moment);
         }
         Hint { slots }
     }
 
-    /// A watch that is to be opened at a moment, with its ring, or the refusal if no slot is free, which takes no
-    /// memory.
+    /// A watch that is to be opened at a moment, with its ring. Where no slot is free it takes no memory.
     pub fn plan_create(
         &self,
         alloc: Global,
         store: &Store,
         moment: u64,
         request: &WatchReq,
-    ) -> Mem<Result<NewWatch, Refusal>>
-        ensures slot { IfOk result (λ answer. MatchResult answer
-            (λ new. position is_none (watches self.now) ≡ Some new.slot)
-            (λ refusal. (position is_none (watches self.now) ≡ None) × (refusal ≡ TooManyWatches))) }
-        ensures watch { IfOk result (λ answer. IfOk answer
-            (λ new. new.watch.watch ≡ watch_of store.now.kept.current moment request.now)) }
-        ensures agrees { IfOk result (λ answer. IfOk answer (λ new. Agrees new.watch store.now)) }
-        ensures sure { position is_none (watches self.now) ≡ None → IsOk result }
+    ) -> Result<NewWatch, WatchFault>
+        ensures slot { IfOk result (λ new. position is_none (watches self.now) ≡ Some new.slot) }
+        ensures full { IsErrOf result WatchFault.Full ↔ (position is_none (watches self.now) ≡ None) }
+        ensures watch { IfOk result (λ new. new.watch.watch
+            ≡ watch_of store.now.kept.current moment request.now) }
+        ensures agrees { IfOk result (λ new. Agrees new.watch store.now) }
     {
         let Some(slot) = free_slot(&self.slots) else {
-            return Ok(Err(Refusal::TooManyWatches));
+            return Err(WatchFault::Full);
         };
         let watch = OpenWatch::open(alloc, store, moment, request)?;
-        Ok(Ok(NewWatch {
+        Ok(NewWatch {
             slot: slot as u8,
             watch,
-        }))
+        })
     }
 
     /// Opens a watch in its slot, which it answers. It takes no memory and cannot fail.
@@ -133,14 +131,17 @@ impl Watchers {
         note_all(&mut self.slots, store);
     }
 
-    /// Goes on with the rings that are behind, over so many kept changes at most. It takes no memory and
-    /// cannot fail.
-    pub fn catch_up(&mut self, store: &Store, budget: u32)
+    /// Goes on with the rings that are behind, over so many kept changes at most, and answers how many are left of
+    /// them. Each slot takes from what those before it left, and goes as far as that and its ring's room let it. It
+    /// takes no memory and cannot fail.
+    pub fn catch_up(&mut self, store: &Store, budget: u32) -> usize
         requires { AllAgree self.old store.now }
         ensures watches { watches self.new ≡ watches self.old }
         ensures agree { AllAgree self.new store.now }
+        ensures budget { passed_all store.now.kept self.old self.new + result ≡ budget }
+        ensures stops { All (MayStopIn store.now.kept result) self.new }
     {
-        catch_up_all(&mut self.slots, store, budget as usize);
+        catch_up_all(&mut self.slots, store, budget as usize)
     }
 
     /// Follows a compaction: rings keep nothing that it took. It takes no memory and cannot fail.

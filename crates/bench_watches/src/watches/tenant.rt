@@ -79,8 +79,8 @@ impl Tenant {
     /// Opens a watch of a key, from a revision on or from now on.
     pub(crate) fn open(&mut self, alloc: Global, number: u32, start: i64) -> Result<()> {
         let request = watch(alloc, number, start)?;
-        let Ok(new) = self.watchers.plan_create(alloc, &self.store, 0, &request)? else {
-            bail!("no slot is free");
+        let Ok(new) = self.watchers.plan_create(alloc, &self.store, 0, &request) else {
+            bail!("no slot is free, or no memory for a ring");
         };
         let _slot = self.watchers.create(new);
         Ok(())

@@ -1,38 +1,25 @@
-use Rattle.std.proofs.Common.{ℕ, ◌-◌, ◌∙◌, Some, map, ap, arith, subst, sym}
-use Rattle.etcd_model.specs.Changes.{since}
+use Rattle.std.proofs.Common.{◌∙◌, ap, arith, inl, inr, subst, sym}
 use Rattle.revision_store.specs.Stored.{cells}
-use Rattle.watch_sync.specs.Agreeing.{IsStretch, reached}
-use Rattle.watch_sync.proofs.Rings.{first_stretch, no_fewer, reached_within}
-use Rattle.watch_sync.proofs.Notes.{all_there, under}
+use Rattle.etcd_model.specs.Changes.{since}
+use Rattle.watch_sync.specs.Ahead.{before}
+use Rattle.watch_sync.specs.Catching.{next_changes, passed}
+use Rattle.watch_sync.proofs.Passing.{count_of, notes_count}
 use Rattle.watch_sync.proofs.watch.OpenWatch.go_on.Goals as goal
 
-pub overflow_sub-count : goal.overflow_sub-count
-overflow_sub-count c =
+pub returns-then-count-budget-clause-stuck : goal.returns-then-count-budget-clause-stuck
+returns-then-count-budget-clause-stuck c = λ none.
     let s = c.args.store.now in
-    let all = c.since-changes.ensures ∙ ap (λ r. map Some (since r s.kept.changes)) c.position.ensures in
-    let later = c.since-later.ensures ∙ ap (λ r. map Some (since r s.kept.changes)) c.reached-to.ensures in
-    let to = reached_within s c.args.self.now.position c.since-changes.result c.requires.behind all in
-    omega (arith, no_fewer s c.args.self.now.position (reached s c.since-changes.result) c.since-changes.result c.since-later.result c.use_invariant.ensures.kept (omega (arith, to.0)) all later, c.len.ensures, c.len-2.ensures)
+    inl (omega (arith, count_of (cells s) c.next_stretch-changes.result.0 (next_changes s.kept c.args.self.now.position) c.next_stretch-changes.ensures.next, c.len-count.ensures))
 
-pub pass-requires-clause-stretch : goal.pass-requires-clause-stretch
-pass-requires-clause-stretch c =
+pub returns-then-not-pass-clause-stuck : goal.returns-then-not-pass-clause-stuck
+returns-then-not-pass-clause-stuck c = λ none.
     let s = c.args.store.now in
-    let all = c.since-changes.ensures ∙ ap (λ r. map Some (since r s.kept.changes)) c.position.ensures in
-    let later = c.since-later.ensures ∙ ap (λ r. map Some (since r s.kept.changes)) c.reached-to.ensures in
-    let to = reached_within s c.args.self.now.position c.since-changes.result c.requires.behind all in
-    let count = c.len.result - c.len-2.result in
-    subst (λ (r : ℕ). IsStretch s c.args.self.now.position r c.first.result) (sym c.reached-to.ensures)
-    (subst (IsStretch s c.args.self.now.position (reached s c.since-changes.result)) (sym c.first.ensures)
-    (first_stretch s c.args.self.now.position (reached s c.since-changes.result) count c.since-changes.result c.since-later.result c.use_invariant.ensures.kept (omega (arith, to.0)) to.1 all later (omega (arith, c.len.ensures, c.len-2.ensures))))
+    inr (omega (arith, notes_count (cells s) c.args.self.now.watch c.next_stretch-changes.result.0 (next_changes s.kept c.args.self.now.position) c.next_stretch-changes.ensures.next, c.pass.ensures.full c.if-not-pass.true))
 
-pub reached-to-requires : goal.reached-to-requires
-reached-to-requires c =
+pub returns-clause-passed : goal.returns-clause-passed
+returns-clause-passed c =
     let s = c.args.store.now in
-    all_there (cells s) c.since-changes.result (since c.position.result s.kept.changes) (under (cells s) c.since-changes.result (since c.position.result s.kept.changes) c.since-changes.ensures)
-
-pub returns-clause-further : goal.returns-clause-further
-returns-clause-further c =
-    let s = c.args.store.now in
-    let all = c.since-changes.ensures ∙ ap (λ r. map Some (since r s.kept.changes)) c.position.ensures in
-    let to = reached_within s c.args.self.now.position c.since-changes.result c.requires.behind all in
-    (omega arith, omega (arith, to.0, c.reached-to.ensures, c.pass.ensures.moved c.if-not-pass.false))
+    let p = c.args.self.now.position in
+    c.len-count.ensures
+    ∙ count_of (cells s) c.next_stretch-changes.result.0 (before c.next_stretch-changes.result.1 (since p s.kept.changes)) c.next_stretch-changes.ensures.stretch.changes
+    ∙ ap (passed s.kept p) (sym (c.pass.ensures.moved c.if-not-pass.false))

@@ -1,4 +1,4 @@
-use Rattle.std.proofs.Common.{◌≡◌, ◌<◌, ◌∙◌, length, subst, sym, arith}
+use Rattle.std.proofs.Common.{◌≡◌, ◌<◌, ◌∙◌, length, ap, subst, sym, arith}
 use Rattle.std.specs.List.{AllByRecursion}
 use Rattle.std.proofs.lemmas.Bool.Decides.{nat_tests}
 use Rattle.etcd_model.specs.Watches.{is_due}
@@ -8,6 +8,7 @@ use Rattle.watch_sync.specs.Ahead.{AreNotes, ahead}
 use Rattle.watch_sync.specs.Gathering.{first_changes}
 use Rattle.watch_sync.specs.Telling.{IsKept}
 use Rattle.watch_sync.proofs.Told.{events_reply, no_events, told_kept}
+use Rattle.watch_sync.proofs.Nothing.{no_first}
 use Rattle.watch_sync.proofs.watch.OpenWatch.tell.Goals as goal
 
 pub events-requires : goal.events-requires
@@ -28,3 +29,9 @@ returns-clause-reply c =
     c.reply-reply.ensures ∙ events_reply (cells c.args.store.now) c.args.store.now.kept c.args.self.now.watch c.args.header c.args.self.now.watch.id (is_due c.args.store.now.kept.current c.args.moment c.args.self.now.watch) c.notes-notes.result.now (first_changes (ahead c.args.self.now.watch c.args.store.now.kept.changes)) _ some
     (subst (λ ns. AreNotes (cells c.args.store.now) ns (first_changes (ahead c.args.self.now.watch c.args.store.now.kept.changes))) (sym c.notes-notes.ensures) c.in_ok-found.ensures.notes)
     c.in_ok-events.ensures
+
+pub returns-in_err-events-clause-sure : goal.returns-in_err-events-clause-sure
+returns-in_err-events-clause-sure c = λ none.
+    let empty = no_first c.args.store.now c.args.self.now.watch _ c.in_ok-found.ensures.notes none in
+    let some : 0 < length c.notes-notes.result.now = grind (arith, nat_tests) in
+    absurd (omega (arith, some, ap length c.notes-notes.ensures, ap length empty))
