@@ -16,7 +16,7 @@ use Rattle.etcd_model.specs.Alone.{is_catch_up}
 use Rattle.etcd_model.specs.Machine.{history, machine, replies_to, state_after}
 use Rattle.etcd_model.specs.Tenant.{Outcome}
 use Rattle.etcd_model.proofs.QuietSteps.{catch_up_is_done}
-use Rattle.tenant_machine.specs.Deciding.{is_stopped}
+use Rattle.tenant_machine.specs.Deciding.{holds_nothing, is_stopped}
 use Rattle.tenant_machine.specs.Plans.{takes_memory}
 use Rattle.tenant_machine.specs.Tenants.{MachineState, tenant}
 use Rattle.steps_core.specs.Hosts.{HostState, HoldsAt, IsSureAt, StepsAt, machine_at, has_tenant, names_of}
@@ -66,7 +66,7 @@ sure_at h t step free there = by (machine_at h t) refl there
   where
     by : (o : Option MachineState) → machine_at h t ≡ o → is_some o ≡ true → IsSureAt h t step
     by None is there = absurd (true≢false (sym there))
-    by (Some m) is there = record { machine = m; is = is; sure = ap (λ b. not b || is_stopped (tenant m) step) free }
+    by (Some m) is there = record { machine = m; is = is; sure = ap (λ b. not b || (holds_nothing (tenant m) step || is_stopped (tenant m) step)) free }
 
 answered : (r : Reply) → found_none r ≡ false → r ≢ Refused Memory
 answered r h k = true≢false (sym (ap found_none k) ∙ h)

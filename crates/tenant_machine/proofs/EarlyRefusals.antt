@@ -1,20 +1,23 @@
 -- What refuses a step before anything is looked up, and what comes of a step that this lets through.
-use Rattle.std.proofs.Common.{◌≡◌, ◌<◌, ◌≤◌, arith, nat_lt, [], ◌∷◌, Bool, true, false, refl, ap, sym, subst, ◌∙◌, if◌then◌else◌}
+use Rattle.std.proofs.Common.{◌≡◌, ◌<◌, ◌≤◌, ℤ, arith, length, nat_lt, [], ◌∷◌, Bool, true, false, refl, ap, sym, subst, ◌∙◌, if◌then◌else◌}
 use Rattle.std.specs.Prelude.{◌&&◌, ◌||◌, not, Option, Some, None, Result, IfOk}
 use Rattle.std.proofs.lemmas.Bool.Decides.{nat_tests}
+use Rattle.std.proofs.lemmas.List.{nil_from_length}
 use Rattle.std.proofs.lemmas.Option.{same_Some}
 use Rattle.etcd_types.specs.declared.step.Step.{Step}
+use Rattle.etcd_types.specs.declared.step.Step.TheVariants.{TimeToLive}
 use Rattle.etcd_types.specs.declared.refusal.Refusal.{Refusal}
 use Rattle.etcd_types.specs.declared.refusal.Refusal.TheVariants.{NoSpace}
 use Rattle.etcd_types.specs.declared.reply.Reply.TheVariants.{Refused}
 use Rattle.etcd_types.specs.Steps.{may_add}
 use Rattle.etcd_model.specs.declared.state.State.{State}
 use Rattle.etcd_model.specs.Fields.{refused_if}
-use Rattle.etcd_model.specs.Operations.{first_refusal}
+use Rattle.etcd_model.specs.Leases.{attached}
+use Rattle.etcd_model.specs.Operations.{first_refusal, has_lease}
 use Rattle.etcd_model.specs.Stepping.{adds, decided, early, look_up, machine, outcome, unless_alarmed, within_quota}
 use Rattle.etcd_model.specs.Store.{Store, kept_store}
 use Rattle.etcd_model.specs.Tenant.{Outcome, reads, stays, used}
-use Rattle.tenant_machine.specs.Deciding.{Does, early_refusal, past_early}
+use Rattle.tenant_machine.specs.Deciding.{Does, early_refusal, holds_nothing, past_early}
 use Rattle.tenant_machine.specs.Tenants.{MachineState, tenant}
 use Rattle.tenant_machine.specs.Plans.{Plan}
 use Rattle.tenant_machine.specs.declared.planned.Effect.TheVariants.{Nothing}
@@ -98,9 +101,31 @@ pub let_through_does : {E : Type 0} (m : MachineState) (step : Step) (result : R
     → IfOk result (λ p. Does m p (past_early (tenant m) step)) → IfOk result (λ p. Does m p (machine kept_store (tenant m) step))
 let_through_does m step result is does = subst (λ (o : Outcome Store). IfOk result (λ p. Does m p o)) (sym (let_through (tenant m) step is)) does
 
--- a step that is sure, and that is not refused early, takes no memory or is refused by what is looked up
-pub sure_past_refusals : {P : Type 0} (takes gated found : Bool) → gated ≡ false → (takes ≡ false → P) → (found ≡ true → P) → (not takes || (gated || found)) ≡ true → P
-sure_past_refusals false gated found b free told h = free refl
-sure_past_refusals true gated true b free told h = told refl
-sure_past_refusals true false false b free told h = absurd (cc)
-sure_past_refusals true true false b free told h = absurd (cc)
+-- a step that is sure, and that is not refused early, takes no memory, is answered with nothing that is held, or is
+-- refused by what is looked up
+pub sure_past_refusals : {P : Type 0} (takes nothing gated found : Bool) → gated ≡ false → (takes ≡ false → P) → (nothing ≡ true → P) → (found ≡ true → P) → (not takes || (nothing || (gated || found))) ≡ true → P
+sure_past_refusals false nothing gated found b free bare told h = free refl
+sure_past_refusals true true gated found b free bare told h = bare refl
+sure_past_refusals true false gated true b free bare told h = told refl
+sure_past_refusals true false false false b free bare told h = absurd (cc)
+sure_past_refusals true false true false b free bare told h = absurd (cc)
+
+-- ---- a step whose answer has nothing that is held
+
+pub not_so : (b : Bool) → not b ≡ true → b ≡ false
+not_so false h = refl
+not_so true h = absurd (cc)
+
+all_but : (a b c : Bool) → not (a && (b && c)) ≡ true → a ≡ true → b ≡ true → c ≡ false
+all_but a b false h asked there = refl
+all_but true true true h asked there = absurd (cc)
+all_but true false true h asked there = absurd (cc)
+all_but false b true h asked there = absurd (cc)
+
+-- the time to live of a lease that is there has no keys, if its answer has nothing that is held
+pub no_keys : (t : State Store) (id : ℤ) (asked : Bool) → has_lease t.leases id ≡ true → holds_nothing t (TimeToLive id asked) ≡ true → asked ≡ true → attached (reads kept_store t) id ≡ []
+no_keys t id asked there nothing is =
+    let xs = attached (reads kept_store t) id in
+    let none : nat_lt 0 (length xs) ≡ false = all_but asked (has_lease t.leases id) (nat_lt 0 (length xs)) nothing is there in
+    let short : length xs ≡ 0 = grind (arith, nat_tests, none) in
+    nil_from_length xs short

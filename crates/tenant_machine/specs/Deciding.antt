@@ -1,7 +1,8 @@
 -- How a step is decided: the words of single parts.
-use Rattle.std.specs.Prelude.{◌≡◌, ◌&&◌, ◌||◌, not, Bool, ℕ, ℤ, pos, [], ◌∷◌, nat_lt, Option, is_some, true}
+use Rattle.std.specs.Prelude.{◌≡◌, ◌&&◌, ◌||◌, not, Bool, ℕ, ℤ, pos, [], ◌∷◌, length, nat_lt, Option, is_some, true, false}
 use Rattle.std.specs.Prelude.{if◌then◌else◌}
 use Rattle.etcd_types.specs.declared.step.Step.{Step}
+use Rattle.etcd_types.specs.declared.step.Step.TheVariants.{Take, TimeToLive}
 use Rattle.etcd_types.specs.declared.refusal.Refusal.{Refusal}
 use Rattle.etcd_types.specs.declared.refusal.Refusal.TheVariants.{NoSpace}
 use Rattle.etcd_types.specs.declared.reply.Header.{Header}
@@ -13,10 +14,12 @@ use Rattle.etcd_types.specs.Steps.{may_add}
 use Rattle.etcd_model.specs.declared.state.Lease.{Lease}
 use Rattle.etcd_model.specs.declared.state.State.{State}
 use Rattle.etcd_model.specs.Fields.{refused_if}
-use Rattle.etcd_model.specs.Operations.{first_refusal}
+use Rattle.etcd_model.specs.Leases.{attached}
+use Rattle.etcd_model.specs.Operations.{first_refusal, has_lease}
 use Rattle.etcd_model.specs.Stepping.{early, look_up, decided, within_quota, with_header}
 use Rattle.etcd_model.specs.Store.{Store, kept_store}
-use Rattle.etcd_model.specs.Tenant.{Outcome, used}
+use Rattle.etcd_model.specs.Tenant.{Outcome, reads, used}
+use Rattle.watch_sync.specs.Slots.{gives_events, watch_in}
 use Rattle.txn_plan.specs.declared.transaction.PlannedTxn.{PlannedTxn}
 use Rattle.tenant_machine.specs.Tenants.{MachineState, tenant}
 use Rattle.tenant_machine.specs.Plans.{Plan, after_effect, takes_memory, written}
@@ -29,9 +32,21 @@ early_refusal t step = first_refusal (early kept_store t step ∷ refused_if (t.
 abbrev pub is_stopped : State Store → Step → Bool
 is_stopped t step = is_some (early_refusal t step) || is_some (look_up kept_store t step)
 
--- a step that is never answered by want of memory: it takes none, or it is stopped
+-- the time to live of a lease is told with keys: they are asked for, and it is there and has some
+abbrev pub gives_keys : State Store → ℤ → Bool → Bool
+gives_keys t id asked =
+    asked && (has_lease t.leases id && nat_lt 0 (length (attached (reads kept_store t) id)))
+
+-- A step whose answer has nothing that is copied from what the tenant holds: a take that gives no event, be it a
+-- cancel, word of progress or quiet, and a time to live without keys.
+abbrev pub holds_nothing : State Store → Step → Bool
+holds_nothing t (Take slot) = not (gives_events t.store (watch_in t.slots slot))
+holds_nothing t (TimeToLive id asked) = not (gives_keys t id asked)
+holds_nothing t step = false
+
+-- a step that is never answered by want of memory: it takes none, its answer holds nothing, or it is stopped
 abbrev pub is_sure : State Store → Step → Bool
-is_sure t step = not (takes_memory step) || is_stopped t step
+is_sure t step = not (takes_memory step) || (holds_nothing t step || is_stopped t step)
 
 -- what comes of a step that these let through: a refusal of what is looked up, or what it does, if
 -- it is within the quota

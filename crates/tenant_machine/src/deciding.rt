@@ -4,7 +4,7 @@ ghost use Rattle.etcd_model.specs.Store.{kept_store};
 ghost use Rattle.etcd_model.specs.Fields.{refused_if};
 ghost use Rattle.etcd_model.specs.Stepping.{look_up, used_up};
 ghost use Rattle.etcd_types.specs.declared.refusal.Refusal.TheVariants.{UsedUp};
-ghost use Rattle.tenant_machine.specs.Deciding.{Does, early_refusal, is_sure, past_early};
+ghost use Rattle.tenant_machine.specs.Deciding.{Does, early_refusal, holds_nothing, is_sure, past_early};
 ghost use Rattle.tenant_machine.specs.Tenants.{tenant};
 ghost use Rattle.tenant_machine.specs.Plans.{Fits, Plans, takes_memory};
 
@@ -18,7 +18,7 @@ use std::alloc::Global;
 
 impl Machine {
     /// Decides a step. Where it finds no memory, nothing is decided. Compactions, alarms, ticks and others
-    /// need none, and no step does that is refused before the quota is asked.
+    /// need none, nor does an answer without events or keys, or a step that is refused before the quota is asked.
     pub fn plan(&self, alloc: Global, step: &Step) -> Mem<Planned>
         ensures plans { IfOk result (λ p. Plans self.now step.now p) }
         ensures fits { IfOk result (λ p. Fits self.now p) }
@@ -60,6 +60,7 @@ impl Machine {
         ensures does { IfOk result (λ p. Does self.now p (past_early (tenant self.now) step.now)) }
         ensures fits { IfOk result (λ p. Fits self.now p) }
         ensures sure { takes_memory step.now ≡ false → IsOk result }
+        ensures nothing { holds_nothing (tenant self.now) step.now ≡ true → IsOk result }
         ensures stopped { is_some (look_up kept_store (tenant self.now) step.now) ≡ true → IsOk result }
     {
         match step {

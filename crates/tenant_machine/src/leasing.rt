@@ -1,5 +1,5 @@
 //! Plans of the lease calls.
-ghost use Rattle.std.specs.Prelude.{◌≡◌, ◌+◌, ◌<◌, ◌≤◌, map, pos, int_le, true, false, None, IfOk, IsSome};
+ghost use Rattle.std.specs.Prelude.{◌≡◌, ◌+◌, ◌<◌, ◌≤◌, map, pos, int_le, true, false, None, IfOk, IsOk, IsSome};
 ghost use Rattle.std.specs.Prelude.{[], if◌then◌else◌};
 ghost use Rattle.std.specs.List.{AllByRecursion};
 ghost use Rattle.std.specs.Ordering.{int_eq};
@@ -16,7 +16,7 @@ ghost use Rattle.lease_book.specs.Granting.{Fits as FitsBook};
 ghost use Rattle.model_laws.specs.Space.{finished};
 ghost use Rattle.revision_store.specs.Plans.{key_at};
 ghost use Rattle.revision_store.specs.Stored.{cells as cells_in, reads};
-ghost use Rattle.tenant_machine.specs.Deciding.{Does, early_refusal, granted, past_early};
+ghost use Rattle.tenant_machine.specs.Deciding.{Does, early_refusal, granted, holds_nothing, past_early};
 ghost use Rattle.tenant_machine.specs.Tenants.{cells_used, tenant};
 ghost use Rattle.tenant_machine.specs.Plans.{Fits};
 
@@ -121,10 +121,11 @@ impl Machine {
     }
 
     /// The seconds that a lease has left, of those that it was granted, with its keys if they are asked for.
-    /// One that is not there has -1 seconds.
+    /// One that is not there has -1 seconds. Only keys take memory.
     pub(crate) fn plan_time_to_live(&self, alloc: Global, id: i64, asked: bool) -> Mem<Planned>
         ensures does { IfOk result (λ p. Does self.now p (past_early (tenant self.now) (TimeToLive id asked))) }
         ensures fits { IfOk result (λ p. Fits self.now p) }
+        ensures sure { holds_nothing (tenant self.now) (TimeToLive id asked) ≡ true → IsOk result }
     {
         let header = self.header();
         let Some(lease) = self.leases.lease(id) else {
@@ -149,7 +150,8 @@ impl Machine {
     /// The keys of a lease that is there, if they are asked for.
     fn keys_asked(&self, alloc: Global, id: i64, asked: bool) -> Mem<List<List<u8>>>
         requires { has_lease self.now.leases.leases id ≡ true }
-        ensures { IfOk result (λ keys. keys ≡ (if asked then attached (reads self.now.store) id else [])) }
+        ensures keys { IfOk result (λ keys. keys ≡ (if asked then attached (reads self.now.store) id else [])) }
+        ensures sure { (asked ≡ true → attached (reads self.now.store) id ≡ []) → IsOk result }
     {
         if asked {
             self.keys_of(alloc, id)
@@ -161,7 +163,8 @@ impl Machine {
     /// The keys of a lease that is there, ascending.
     fn keys_of(&self, alloc: Global, id: i64) -> Mem<List<List<u8>>>
         requires { has_lease self.now.leases.leases id ≡ true }
-        ensures { IfOk result (λ keys. keys ≡ attached (reads self.now.store) id) }
+        ensures keys { IfOk result (λ keys. keys ≡ attached (reads self.now.store) id) }
+        ensures sure { attached (reads self.now.store) id ≡ [] → IsOk result }
     {
         self.store.use_invariant();
         keys_under(alloc, &self.store, self.leases.keys_of(id))
@@ -195,7 +198,8 @@ fn ids_of(alloc: Global, leases: Walk<'_, Booked>) -> Mem<Vec<i64>>
 /// The keys of the records under some cells.
 fn keys_under(alloc: Global, store: &Store, cells: Keys<'_>) -> Mem<List<List<u8>>>
     requires { AllByRecursion (λ c. IsSome (cells_in store.now c)) cells }
-    ensures { IfOk result (λ keys. keys ≡ map (key_at (cells_in store.now)) cells.entry) }
+    ensures keys { IfOk result (λ keys. keys ≡ map (key_at (cells_in store.now)) cells.entry) }
+    ensures sure { cells.entry ≡ [] → IsOk result }
 {
     let mut keys = Vec::new(alloc);
     'reading: for cell in cells {

@@ -1,18 +1,19 @@
 //! Plans of watches, and what their commits do.
-ghost use Rattle.std.specs.Prelude.{◌≡◌, None, true, is_some, slice_set, IfOk, IsOk};
+ghost use Rattle.std.specs.Prelude.{◌≡◌, ℕ, None, true, is_some, slice_set, IfOk, IsOk};
 ghost use Rattle.etcd_types.specs.declared.step.Step.TheVariants.{CatchUp, DropWatch, Take, Watch};
 ghost use Rattle.etcd_model.specs.Stepping.{look_up};
 ghost use Rattle.etcd_model.specs.Store.{kept_store};
-ghost use Rattle.tenant_machine.specs.Deciding.{Does, opened, past_early};
+ghost use Rattle.tenant_machine.specs.Deciding.{Does, holds_nothing, opened, past_early};
 ghost use Rattle.tenant_machine.specs.Tenants.{tenant};
 ghost use Rattle.tenant_machine.specs.Plans.{Fits, FitsWatch, with_slots, with_watch};
-ghost use Rattle.watch_sync.specs.Slots.{FitsTake, slots_after, watches};
+ghost use Rattle.watch_sync.specs.Hints.{is_hinted};
+ghost use Rattle.watch_sync.specs.Slots.{FitsTake, hinted, slots_after, watch_in, watches};
 
 use crate::machine::Machine;
 use crate::planned::{Effect, Planned};
-use etcd_types::{Mem, Reply, WatchReq};
-use std::alloc::Global;
-use watch_sync::{Hint, NewWatch, Taken};
+use etcd_types::{Mem, Refusal, Reply, WatchReq};
+use std::alloc::{AllocError, Global};
+use watch_sync::{Hint, NewWatch, Taken, WatchFault};
 
 // Plans.
 impl Machine {
@@ -23,15 +24,14 @@ impl Machine {
             → IsOk result }
         ensures fits { IfOk result (λ p. Fits self.now p) }
     {
-        Ok(
-            match self
-                .watchers
-                .plan_create(alloc, &self.store, self.moment, request)?
-            {
-                Ok(new) => self.opening(new, request.watch_id),
-                Err(refusal) => Planned::refused(refusal),
-            },
-        )
+        match self
+            .watchers
+            .plan_create(alloc, &self.store, self.moment, request)
+        {
+            Ok(new) => Ok(self.opening(new, request.watch_id)),
+            Err(WatchFault::Full) => Ok(Planned::refused(Refusal::TooManyWatches)),
+            Err(WatchFault::Memory) => Err(AllocError),
+        }
     }
 
     /// A watch that is opened.
@@ -49,10 +49,11 @@ impl Machine {
         }
     }
 
-    /// What the watch of a slot is told next, at the moment of the clock.
+    /// What the watch of a slot is told next, at the moment of the clock. Only events take memory.
     pub(crate) fn plan_take(&self, alloc: Global, slot: u8) -> Mem<Planned>
         ensures does { IfOk result (λ p. Does self.now p (past_early (tenant self.now) (Take slot))) }
         ensures fits { IfOk result (λ p. Fits self.now p) }
+        ensures sure { holds_nothing (tenant self.now) (Take slot) ≡ true → IsOk result }
     {
         let planned = self
             .watchers
@@ -87,8 +88,11 @@ impl Machine {
 }
 
 impl Machine {
-    /// Which takes may not be quiet. It promises nothing.
-    pub fn hint(&self) -> Hint {
+    /// Which takes may not be quiet.
+    pub fn hint(&self) -> Hint
+        ensures { (slot : ℕ) → is_hinted result slot
+            ≡ hinted self.now.store self.now.moment (watch_in self.now.watchers slot) }
+    {
         self.watchers.hint(&self.store, self.moment)
     }
 }

@@ -1,7 +1,7 @@
 use Rattle.std.proofs.Common.{◌≡◌, None, ap, is_some}
 use Rattle.etcd_model.specs.Stepping.{look_up}
 use Rattle.etcd_model.specs.Store.{kept_store}
-use Rattle.tenant_machine.specs.Deciding.{early_refusal}
+use Rattle.tenant_machine.specs.Deciding.{early_refusal, holds_nothing}
 use Rattle.tenant_machine.specs.Plans.{takes_memory}
 use Rattle.tenant_machine.specs.Tenants.{tenant}
 use Rattle.tenant_machine.proofs.EarlyRefusals.{let_through_does, refused_does, sure_past_refusals}
@@ -23,4 +23,4 @@ returns-in-None-clause-sure c =
     let t = tenant c.args.self.now in
     let step = c.args.step.now in
     let none : early_refusal t step ≡ None = cc in
-    sure_past_refusals (takes_memory step) (is_some (early_refusal t step)) (is_some (look_up kept_store t step)) (ap is_some none) c.decide.ensures.sure c.decide.ensures.stopped
+    sure_past_refusals (takes_memory step) (holds_nothing t step) (is_some (early_refusal t step)) (is_some (look_up kept_store t step)) (ap is_some none) c.decide.ensures.sure c.decide.ensures.nothing c.decide.ensures.stopped
