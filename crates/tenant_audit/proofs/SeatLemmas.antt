@@ -125,6 +125,9 @@ keeps_twice old mid new first second = record {
   missed = λ t. second.missed t ∙ first.missed t;
 }
 
+pub same_call : (t : List ℕ) (c d : MadeCall) (old new : SeatState) → c ≡ d → AddsCall t c old new → AddsCall t d old new
+same_call t c d old new same adds = subst (λ (made : MadeCall). AddsCall t made old new) same adds
+
 pub added_after : (t : List ℕ) (c : MadeCall) (old mid new : SeatState) → KeepsLists old mid → AddsCall t c mid new → AddsCall t c old new
 added_after t c old mid new keeps adds = record {
   calls = adds.calls ∙ ap (λ cs. cs ++ c ∷ []) (keeps.calls t);

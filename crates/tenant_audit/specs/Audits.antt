@@ -136,6 +136,11 @@ abbrev pub step_at : Option ℕ → Step → Option Step
 step_at None step = None
 step_at (Some turn) step = Some step
 
+-- the entry at a turn, if there is one
+abbrev pub entry_at : Option ℕ → ℕ → Step → Reply → Option Entry
+entry_at None seat step reply = None
+entry_at (Some turn) seat step reply = Some (entry seat step reply)
+
 -- a step that is handed over so is kept with its reply, unless the audit is full
 abbrev pub KeepsStep : Option Step → ℕ → Reply → Log → Log → Type 0
 KeepsStep kept seat reply old new = (step : Step) → kept ≡ step_at (turn_of old) step → new ≡ with_entry_at (turn_of old) old (entry seat step reply)

@@ -26,11 +26,6 @@ seat_of number es = record { number = number; tallies = map (λ e. (e.0.items, e
 abbrev pub call : ℕ → Step → Reply → MadeCall
 call turn step reply = record { turn = turn; step = step; reply = reply }
 
--- the call at a turn, if there is one
-abbrev pub call_at : Option ℕ → Step → Reply → Option MadeCall
-call_at None step reply = None
-call_at (Some turn) step reply = Some (call turn step reply)
-
 -- ---- what a seat has of a tenant
 
 abbrev pub tally_on : List ℕ → SeatState → Option TallyState

@@ -1,6 +1,7 @@
 //! What was served on a tenant, in order, from its opening on, with the quotas that it was given.
 ghost use Rattle.std.specs.Prelude.{◌≡◌, length, IfOk, OnErr, OnOk};
-ghost use Rattle.tenant_audit.specs.Audits.{KeepsStep, opened_log, step_at, turn_of, with_change_at};
+ghost use Rattle.tenant_audit.specs.Audits.{KeepsStep, entry_at, opened_log, step_at, turn_of};
+ghost use Rattle.tenant_audit.specs.Audits.{with_change_at};
 
 use etcd_types::{CopyOf, Mem, Reply, Step};
 use std::alloc::Global;
@@ -30,15 +31,35 @@ pub struct Entry {
     pub reply: Reply,
 }
 
+impl Entry {
+    /// A copy of what an audit keeps of a step, if it has a turn there.
+    pub fn copy_at(
+        alloc: Global,
+        turn: Option<u32>,
+        seat: u8,
+        step: &Step,
+        reply: &Reply,
+    ) -> Mem<Option<Entry>>
+        ensures { IfOk result (λ mine. mine ≡ entry_at turn seat step.now reply.now) }
+    {
+        match turn {
+            None => Ok(None),
+            Some(_) => Ok(Some(Entry {
+                seat,
+                step: step.copy_of(alloc)?,
+                reply: reply.copy_of(alloc)?,
+            })),
+        }
+    }
+}
+
 /// The steps that were served on a tenant, in order, up to a number of them, and the quotas that it was given
 /// meanwhile. Once it has so many steps, nothing that comes later is kept.
 pub struct Audit {
-    pub opening: Opening,
+    opening: Opening,
     /// There is room for all that it takes.
-    pub entries: Vec<Entry>,
-    /// The quotas that the tenant was given since, in order, each in cells, after the number of entries that
-    /// were there before.
-    pub quotas: Vec<(u32, u32)>,
+    entries: Vec<Entry>,
+    quotas: Vec<(u32, u32)>,
 }
 
 impl Drop for Audit {
@@ -81,6 +102,56 @@ impl Audit {
         ensures { result ≡ self.now.opening }
     {
         self.opening
+    }
+
+    /// The number of its tenant.
+    pub fn number(&self) -> u64
+        ensures { result ≡ self.now.opening.number }
+    {
+        self.opening.number
+    }
+
+    /// The ID of the cluster that its tenant is.
+    pub fn cluster(&self) -> u64
+        ensures { result ≡ self.now.opening.cluster }
+    {
+        self.opening.cluster
+    }
+
+    /// The cells that its tenant could use at first.
+    pub fn quota(&self) -> u32
+        ensures { result ≡ self.now.opening.quota }
+    {
+        self.opening.quota
+    }
+
+    /// The revision of its tenant's empty store.
+    pub fn first(&self) -> i64
+        ensures { result ≡ self.now.opening.first }
+    {
+        self.opening.first
+    }
+
+    /// How many entries it takes.
+    pub fn cap(&self) -> u32
+        ensures { result ≡ self.now.opening.cap }
+    {
+        self.opening.cap
+    }
+
+    /// What was served, in order.
+    pub fn entries(&self) -> &[Entry]
+        ensures { result.now ≡ self.now.entries }
+    {
+        self.entries.as_slice()
+    }
+
+    /// The quotas that its tenant was given since, in order, each in cells, after the number of entries that were there
+    /// before.
+    pub fn quotas(&self) -> &[(u32, u32)]
+        ensures { result.now ≡ self.now.quotas }
+    {
+        self.quotas.as_slice()
     }
 
     /// How many entries it has.

@@ -189,7 +189,7 @@ fn differs_at(sheet: &Sheet, seats: &[Seat]) -> Option<u32>
 {
     for seat in seats {
         let calls = seat.calls(sheet.name.as_slice());
-        let broken = breaks_at(sheet.audit.entries.as_slice(), seat.number(), calls);
+        let broken = breaks_at(sheet.audit.entries(), seat.number(), calls);
         if broken.is_some() {
             return broken;
         }

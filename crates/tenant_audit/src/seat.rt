@@ -1,8 +1,9 @@
 //! A caller's own lists of its calls.
 ghost use Rattle.std.specs.Prelude.{◌≡◌, ◌-◌, ◌^◌, [], length, min, true, IfOk, OnOk};
-ghost use Rattle.tenant_audit.specs.Seats.{AddsCall, AddsMissed, HasRoomOn, KeepsLists, calls_on};
+ghost use Rattle.tenant_audit.specs.Seats.{AddsCall, AddsMissed, HasRoomOn, KeepsLists, call, calls_on};
 ghost use Rattle.tenant_audit.specs.Seats.{has_tally, missed_on};
 
+use crate::audit::Entry;
 use crate::tally::{MadeCall, Tally};
 use etcd_types::Mem;
 use indexmap::IndexMap;
@@ -124,13 +125,13 @@ impl Seat {
         }
     }
 
-    /// Appends a call that has a turn.
-    pub fn record(&mut self, tenant: &[u8], call: MadeCall)
+    /// Appends a call whose entry in the tenant's audit has this turn.
+    pub fn record(&mut self, tenant: &[u8], turn: u32, entry: Entry)
         requires { HasRoomOn tenant.now self.old }
-        ensures { AddsCall tenant.now call self.old self.new }
+        ensures { AddsCall tenant.now (call turn entry.step entry.reply) self.old self.new }
     {
         match self.tallies.get_mut(tenant) {
-            Some(tally) => tally.record(call),
+            Some(tally) => tally.record(MadeCall::of(turn, entry)),
             None => unreachable!(),
         }
     }

@@ -1,8 +1,9 @@
 //! A seat's list of its calls on one tenant.
-ghost use Rattle.std.specs.Prelude.{◌≡◌, ◌+◌, ◌-◌, ◌^◌, ◌++◌, ◌∷◌, [], length, min, IfOk, OnOk};
-ghost use Rattle.tenant_audit.specs.Seats.{HasRoom, call_at};
+ghost use Rattle.std.specs.Prelude.{◌≡◌, ◌+◌, ◌-◌, ◌^◌, ◌++◌, ◌∷◌, [], length, min, OnOk};
+ghost use Rattle.tenant_audit.specs.Seats.{HasRoom, call};
 
-use etcd_types::{CopyOf, Mem, Reply, Step};
+use crate::audit::Entry;
+use etcd_types::{Mem, Reply, Step};
 use std::alloc::{AllocError, Global};
 use std::marker::Model;
 
@@ -15,23 +16,16 @@ pub struct MadeCall {
 }
 
 impl MadeCall {
-    /// A copy of the step and its reply, if it has a turn.
-    pub fn copy_at(
-        alloc: Global,
-        turn: Option<u32>,
-        step: &Step,
-        reply: &Reply,
-    ) -> Mem<Option<MadeCall>>
-        ensures { IfOk result (λ mine. mine ≡ call_at turn step.now reply.now) }
+    /// A call whose entry has this turn.
+    pub(crate) fn of(turn: u32, entry: Entry) -> MadeCall
+        ensures { result ≡ call turn entry.step entry.reply }
     {
-        match turn {
-            None => Ok(None),
-            Some(turn) => Ok(Some(MadeCall {
-                turn,
-                step: step.copy_of(alloc)?,
-                reply: reply.copy_of(alloc)?,
-            })),
-        }
+        let Entry {
+            seat: _,
+            step,
+            reply,
+        } = entry;
+        MadeCall { turn, step, reply }
     }
 }
 

@@ -27,10 +27,9 @@ use Rattle.tenant_machine.specs.Plans.{Plan, Plans, IsAfter, Steps}
 use Rattle.tenant_audit.specs.declared.audit.Entry.{Entry}
 use Rattle.tenant_audit.specs.declared.audit.Opening.{Opening}
 use Rattle.tenant_registry.specs.declared.kept.Served.{Served}
-use Rattle.tenant_audit.specs.Audits.{Act, Asked, Resized, LeadsTo, Log, IsOpen, acts_after, acts_of, at_quota, entry, replies_of, replies_to_acts, resized_after, state_after_acts, opened_log, opening_of, first_of, end_of, turn_of, with_entry, with_entry_at, with_change, with_change_at}
+use Rattle.tenant_audit.specs.Audits.{Act, Asked, Resized, LeadsTo, Log, IsOpen, acts_after, acts_of, at_quota, entry, replies_of, replies_to_acts, resized_after, state_after_acts, opened_log, opening_of, first_of, end_of, entry_at, turn_of, with_entry, with_entry_at, with_change, with_change_at}
 use Rattle.tenant_registry.specs.Keeping.{Content, IsKept, loan_of, segments_of}
 use Rattle.tenant_audit.specs.Receipts.{slip_of}
-use Rattle.tenant_audit.specs.Seats.{call_at}
 use Rattle.tenant_registry.specs.Removing.{GivesBack}
 use Rattle.tenant_registry.specs.Serving.{Serves, ServesThere, IsServed}
 
@@ -195,7 +194,7 @@ leads m a left kept = record { lawful = kept.lawful; later = kept.later; none = 
 -- what is promised of that
 pub serves : (old : Content) (m n : MachineState) (a b : Log) (left rest : StockState) (seat : ℕ) (step : Step) (p : Plan) (reply told : Reply) (turn : Option ℕ) (served : Served)
     → record { machine = m; audit = a; left = left } ≡ old → IsKept m a left → Plans m step p → IsAfter m p n → reply ≡ p.reply → turn ≡ turn_of a → told ≡ p.reply
-    → served.receipt ≡ slip_of a.opening.number seat turn step told → served.mine ≡ call_at turn step told → b ≡ with_entry_at (turn_of a) a (entry seat step reply)
+    → served.receipt ≡ slip_of a.opening.number seat turn step told → served.mine ≡ entry_at turn seat step told → b ≡ with_entry_at (turn_of a) a (entry seat step reply)
     → Settles m.store.share (loan_of left) n.store.share (loan_of rest)
     → Serves old seat step served (record { machine = n; audit = b; left = rest })
 serves old m n a b left rest seat step p reply told turn served view kept plans after is turns tells receipt mine made settles =
@@ -210,7 +209,7 @@ serves old m n a b left rest seat step p reply told turn served view kept plans 
       leads = leads m a left kept;
       answer = steps.told (state_after_acts (end_of a) kept.later) kept.holds spoken;
       receipt = receipt ∙ ap (λ t. slip_of a.opening.number seat t step told) turns ∙ ap (slip_of a.opening.number seat (turn_of a) step) same;
-      mine = mine ∙ ap (λ t. call_at t step told) turns ∙ ap (call_at (turn_of a) step) same;
+      mine = mine ∙ ap (λ t. entry_at t seat step told) turns ∙ ap (entry_at (turn_of a) seat step) same;
       audit = made;
       segments = settles.numbers;
     } in

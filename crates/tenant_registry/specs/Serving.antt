@@ -11,12 +11,11 @@ use Rattle.etcd_model.specs.declared.state.History.{History}
 use Rattle.etcd_model.specs.declared.state.State.{State}
 use Rattle.etcd_model.specs.History.{current}
 use Rattle.etcd_model.specs.Machine.{machine}
-use Rattle.tenant_audit.specs.Audits.{LeadsTo, Log, entry, turn_of, with_entry_at}
+use Rattle.tenant_audit.specs.Audits.{LeadsTo, Log, entry, entry_at, turn_of, with_entry_at}
 use Rattle.tenant_registry.specs.Keeping.{Content, segments_of}
 use Rattle.tenant_registry.specs.Registries.{RegistryState, opening_in}
 use Rattle.tenant_audit.specs.declared.audit.Opening.{Opening}
 use Rattle.tenant_audit.specs.Receipts.{Slip, slip_of}
-use Rattle.tenant_audit.specs.Seats.{call_at}
 
 -- The receipt of one call on the tenant that was opened so, by a seat: the text is that of the written machine's reply to
 -- this step, in a state of that tenant.
@@ -55,7 +54,7 @@ pub record Serves (old : Content) (seat : ℕ) (step : Step) (served : Served) (
   pub leads : LeadsTo old.audit state
   pub answer : reply ≡ (machine state step).reply
   pub receipt : served.receipt ≡ slip_of old.audit.opening.number seat (turn_of old.audit) step reply
-  pub mine : served.mine ≡ call_at (turn_of old.audit) step reply
+  pub mine : served.mine ≡ entry_at (turn_of old.audit) seat step reply
   pub audit : new.audit ≡ with_entry_at (turn_of old.audit) old.audit (entry seat step reply)
   pub segments : IsPermutation (segments_of old) (segments_of new)
 
@@ -69,7 +68,7 @@ pub record ServesThere (old : Option Content) (opening : Opening) (seat : ℕ) (
   pub opening_is : before.audit.opening ≡ opening
   pub serves : Serves before seat step served after
 
--- what a caller sees of that: the receipt, of that tenant and seat, and the call are of one reply to this step
+-- what a caller sees of that: the receipt, of that tenant and seat, and the entry are of one reply to this step
 pub record IsServed (opening : Opening) (seat : ℕ) (step : Step) (served : Served) : Type 0 where
   pub log : Log
   pub state : State History
@@ -78,7 +77,7 @@ pub record IsServed (opening : Opening) (seat : ℕ) (step : Step) (served : Ser
   pub leads : LeadsTo log state
   pub answer : reply ≡ (machine state step).reply
   pub receipt : served.receipt ≡ slip_of opening.number seat (turn_of log) step reply
-  pub mine : served.mine ≡ call_at (turn_of log) step reply
+  pub mine : served.mine ≡ entry_at (turn_of log) seat step reply
 
 -- the revision that a status tells
 abbrev pub told_revision : Reply → Option ℤ

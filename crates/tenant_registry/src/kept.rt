@@ -1,5 +1,8 @@
 //! What lies under a tenant's lock, how a step is served there, and another quota.
+mod resized;
+
 ghost use Rattle.std.specs.Prelude.{◌≡◌, ◌+◌, ◌++◌, ◌≤◌, true, false, None, IfErr, IfOk, IfSome, IsOk, OnOk, OnErr};
+ghost use Rattle.std.specs.Prelude.{option_map};
 ghost use Rattle.std.specs.List.Sorted.{IsPermutation};
 ghost use Rattle.cell_arena.specs.Loan.{segments_for};
 ghost use Rattle.etcd_model.specs.Held.{Holds};
@@ -7,12 +10,12 @@ ghost use Rattle.etcd_types.specs.Limits.{max_quota};
 ghost use Rattle.tenant_machine.specs.Reserving.{reservation};
 ghost use Rattle.tenant_machine.specs.Tenants.{tenant};
 ghost use Rattle.tenant_rules.specs.declared.fault.OperatorFault.TheVariants.{Short};
-ghost use Rattle.tenant_audit.specs.Audits.{IsAllowed, IsLawful, opened_log, opening_of};
+ghost use Rattle.tenant_audit.specs.Audits.{IsAllowed, IsLawful, entry_at, opened_log, opening_of};
 ghost use Rattle.tenant_audit.specs.Receipts.{slip_of};
 ghost use Rattle.tenant_registry.specs.Keeping.{segments_of};
 ghost use Rattle.tenant_registry.specs.Removing.{GivesBack};
 ghost use Rattle.tenant_registry.specs.Resizing.{HoldsSame, Resizes, Stays, lacks_segments, unresized};
-ghost use Rattle.tenant_audit.specs.Seats.{AddsCall, AddsMissed, HasRoomOn, call_at};
+ghost use Rattle.tenant_audit.specs.Seats.{AddsCall, AddsMissed, HasRoomOn, call};
 ghost use Rattle.tenant_registry.specs.Serving.{IsRevisionIn, Serves};
 ghost use Rattle.tenant_registry.specs.Using.{HasSegments, IsUsageIn};
 
@@ -20,10 +23,11 @@ use crate::replies::{is_cancel, refusal_of, slot_of, told_revision};
 use crate::usage::Usage;
 use etcd_types::{Mem, Refusal, Reply, Step};
 use gateway_text::write_reply;
+pub use resized::Resized;
 use segment_pool::Stock;
 use std::alloc::{AllocError, Global};
 use std::marker::Model;
-use tenant_audit::{Audit, MadeCall, Opening, Seat};
+use tenant_audit::{Audit, Entry, Opening, Seat};
 use tenant_machine::{Hint, Machine, segments_for};
 use tenant_rules::OperatorFault;
 
@@ -179,8 +183,8 @@ impl Receipt {
 /// A step that was served. It can't be let go, so that no step is served which no seat keeps.
 pub struct Served {
     receipt: Receipt,
-    /// The call as its seat keeps it, unless the audit was full.
-    mine: Option<MadeCall>,
+    /// A copy of the audit's entry, which its seat keeps, unless the audit was full.
+    mine: Option<Entry>,
 }
 
 impl Served {
@@ -194,57 +198,41 @@ impl Served {
         reply: &Reply,
     ) -> Mem<Served>
         ensures receipt { IfOk result (λ served. served.receipt ≡ slip_of number seat turn step reply.now) }
-        ensures mine { IfOk result (λ served. served.mine ≡ call_at turn step reply.now) }
+        ensures mine { IfOk result (λ served. served.mine ≡ entry_at turn seat step reply.now) }
     {
-        let mine = MadeCall::copy_at(alloc, turn, &step, reply)?;
+        let mine = Entry::copy_at(alloc, turn, seat, &step, reply)?;
         let receipt = Receipt::of(alloc, number, seat, turn, step, reply)?;
         Ok(Served { receipt, mine })
+    }
+
+    /// What the caller is answered.
+    pub fn receipt(&self) -> &Receipt
+        ensures { result.now ≡ self.now.receipt }
+    {
+        &self.receipt
+    }
+
+    /// A copy of the entry that the audit got, unless it was full.
+    pub fn mine(&self) -> Option<&Entry>
+        ensures { option_map (λ entry. entry.now) result ≡ self.now.mine }
+    {
+        self.mine.as_ref()
     }
 
     /// Gives its receipt, and keeps the call on a seat's list of its tenant's calls, or counts it there if it has no turn.
     pub(crate) fn keep(self, seat: &mut Seat, tenant: &[u8]) -> Receipt
         requires { HasRoomOn tenant.now seat.old }
         ensures receipt { result ≡ self.receipt }
-        ensures call { IfSome self.mine (λ call. AddsCall tenant.now call seat.old seat.new) }
-        ensures missed { self.mine ≡ None → AddsMissed tenant.now seat.old seat.new }
+        ensures call { IfSome self.receipt.turn (λ turn. IfSome self.mine
+            (λ mine. AddsCall tenant.now (call turn mine.step mine.reply) seat.old seat.new)) }
+        ensures missed { self.receipt.turn ≡ None → AddsMissed tenant.now seat.old seat.new }
     {
         let Served { receipt, mine } = self;
-        match mine {
-            Some(call) => seat.record(tenant, call),
-            None => seat.miss(tenant),
+        match (receipt.turn, mine) {
+            (Some(turn), Some(entry)) => seat.record(tenant, turn, entry),
+            _ => seat.miss(tenant),
         }
         receipt
-    }
-}
-
-/// A tenant got another quota. Only `Kept::resize` makes one.
-#[derive(Debug, Drop)]
-pub struct Resized {
-    number: u64,
-    quota: u32,
-}
-
-impl Model for Resized {
-    ghost use Rattle.tenant_registry.specs.Resizing.{ResizedState};
-
-    ghost Value = { ResizedState };
-
-    ghost view = { λ r. record { number = r.number; quota = r.quota } };
-}
-
-impl Resized {
-    /// The number of the tenant that got it.
-    pub fn number(&self) -> u64
-        ensures { result ≡ self.now.number }
-    {
-        self.number
-    }
-
-    /// The cells that the tenant may use since.
-    pub fn quota(&self) -> u32
-        ensures { result ≡ self.now.quota }
-    {
-        self.quota
     }
 }
 

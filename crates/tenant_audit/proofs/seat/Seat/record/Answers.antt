@@ -1,6 +1,6 @@
 use Rattle.std.proofs.Common.{◌≡◌, subst, Some}
 use Rattle.tenant_audit.specs.Seats.{HasRoom, tally_on}
-use Rattle.tenant_audit.proofs.SeatLemmas.{found, call_set}
+use Rattle.tenant_audit.proofs.SeatLemmas.{found, call_set, same_call}
 use Rattle.tenant_audit.proofs.seat.Seat.record.Goals as goal
 
 pub record-requires : goal.record-requires
@@ -16,5 +16,6 @@ unreachable-requires c =
 
 pub returns : goal.returns
 returns c =
-    call_set c.self.inside.number c.args.tenant.now c.self.inside.tallies.entries c.args.self.now _ c.in-Some.tally.now c.record.new.self c.args.call c.self.view_is c.in-Some.ensures.value
-    (c.get_mut.follows.holds c.record.new.self).0 c.record.ensures.calls c.record.ensures.missed
+    same_call _ c.of.result _ _ _ c.of.ensures
+    (call_set c.self.inside.number c.args.tenant.now c.self.inside.tallies.entries c.args.self.now _ c.in-Some.tally.now c.record.new.self c.of.result c.self.view_is c.in-Some.ensures.value
+    (c.get_mut.follows.holds c.record.new.self).0 c.record.ensures.calls c.record.ensures.missed)
