@@ -2,7 +2,7 @@
 use crate::Row;
 
 /// Rows of calls.
-pub(crate) const CALL_ROWS: [Row; 20] = [
+pub(crate) const CALL_ROWS: [Row; 21] = [
     // first_put
     Row {
         script: r#"add one 7 1024 1
@@ -321,6 +321,115 @@ ok
 200 {"header":{"cluster_id":"9","member_id":"1","raft_term":"1","revision":"4"}}
 200 {"alarms":[{"alarm":"NOSPACE","memberID":"1"}],"header":{"cluster_id":"7","member_id":"1","raft_term":"1","revision":"4"}}
 200 {"header":{"cluster_id":"9","member_id":"1","raft_term":"1","revision":"4"}}
+"#,
+    },
+    // malformed_values
+    Row {
+        script: r#"add one 7 1024 1
+call POST /t/one/v3/kv/put 
+call POST /t/one/v3/kv/put {
+call POST /t/one/v3/kv/put {"
+call POST /t/one/v3/kv/put {"k
+call POST /t/one/v3/kv/put {"ke
+call POST /t/one/v3/kv/put {"key
+call POST /t/one/v3/kv/put {"key"
+call POST /t/one/v3/kv/put {"key":
+call POST /t/one/v3/kv/put {"key":"
+call POST /t/one/v3/kv/put {"key":"Z
+call POST /t/one/v3/kv/put {"key":"Zm
+call POST /t/one/v3/kv/put {"key":"Zm9
+call POST /t/one/v3/kv/put {"key":"Zm9v
+call POST /t/one/v3/kv/put {"key":"Zm9v"
+call POST /t/one/v3/kv/put {"key":"Zm9v",
+call POST /t/one/v3/kv/put {"key":"Zm9v","
+call POST /t/one/v3/kv/put {"key":"Zm9v","v
+call POST /t/one/v3/kv/put {"key":"Zm9v","va
+call POST /t/one/v3/kv/put {"key":"Zm9v","val
+call POST /t/one/v3/kv/put {"key":"Zm9v","valu
+call POST /t/one/v3/kv/put {"key":"Zm9v","value
+call POST /t/one/v3/kv/put {"key":"Zm9v","value"
+call POST /t/one/v3/kv/put {"key":"Zm9v","value":
+call POST /t/one/v3/kv/put {"key":"Zm9v","value":"
+call POST /t/one/v3/kv/put {"key":"Zm9v","value":"Y
+call POST /t/one/v3/kv/put {"key":"Zm9v","value":"Ym
+call POST /t/one/v3/kv/put {"key":"Zm9v","value":"YmF
+call POST /t/one/v3/kv/put {"key":"Zm9v","value":"YmFy
+call POST /t/one/v3/kv/put {"key":"Zm9v","value":"YmFy"
+call POST /t/one/v3/kv/range {"key":"Zg"}
+call POST /t/one/v3/kv/range {"key":"Zg=="}
+call POST /t/one/v3/kv/range {"key":"Zm8="}
+call POST /t/one/v3/kv/range {"key":"Zg="}
+call POST /t/one/v3/kv/range {"key":"Zh=="}
+call POST /t/one/v3/kv/range {"key":"Zm9="}
+call POST /t/one/v3/kv/range {"key":"Z"}
+call POST /t/one/v3/kv/range {"key":"===="}
+call POST /t/one/v3/kv/range {"key":"Z==="}
+call POST /t/one/v3/kv/range {"key":"Zm9v="}
+call POST /t/one/v3/kv/range {"key":"YQ==","limit":"-0"}
+call POST /t/one/v3/kv/range {"key":"YQ==","limit":"007"}
+call POST /t/one/v3/kv/range {"key":"YQ==","limit":"9223372036854775807"}
+call POST /t/one/v3/kv/range {"key":"YQ==","limit":"+1"}
+call POST /t/one/v3/kv/range {"key":"YQ==","limit":" 1"}
+call POST /t/one/v3/kv/range {"key":"YQ==","limit":""}
+call POST /t/one/v3/kv/range {"key":"YQ==","limit":true}
+call POST /t/one/v3/kv/range {"key":"YQ==","limit":9223372036854775808}
+call POST /t/one/v3/kv/range {"key":"YQ==","sort_order":"ascend"}
+call POST /t/one/v3/kv/range {"key":"YQ==","sort_order":3}
+call POST /t/one/v3/kv/range {"key":"YQ==","sort_order":"1"}
+call POST /t/one/v3/kv/range {"key":"","limit":"x"}
+"#,
+        answers: r#"ok
+400 {"code":3,"error":"etcdserver: key is not provided","message":"etcdserver: key is not provided"}
+400 {"code":3,"error":"etcd_host: the body can't be read","message":"etcd_host: the body can't be read"}
+400 {"code":3,"error":"etcd_host: the body can't be read","message":"etcd_host: the body can't be read"}
+400 {"code":3,"error":"etcd_host: the body can't be read","message":"etcd_host: the body can't be read"}
+400 {"code":3,"error":"etcd_host: the body can't be read","message":"etcd_host: the body can't be read"}
+400 {"code":3,"error":"etcd_host: the body can't be read","message":"etcd_host: the body can't be read"}
+400 {"code":3,"error":"etcd_host: the body can't be read","message":"etcd_host: the body can't be read"}
+400 {"code":3,"error":"etcd_host: the body can't be read","message":"etcd_host: the body can't be read"}
+400 {"code":3,"error":"etcd_host: the body can't be read","message":"etcd_host: the body can't be read"}
+400 {"code":3,"error":"etcd_host: the body can't be read","message":"etcd_host: the body can't be read"}
+400 {"code":3,"error":"etcd_host: the body can't be read","message":"etcd_host: the body can't be read"}
+400 {"code":3,"error":"etcd_host: the body can't be read","message":"etcd_host: the body can't be read"}
+400 {"code":3,"error":"etcd_host: the body can't be read","message":"etcd_host: the body can't be read"}
+400 {"code":3,"error":"etcd_host: the body can't be read","message":"etcd_host: the body can't be read"}
+400 {"code":3,"error":"etcd_host: the body can't be read","message":"etcd_host: the body can't be read"}
+400 {"code":3,"error":"etcd_host: the body can't be read","message":"etcd_host: the body can't be read"}
+400 {"code":3,"error":"etcd_host: the body can't be read","message":"etcd_host: the body can't be read"}
+400 {"code":3,"error":"etcd_host: the body can't be read","message":"etcd_host: the body can't be read"}
+400 {"code":3,"error":"etcd_host: the body can't be read","message":"etcd_host: the body can't be read"}
+400 {"code":3,"error":"etcd_host: the body can't be read","message":"etcd_host: the body can't be read"}
+400 {"code":3,"error":"etcd_host: the body can't be read","message":"etcd_host: the body can't be read"}
+400 {"code":3,"error":"etcd_host: the body can't be read","message":"etcd_host: the body can't be read"}
+400 {"code":3,"error":"etcd_host: the body can't be read","message":"etcd_host: the body can't be read"}
+400 {"code":3,"error":"etcd_host: the body can't be read","message":"etcd_host: the body can't be read"}
+400 {"code":3,"error":"etcd_host: the body can't be read","message":"etcd_host: the body can't be read"}
+400 {"code":3,"error":"etcd_host: the body can't be read","message":"etcd_host: the body can't be read"}
+400 {"code":3,"error":"etcd_host: the body can't be read","message":"etcd_host: the body can't be read"}
+400 {"code":3,"error":"etcd_host: the body can't be read","message":"etcd_host: the body can't be read"}
+400 {"code":3,"error":"etcd_host: the body can't be read","message":"etcd_host: the body can't be read"}
+200 {"header":{"cluster_id":"7","member_id":"1","raft_term":"1","revision":"1"}}
+200 {"header":{"cluster_id":"7","member_id":"1","raft_term":"1","revision":"1"}}
+200 {"header":{"cluster_id":"7","member_id":"1","raft_term":"1","revision":"1"}}
+400 {"code":3,"error":"etcd_host: the body can't be read","message":"etcd_host: the body can't be read"}
+400 {"code":3,"error":"etcd_host: the body can't be read","message":"etcd_host: the body can't be read"}
+400 {"code":3,"error":"etcd_host: the body can't be read","message":"etcd_host: the body can't be read"}
+400 {"code":3,"error":"etcd_host: the body can't be read","message":"etcd_host: the body can't be read"}
+400 {"code":3,"error":"etcd_host: the body can't be read","message":"etcd_host: the body can't be read"}
+400 {"code":3,"error":"etcd_host: the body can't be read","message":"etcd_host: the body can't be read"}
+400 {"code":3,"error":"etcd_host: the body can't be read","message":"etcd_host: the body can't be read"}
+200 {"header":{"cluster_id":"7","member_id":"1","raft_term":"1","revision":"1"}}
+200 {"header":{"cluster_id":"7","member_id":"1","raft_term":"1","revision":"1"}}
+200 {"header":{"cluster_id":"7","member_id":"1","raft_term":"1","revision":"1"}}
+400 {"code":3,"error":"etcd_host: the body can't be read","message":"etcd_host: the body can't be read"}
+400 {"code":3,"error":"etcd_host: the body can't be read","message":"etcd_host: the body can't be read"}
+400 {"code":3,"error":"etcd_host: the body can't be read","message":"etcd_host: the body can't be read"}
+400 {"code":3,"error":"etcd_host: the body can't be read","message":"etcd_host: the body can't be read"}
+400 {"code":3,"error":"etcd_host: the body can't be read","message":"etcd_host: the body can't be read"}
+400 {"code":3,"error":"etcd_host: the body can't be read","message":"etcd_host: the body can't be read"}
+400 {"code":3,"error":"etcd_host: the body can't be read","message":"etcd_host: the body can't be read"}
+400 {"code":3,"error":"etcd_host: the body can't be read","message":"etcd_host: the body can't be read"}
+400 {"code":3,"error":"etcd_host: the body can't be read","message":"etcd_host: the body can't be read"}
 "#,
     },
 ];

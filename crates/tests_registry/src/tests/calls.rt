@@ -1,4 +1,5 @@
 //! Calls, turns, seats and closing, by worked examples.
+mod ample;
 mod live;
 mod removed;
 mod threads;
@@ -116,11 +117,8 @@ fn a_full_audit_serves_on(rt: HostRuntime) {
     let seats = alone(&rt, rt.alloc(), seat);
     let Closed { audits } = registry.close(seats).expect(&rt, "the audits close");
     assert_eq!(rt; audits.len(), 2);
-    assert_eq!(rt; audits[0].1.entries.len(), 2);
-    assert_eq!(rt;
-        (audits[1].1.opening.cluster, audits[1].1.opening.quota),
-        (8, 2048)
-    );
+    assert_eq!(rt; audits[0].1.entries().len(), 2);
+    assert_eq!(rt; (audits[1].1.cluster(), audits[1].1.quota()), (8, 2048));
 }
 
 /// A call on a tenant that is not there is refused, and no seat counts it.

@@ -2,7 +2,8 @@
 mod between;
 mod callers;
 mod letters;
-mod limits;
+mod lines;
+mod long;
 mod opening;
 mod operator;
 mod second;
@@ -45,7 +46,7 @@ fn assert_answers<R: Wait + Clock + Abort>(
 fn assert_closes(rt: &impl Abort, alloc: Global, callers: Callers, audit: u32) {
     let Closed { audits } = callers.close(rt, alloc);
     for (_, kept) in &audits {
-        assert!(rt; kept.entries.len() <= audit as usize);
+        assert!(rt; kept.entries().len() <= audit as usize);
     }
 }
 

@@ -28,7 +28,7 @@ fn answers_as<R: Wait + Clock + Abort>(
     seat: &mut Seat,
     audit: &Audit,
 ) -> Mem<bool> {
-    for (place, entry) in audit.entries.iter().enumerate() {
+    for (place, entry) in audit.entries().iter().enumerate() {
         give_quotas(rt, registry, audit, place);
         let step = entry.step.copy_of(alloc)?;
         let told = registry.call(rt, seat, &OpenGate, b"again", step);
@@ -48,20 +48,14 @@ fn opened_as(rt: &impl Abort, alloc: Global, audit: &Audit) -> Mem<Registry> {
 
 /// The tenant with an audit's opening, alone.
 fn config_of(alloc: Global, audit: &Audit) -> Mem<Vec<TenantConfig>> {
-    let quota = u64::from(audit.opening.quota);
-    let config = config(
-        alloc,
-        "again",
-        audit.opening.cluster,
-        quota,
-        audit.opening.cap,
-    )?;
+    let quota = u64::from(audit.quota());
+    let config = config(alloc, "again", audit.cluster(), quota, audit.cap())?;
     Ok(vec![in alloc; config]?)
 }
 
 /// Gives the quotas that an audit has after so many entries.
 fn give_quotas<R: Wait + Abort>(rt: &R, registry: &Registry, audit: &Audit, place: usize) {
-    for (before, quota) in &audit.quotas {
+    for (before, quota) in audit.quotas() {
         if *before as usize == place {
             let told = registry.resize(rt, b"again", u64::from(*quota));
             assert!(rt; told.is_ok());
@@ -114,13 +108,13 @@ fn audit_of_resizes<R: Wait + Clock + Abort>(rt: &R, alloc: Global, cap: u32) ->
 #[test]
 fn a_resize_is_kept_and_replayed(rt: HostRuntime) {
     let audit = audit_of_resizes(&rt, rt.alloc(), 8);
-    assert_eq!(rt; (audit.opening.quota, audit.entries.len()), (1024, 3));
-    assert!(rt; audit.quotas.as_slice() == [(1, 4), (2, 1024)].as_slice());
+    assert_eq!(rt; (audit.quota(), audit.entries().len()), (1024, 3));
+    assert!(rt; audit.quotas() == [(1, 4), (2, 1024)].as_slice());
     assert!(rt; is_replayed(&rt, rt.alloc(), &audit).expect(&rt, "memory"));
 }
 
 #[test]
 fn a_full_audit_keeps_no_quota(rt: HostRuntime) {
     let audit = audit_of_resizes(&rt, rt.alloc(), 1);
-    assert_eq!(rt; (audit.entries.len(), audit.quotas.len()), (1, 0));
+    assert_eq!(rt; (audit.entries().len(), audit.quotas().len()), (1, 0));
 }

@@ -98,7 +98,7 @@ impl Caller {
         assert_eq!(rt; audits.len(), 2);
         for (_, audit) in &audits {
             assert_audit(rt, alloc, audit, made.as_slice());
-            assert!(rt; audit.quotas.is_empty());
+            assert!(rt; audit.quotas().is_empty());
         }
     }
 }
@@ -160,14 +160,14 @@ fn usage_of<R: Wait + Abort>(rt: &R, alloc: Global, registry: &Registry, name: &
 fn assert_audit(rt: &impl Abort, alloc: Global, audit: &Audit, made: &[Made]) {
     let mut count = 0usize;
     for call in made {
-        if call.receipt.number() == audit.opening.number {
-            let entry = audit.entries.get(count).expect(rt, "an entry");
+        if call.receipt.number() == audit.number() {
+            let entry = audit.entries().get(count).expect(rt, "an entry");
             assert_eq!(rt; call.receipt.turn().map(u64::from), Some(count as u64));
             assert_entry(rt, alloc, entry, call);
             count += 1;
         }
     }
-    assert_eq!(rt; audit.entries.len(), count);
+    assert_eq!(rt; audit.entries().len(), count);
 }
 
 /// The entry is of that call.
@@ -188,8 +188,8 @@ fn remove_second(rt: &impl Abort, alloc: Global, caller: &mut Caller) {
     let ended = caller.registry.remove(b"two").expect(rt, "it is there");
     assert_eq!(rt; caller.registry.free_segments(), 62);
     assert_audit(rt, alloc, ended.audit(), caller.made.as_slice());
-    assert_eq!(rt; ended.audit().entries.len(), 6);
-    assert!(rt; ended.audit().quotas.as_slice() == [(4, 192)].as_slice());
+    assert_eq!(rt; ended.audit().entries().len(), 6);
+    assert!(rt; ended.audit().quotas() == [(4, 192)].as_slice());
 }
 
 #[test]

@@ -70,7 +70,7 @@ fn parted(rt: &impl Abort, alloc: Global, work: Vec<Work>) -> (Vec<Seat>, Vec<Ve
 fn entry_of<'a>(closed: &'a Closed, receipt: &Receipt) -> Option<&'a Entry> {
     let place = receipt.number().checked_sub(1)?;
     let (_, audit) = closed.audits.get(place as usize)?;
-    audit.entries.get(receipt.turn()? as usize)
+    audit.entries().get(receipt.turn()? as usize)
 }
 
 /// Each receipt of a seat has its entry at its turn, with its text, and no other entry is the seat's.
@@ -87,7 +87,7 @@ fn told_at_turns(alloc: Global, closed: &Closed, number: usize, receipts: &[Rece
     }
     let mut entries = 0usize;
     for (_, audit) in &closed.audits {
-        for entry in &audit.entries {
+        for entry in audit.entries() {
             if usize::from(entry.seat) == number {
                 entries = entries.saturating_add(1);
             }
@@ -96,10 +96,24 @@ fn told_at_turns(alloc: Global, closed: &Closed, number: usize, receipts: &[Rece
     Ok(entries == receipts.len())
 }
 
+/// The turns of a seat's receipts of one tenant rise, so that its entries there, which are as many, are these in order.
+fn turns_rise(receipts: &[Receipt], tenant: u64) -> bool {
+    let mut next = 0u32;
+    for receipt in receipts {
+        if receipt.number() == tenant {
+            match receipt.turn() {
+                Some(turn) if turn >= next => next = turn.saturating_add(1),
+                _ => return false,
+            }
+        }
+    }
+    true
+}
+
 /// Each tenant's audit has the calls of four seats, and a new tenant answers them so.
 fn assert_lawful<R: Wait + Clock + Abort>(rt: &R, alloc: Global, closed: &Closed) {
     for (_, audit) in &closed.audits {
-        assert_eq!(rt; audit.entries.len(), 200);
+        assert_eq!(rt; audit.entries().len(), 200);
         assert!(rt; is_replayed(rt, alloc, audit).expect(rt, "memory"));
     }
 }
@@ -108,6 +122,7 @@ fn assert_told(rt: &impl Abort, alloc: Global, closed: &Closed, receipts: &[Vec<
     for (number, told) in receipts.iter().enumerate() {
         let so = told_at_turns(alloc, closed, number, told.as_slice());
         assert!(rt; so.expect(rt, "memory"));
+        assert!(rt; turns_rise(told.as_slice(), 1) && turns_rise(told.as_slice(), 2));
     }
 }
 
@@ -269,6 +284,6 @@ fn four_threads_close_beside_resizes(rt: HostRuntime) {
 /// The first tenant's audit has all calls and quotas, and is answered so again.
 fn assert_replayed<R: Wait + Clock + Abort>(rt: &R, alloc: Global, closed: &Closed) {
     let (_, audit) = closed.audits.first().expect(rt, "an audit");
-    assert_eq!(rt; (audit.entries.len(), audit.quotas.len()), (200, 100));
+    assert_eq!(rt; (audit.entries().len(), audit.quotas().len()), (200, 100));
     assert!(rt; is_replayed(rt, alloc, audit).expect(rt, "memory"));
 }

@@ -1,0 +1,55 @@
+//! What may lack memory, with enough of it.
+use super::{alone, put, two_tenants};
+use etcd_types::Step;
+use std::alloc::Global;
+use std::process::Abort;
+use std::rt::Clock;
+use std::sync::Wait;
+use tenant_registry::{Key, OpenGate, Registry, Seat, SeatedCalls};
+
+/// What a key tells of a tenant at its opening.
+fn assert_key<R: Wait + Clock + Abort>(rt: &R, alloc: Global, key: &Key, seat: &mut Seat) {
+    assert_eq!(rt; key.revision(rt).ok(), Some(1));
+    let step = put(alloc).expect(rt, "memory");
+    assert!(rt; key.weight(rt, &step, 1).is_ok());
+    let told = key.call(rt, seat, &OpenGate, Step::Defragment);
+    assert_eq!(rt; told.expect(rt, "memory").status(), 200);
+    let usage = key.usage(rt).expect(rt, "memory");
+    assert_eq!(rt; (usage.keys, usage.revision), (0, 1));
+}
+
+/// The keys of all tenants, in their order.
+fn assert_keys<R: Wait + Clock + Abort>(
+    rt: &R,
+    alloc: Global,
+    registry: &Registry,
+    seat: &mut Seat,
+) {
+    let keys = registry.keys(alloc).expect(rt, "memory");
+    assert_eq!(rt; keys.len(), 2);
+    for (key, name) in keys.iter().zip(["one", "two"]) {
+        assert!(rt; key.name() == name.as_bytes());
+        assert_key(rt, alloc, key, seat);
+    }
+}
+
+/// The seats of some callers come back as they were given.
+fn assert_calls(rt: &impl Abort, alloc: Global, seat: Seat) -> Vec<Seat> {
+    let seats = alone(rt, alloc, seat);
+    let calls = SeatedCalls::all(alloc, seats, &OpenGate).expect(rt, "memory");
+    let seats = SeatedCalls::into_seats(alloc, calls).expect(rt, "memory");
+    assert_eq!(rt; (seats.len(), seats[0].number()), (1, 0));
+    seats
+}
+
+#[test]
+fn memory_is_there(rt: HostRuntime) {
+    let alloc = rt.alloc();
+    let mut registry = two_tenants(alloc, 8).expect(&rt, "two tenants");
+    assert!(rt; registry.add_segments(1).is_ok());
+    assert_eq!(rt; registry.segments(), 65);
+    let mut seat = registry.seat().expect(&rt, "a seat");
+    assert_keys(&rt, alloc, &registry, &mut seat);
+    let seats = assert_calls(&rt, alloc, seat);
+    assert!(rt; registry.close(seats).is_ok());
+}
