@@ -1,6 +1,7 @@
-//! The rows, over each source of segments. Over the host's pool they are asked of the program, by `tools/check-rows`,
-//! and so are scripts by chance.
+//! The rows, over each source of segments, and some as lists of steps. Over the host's pool they are asked of the program,
+//! by `tools/check-rows`, and so are scripts by chance.
 mod single;
+mod steps;
 
 use etcd_types::Mem;
 use host_front::LentLine;
@@ -35,9 +36,7 @@ fn write_over(
         }
         Some(Asked::Live(LentLine::Event(event))) => {
             let (status, body) = singles.answer(alloc, event)?;
-            let status = format!(in alloc; "{status}")?;
-            answers.extend_from_slice(status.as_bytes())?;
-            write_body(answers, &body)
+            write_answer(alloc, answers, status, &body)
         }
         Some(Asked::Live(line)) => {
             answers.extend_from_slice(singles.operate(alloc, line)?.as_bytes())?;
@@ -45,6 +44,12 @@ fn write_over(
         }
         None => Ok(()),
     }
+}
+
+fn write_answer(alloc: Global, answers: &mut Vec<u8>, status: u16, body: &[u8]) -> Mem<()> {
+    let status = format!(in alloc; "{status}")?;
+    answers.extend_from_slice(status.as_bytes())?;
+    write_body(answers, body)
 }
 
 /// A space and the body, if there is one, and the line's end, which some bodies have.

@@ -102,7 +102,7 @@ impl Single {
 }
 
 /// The step of an event, or the refusal of a call that is none.
-fn step_of(alloc: Global, event: LentEvent<'_>) -> Result<Step, Refusal> {
+pub(super) fn step_of(alloc: Global, event: LentEvent<'_>) -> Result<Step, Refusal> {
     match event {
         LentEvent::Call {
             method,
