@@ -20,6 +20,10 @@ unknown (Some c) r = r
 abbrev pub not_posted : List ℕ → Option Refusal → Option Refusal
 not_posted method r = if bytes_eq method (codes "POST") then r else Some NotPost
 
+-- the path goes first, then the size
+abbrev pub call_unread : List ℕ → List ℕ → Option Refusal
+call_unread path body = unknown (call_of path) (oversize body)
+
 -- the path goes first, then the method, then the size
-abbrev pub refused_unread : List ℕ → List ℕ → List ℕ → Option Refusal
-refused_unread method path body = unknown (call_of path) (not_posted method (oversize body))
+abbrev pub posted_unread : List ℕ → List ℕ → List ℕ → Option Refusal
+posted_unread method path body = unknown (call_of path) (not_posted method (oversize body))

@@ -1,11 +1,12 @@
 //! The calls, and the steps that their bodies ask for.
 ghost use Rattle.std.specs.Prelude.{◌≡◌, Ok, Err, IfSome, nat_lt, length, if◌then◌else◌};
+ghost use Rattle.std.specs.Option.{ok_or};
 ghost use Rattle.serde_json.specs.View.{view};
 ghost use Rattle.etcd_types.specs.Limits.{max_body};
-ghost use Rattle.etcd_types.specs.declared.refusal.Refusal.TheVariants.{TooLarge};
+ghost use Rattle.etcd_types.specs.declared.refusal.Refusal.TheVariants.{NoPath, TooLarge};
 ghost use Rattle.etcd_model.specs.Members.{IsAnswer};
-ghost use Rattle.etcd_model.specs.Calls.{check_fields, read_members, read_posted, read_step};
-ghost use Rattle.gateway_json.specs.Unread.{oversize, refused_unread};
+ghost use Rattle.etcd_model.specs.Calls.{call_of, check_fields, read_call, read_members, read_posted, read_step};
+ghost use Rattle.gateway_json.specs.Unread.{call_unread, oversize, posted_unread};
 
 use crate::body::read_body;
 use crate::kv::{read_compaction, read_delete, read_put, read_range};
@@ -76,15 +77,29 @@ pub fn read_step(alloc: Global, call: Call, body: &[u8]) -> Result<Step, Refusal
     check_fields(read_members(alloc, call, &value)?)
 }
 
-/// The step that a method, a path, what follows `/v3/`, and a body ask for, or why they are refused: an unknown
-/// path, else any method but `POST`, else what `read_step` refuses.
+/// The call of a path; an unknown path is refused.
+fn known_call(path: &[u8]) -> Result<Call, Refusal>
+    ensures { result ≡ ok_or (call_of path.now) NoPath }
+{
+    call_of(path).ok_or(Refusal::NoPath)
+}
+
+/// The step that a path, what follows `/v3/`, and a body ask for, or why they are refused: an unknown path, else
+/// what `read_step` refuses.
+#[tactic(auto, unfolding(etcd_model::specs::Calls::read_call))]
+pub fn read_call(alloc: Global, path: &[u8], body: &[u8]) -> Result<Step, Refusal>
+    ensures step { IsAnswer result (read_call path.now body.now) }
+    ensures unread { IfSome (call_unread path.now body.now) (λ refusal. result ≡ Err refusal) }
+{
+    read_step(alloc, known_call(path)?, body)
+}
+
+/// The same with a method: an unknown path, else any method but `POST`, else what `read_step` refuses.
 pub fn read_posted(alloc: Global, method: &[u8], path: &[u8], body: &[u8]) -> Result<Step, Refusal>
     ensures step { IsAnswer result (read_posted method.now path.now body.now) }
-    ensures unread { IfSome (refused_unread method.now path.now body.now) (λ refusal. result ≡ Err refusal) }
+    ensures unread { IfSome (posted_unread method.now path.now body.now) (λ refusal. result ≡ Err refusal) }
 {
-    let Some(call) = call_of(path) else {
-        return Err(Refusal::NoPath);
-    };
+    let call = known_call(path)?;
     if method != b"POST".as_slice() {
         return Err(Refusal::NotPost);
     }

@@ -15,7 +15,7 @@ mod spelling;
 mod txn;
 mod watch;
 
-pub use call::{read_posted, read_step};
+pub use call::{read_call, read_posted, read_step};
 pub use member::read_unsigned;
 pub use paths::{Target, call_of, target_of};
 pub use spelling::bytes_of_text;
