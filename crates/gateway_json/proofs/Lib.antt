@@ -4,3 +4,4 @@ pub mod NumberLemmas
 pub mod PathLemmas
 pub mod SpellingLemmas
 pub mod TableLemmas
+pub mod TakingLemmas

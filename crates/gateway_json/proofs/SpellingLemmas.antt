@@ -5,7 +5,10 @@ use Rattle.base64.specs.declared.decode.DecodeError.{DecodeError}
 use Rattle.base64.specs.Engines.{standard_no_pad}
 use Rattle.base64.specs.GeneralPurpose.{IsBytes}
 use Rattle.base64.proofs.EngineFacts.{decode_of_iff}
+use Rattle.base64.proofs.OnLiterals.{base64_on_literals}
+use borrow.Author.Tests.{eqb-true}
 use Rattle.memchr.specs.Find.{IsFirstByte, is_byte2}
+use Rattle.etcd_model.specs.Members.{or_bad}
 use Rattle.etcd_model.specs.Spelling.{Spells, spelled_bytes, standard_symbol, symbols_of, without_equals}
 
 ok_part : (r : Result (List ℕ) DecodeError) (b : List ℕ) → result_ok r ≡ Some b → r ≡ Ok b
@@ -58,3 +61,9 @@ standard_already [] none = refl
 standard_already (c ∷ cs) none =
     let first : standard_symbol c ≡ c = neither_of (c == 45) (c == 95) 43 47 c (none 0 (omega arith) (omega arith)) in
     let rest = standard_already cs (λ k low high. none (suc k) (omega arith) (omega arith)) in (cc)
+
+-- A text with no symbols spells no bytes.
+pub empty_spelled : (s : List ℕ) → (length s == 0) ≡ true → or_bad (spelled_bytes s) ≡ Ok []
+unfolding base64_on_literals spelled_bytes
+empty_spelled [] empty = refl
+empty_spelled (c ∷ cs) empty = let none : length (c ∷ cs) ≡ 0 = eqb-true _ 0 empty in absurd (omega arith)

@@ -6,6 +6,7 @@ ghost use Rattle.etcd_types.specs.Limits.{max_body};
 ghost use Rattle.etcd_types.specs.declared.refusal.Refusal.TheVariants.{NoPath, TooLarge};
 ghost use Rattle.etcd_model.specs.Members.{IsAnswer};
 ghost use Rattle.etcd_model.specs.Calls.{call_of, check_fields, read_call, read_members, read_posted, read_step};
+ghost use Rattle.gateway_json.specs.Taking.{TakesNone};
 ghost use Rattle.gateway_json.specs.Unread.{call_unread, oversize, posted_unread};
 
 use crate::body::read_body;
@@ -24,21 +25,22 @@ use std::alloc::Global;
 /// The step that the members of a call's object ask for.
 #[tactic(auto, unfolding(etcd_model::specs::Calls::read_members))]
 fn read_members(alloc: Global, call: Call, value: &Value) -> Result<Step, Refusal>
-    ensures { IsAnswer result (read_members call (view value.now)) }
+    ensures answer { IsAnswer result (read_members call (view value.now)) }
+    ensures exact { TakesNone call (view value.now) → result ≡ read_members call (view value.now) }
 {
     match call {
         Call::Range => Ok(Step::Range(read_range(alloc, value)?)),
         Call::Put => Ok(Step::Put(read_put(alloc, value)?)),
         Call::DeleteRange => Ok(Step::Delete(read_delete(alloc, value)?)),
         Call::Txn => Ok(Step::Txn(read_txn(alloc, value)?)),
-        Call::Compaction => read_compaction(alloc, value),
+        Call::Compaction => read_compaction(value),
         Call::Watch => Ok(Step::Watch(read_watch(alloc, value)?)),
-        Call::Grant => Ok(Step::Grant(read_grant(alloc, value)?)),
-        Call::Revoke => Ok(Step::Revoke(read_id(alloc, value)?)),
-        Call::KeepAlive => Ok(Step::KeepAlive(read_id(alloc, value)?)),
-        Call::TimeToLive => read_time_to_live(alloc, value),
+        Call::Grant => Ok(Step::Grant(read_grant(value)?)),
+        Call::Revoke => Ok(Step::Revoke(read_id(value)?)),
+        Call::KeepAlive => Ok(Step::KeepAlive(read_id(value)?)),
+        Call::TimeToLive => read_time_to_live(value),
         Call::Leases => Ok(Step::Leases),
-        Call::Alarm => Ok(Step::Alarm(read_alarm(alloc, value)?)),
+        Call::Alarm => Ok(Step::Alarm(read_alarm(value)?)),
         Call::Status => Ok(Step::Status),
         Call::Defragment => Ok(Step::Defragment),
     }
@@ -66,10 +68,11 @@ fn check_size(body: &[u8]) -> Result<(), Refusal>
 }
 
 /// The step that a call's body asks for, or why it is refused: for its size, else for what can't be
-/// read, else for its fields.
-#[tactic(auto, unfolding(etcd_model::specs::Calls::read_step))]
+/// read, else for its fields. An empty body takes no memory.
+#[tactic(auto, unfolding(etcd_model::specs::Calls::read_step), using(crate::proofs::TakingLemmas::empty_takes_none))]
 pub fn read_step(alloc: Global, call: Call, body: &[u8]) -> Result<Step, Refusal>
     ensures step { IsAnswer result (read_step call body.now) }
+    ensures exact { length body.now ≡ 0 → result ≡ read_step call body.now }
     ensures unread { IfSome (oversize body.now) (λ refusal. result ≡ Err refusal) }
 {
     check_size(body)?;
@@ -89,6 +92,7 @@ fn known_call(path: &[u8]) -> Result<Call, Refusal>
 #[tactic(auto, unfolding(etcd_model::specs::Calls::read_call))]
 pub fn read_call(alloc: Global, path: &[u8], body: &[u8]) -> Result<Step, Refusal>
     ensures step { IsAnswer result (read_call path.now body.now) }
+    ensures exact { length body.now ≡ 0 → result ≡ read_call path.now body.now }
     ensures unread { IfSome (call_unread path.now body.now) (λ refusal. result ≡ Err refusal) }
 {
     read_step(alloc, known_call(path)?, body)
@@ -97,6 +101,7 @@ pub fn read_call(alloc: Global, path: &[u8], body: &[u8]) -> Result<Step, Refusa
 /// The same with a method: an unknown path, else any method but `POST`, else what `read_step` refuses.
 pub fn read_posted(alloc: Global, method: &[u8], path: &[u8], body: &[u8]) -> Result<Step, Refusal>
     ensures step { IsAnswer result (read_posted method.now path.now body.now) }
+    ensures exact { length body.now ≡ 0 → result ≡ read_posted method.now path.now body.now }
     ensures unread { IfSome (posted_unread method.now path.now body.now) (λ refusal. result ≡ Err refusal) }
 {
     let call = known_call(path)?;

@@ -1,13 +1,13 @@
 //! Tables of names, and the members that are one of a table.
 ghost use Rattle.std.specs.Prelude.{◌≡◌, option_map, map};
 ghost use Rattle.serde_json.specs.View.{view};
-ghost use Rattle.etcd_model.specs.Members.{IsAnswer, choice_in, named, placed, read_action, read_alarm};
+ghost use Rattle.etcd_model.specs.Members.{choice_in, named, placed, read_action, read_alarm};
 ghost use Rattle.etcd_model.specs.Members.{read_choice, read_compare_target, read_order, read_result};
 ghost use Rattle.etcd_model.specs.Members.{read_sort_target};
 ghost use Rattle.etcd_model.specs.Requests.{filter_in};
 
 use crate::list::FromElement;
-use crate::member::FromMember;
+use crate::member::PlainMember;
 use etcd_types::{
     AlarmAction, AlarmKind, CompareResult, CompareTarget, EventKind, Refusal, SortOrder, SortTarget,
 };
@@ -51,8 +51,8 @@ fn choice<T: Copy>(value: &Value, table: &[(&str, T)]) -> Option<T>
 /// One of a table, or what an absent member stands for.
 #[tactic(auto, unfolding(etcd_model::specs::Members::read_choice))]
 fn read_choice<T: Copy>(value: Option<&Value>, table: &[(&str, T)], absent: T) -> Result<T, Refusal>
-    ensures { IsAnswer result (read_choice (map (λ e. (e.0.now, e.1)) table.now) absent
-        (option_map (λ v. view v.now) value.entry)) }
+    ensures { result ≡ read_choice (map (λ e. (e.0.now, e.1)) table.now) absent
+        (option_map (λ v. view v.now) value.entry) }
 {
     match value {
         None => Ok(absent),
@@ -66,10 +66,10 @@ const ORDERS: [(&str, SortOrder); 3] = [
     ("DESCEND", SortOrder::Descend),
 ];
 
-impl FromMember for SortOrder {
+impl PlainMember for SortOrder {
     ghost reads = { read_order };
 
-    fn read(_alloc: Global, value: Option<&Value>) -> Result<SortOrder, Refusal> {
+    fn read(value: Option<&Value>) -> Result<SortOrder, Refusal> {
         read_choice(value, &ORDERS, SortOrder::Unsorted)
     }
 }
@@ -82,10 +82,10 @@ const TARGETS: [(&str, SortTarget); 5] = [
     ("VALUE", SortTarget::Value),
 ];
 
-impl FromMember for SortTarget {
+impl PlainMember for SortTarget {
     ghost reads = { read_sort_target };
 
-    fn read(_alloc: Global, value: Option<&Value>) -> Result<SortTarget, Refusal> {
+    fn read(value: Option<&Value>) -> Result<SortTarget, Refusal> {
         read_choice(value, &TARGETS, SortTarget::Key)
     }
 }
@@ -97,10 +97,10 @@ const RESULTS: [(&str, CompareResult); 4] = [
     ("NOT_EQUAL", CompareResult::NotEqual),
 ];
 
-impl FromMember for CompareResult {
+impl PlainMember for CompareResult {
     ghost reads = { read_result };
 
-    fn read(_alloc: Global, value: Option<&Value>) -> Result<CompareResult, Refusal> {
+    fn read(value: Option<&Value>) -> Result<CompareResult, Refusal> {
         read_choice(value, &RESULTS, CompareResult::Equal)
     }
 }
@@ -113,10 +113,10 @@ const COMPARE_TARGETS: [(&str, CompareTarget); 5] = [
     ("LEASE", CompareTarget::Lease),
 ];
 
-impl FromMember for CompareTarget {
+impl PlainMember for CompareTarget {
     ghost reads = { read_compare_target };
 
-    fn read(_alloc: Global, value: Option<&Value>) -> Result<CompareTarget, Refusal> {
+    fn read(value: Option<&Value>) -> Result<CompareTarget, Refusal> {
         read_choice(value, &COMPARE_TARGETS, CompareTarget::Version)
     }
 }
@@ -127,10 +127,10 @@ const ACTIONS: [(&str, AlarmAction); 3] = [
     ("DEACTIVATE", AlarmAction::Deactivate),
 ];
 
-impl FromMember for AlarmAction {
+impl PlainMember for AlarmAction {
     ghost reads = { read_action };
 
-    fn read(_alloc: Global, value: Option<&Value>) -> Result<AlarmAction, Refusal> {
+    fn read(value: Option<&Value>) -> Result<AlarmAction, Refusal> {
         read_choice(value, &ACTIONS, AlarmAction::Get)
     }
 }
@@ -141,10 +141,10 @@ const ALARMS: [(&str, AlarmKind); 3] = [
     ("CORRUPT", AlarmKind::Corrupt),
 ];
 
-impl FromMember for AlarmKind {
+impl PlainMember for AlarmKind {
     ghost reads = { read_alarm };
 
-    fn read(_alloc: Global, value: Option<&Value>) -> Result<AlarmKind, Refusal> {
+    fn read(value: Option<&Value>) -> Result<AlarmKind, Refusal> {
         read_choice(value, &ALARMS, AlarmKind::Any)
     }
 }
@@ -157,6 +157,8 @@ const FILTERS: [(&str, EventKind); 2] = [
 /// A filter, by the kind of event that it leaves out.
 impl FromElement for EventKind {
     ghost reads_element = { filter_in };
+
+    ghost element_takes_none = { λ _. Unit {0} };
 
     fn read_element(_alloc: Global, value: &Value) -> Result<EventKind, Refusal> {
         choice(value, &FILTERS).ok_or(Refusal::BadBody)

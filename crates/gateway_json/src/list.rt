@@ -6,8 +6,9 @@ ghost use Rattle.etcd_types.specs.declared.refusal.Refusal.{Refusal};
 ghost use Rattle.etcd_types.specs.declared.refusal.Refusal.TheVariants.{Memory};
 ghost use Rattle.etcd_model.specs.Calls.{result_map};
 ghost use Rattle.etcd_model.specs.Members.{IsAnswer, as_object, read_elements, read_list};
+ghost use Rattle.gateway_json.specs.Taking.{HoldsNone, IfThere, IsFirstRefused};
 
-use crate::member::FromMember;
+use crate::member::HeldMember;
 use etcd_types::{List, Refusal};
 use serde_json::Value;
 use std::alloc::Global;
@@ -16,8 +17,12 @@ use std::alloc::Global;
 pub(crate) trait FromElement: Drop {
     ghost reads_element: { Data → Result Self Refusal };
 
+    /// The elements that take no memory.
+    ghost element_takes_none: { Data → Type 0 };
+
     fn read_element(alloc: Global, value: &Value) -> Result<Self, Refusal>
-        ensures { IsAnswer result (reads_element (view value.now)) };
+        ensures answer { IsAnswer result (reads_element (view value.now)) }
+        ensures exact { element_takes_none (view value.now) → result ≡ reads_element (view value.now) };
 }
 
 /// Reads the elements of a list, one after another; the first fault is told.
@@ -26,6 +31,8 @@ fn read_elements<T: FromElement>(alloc: Global, values: &[Value]) -> Result<List
     ensures ok { IfOk result (λ items. read_elements T.reads_element (items_view values.now) ≡ Ok items) }
     ensures err { IfErr result (λ e. e ≢ Memory
         → read_elements T.reads_element (items_view values.now) ≡ Err e) }
+    ensures exact { IsFirstRefused T.reads_element T.element_takes_none (items_view values.now)
+        → result ≡ read_elements T.reads_element (items_view values.now) }
 {
     let mut items = List::new(alloc);
     for value in values {
@@ -37,8 +44,10 @@ fn read_elements<T: FromElement>(alloc: Global, values: &[Value]) -> Result<List
     Ok(items)
 }
 
-impl<T: FromElement> FromMember for List<T> {
+impl<T: FromElement> HeldMember for List<T> {
     ghost reads = { read_list T.reads_element };
+
+    ghost takes_none = { IfThere (HoldsNone T.reads_element T.element_takes_none) };
 
     #[tactic(auto, unfolding(etcd_model::specs::Members::read_list))]
     fn read(alloc: Global, value: Option<&Value>) -> Result<List<T>, Refusal> {

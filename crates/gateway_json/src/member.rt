@@ -6,6 +6,7 @@ ghost use Rattle.serde_json.specs.View.{view};
 ghost use Rattle.etcd_types.specs.declared.refusal.Refusal.{Refusal};
 ghost use Rattle.etcd_model.specs.Members.{IsAnswer, member_of, unless_null, read_bytes, read_flag};
 ghost use Rattle.etcd_model.specs.Members.{read_signed, read_unsigned, signed_text, unsigned_text};
+ghost use Rattle.gateway_json.specs.Taking.{HasNoSymbol, IfThere};
 
 use crate::names::spelled;
 use crate::spelling::bytes_of_text;
@@ -13,17 +14,33 @@ use etcd_types::{List, MemberName, Refusal};
 use serde_json::Value;
 use std::alloc::Global;
 
-/// What a member is read as.
-pub(crate) trait FromMember: Drop {
+/// What a member is read as that takes no memory: a number, a truth value or one of a table.
+pub(crate) trait PlainMember: Copy {
     ghost reads: { Option Data → Result Self Refusal };
 
     /// Reads a member, or what an absent one stands for.
-    fn read(alloc: Global, value: Option<&Value>) -> Result<Self, Refusal>
-        ensures { IsAnswer result (reads (option_map (λ v. view v.now) value.entry)) };
+    fn read(value: Option<&Value>) -> Result<Self, Refusal>
+        ensures { result ≡ reads (option_map (λ v. view v.now) value.entry) };
 }
 
-impl FromMember for List<u8> {
+/// What a member is read as that takes memory: bytes or a list.
+pub(crate) trait HeldMember: Drop {
+    ghost reads: { Option Data → Result Self Refusal };
+
+    /// The members that take none.
+    ghost takes_none: { Option Data → Type 0 };
+
+    /// Reads a member, or what an absent one stands for.
+    fn read(alloc: Global, value: Option<&Value>) -> Result<Self, Refusal>
+        ensures answer { IsAnswer result (reads (option_map (λ v. view v.now) value.entry)) }
+        ensures exact { takes_none (option_map (λ v. view v.now) value.entry)
+            → result ≡ reads (option_map (λ v. view v.now) value.entry) };
+}
+
+impl HeldMember for List<u8> {
     ghost reads = { read_bytes };
+
+    ghost takes_none = { IfThere HasNoSymbol };
 
     #[tactic(auto, unfolding(etcd_model::specs::Members::read_bytes))]
     fn read(alloc: Global, value: Option<&Value>) -> Result<List<u8>, Refusal> {
@@ -53,11 +70,11 @@ fn signed_of_text(text: &str) -> Option<i64>
     text.parse().ok()
 }
 
-impl FromMember for i64 {
+impl PlainMember for i64 {
     ghost reads = { read_signed };
 
     #[tactic(auto, unfolding(etcd_model::specs::Members::read_signed))]
-    fn read(_alloc: Global, value: Option<&Value>) -> Result<i64, Refusal> {
+    fn read(value: Option<&Value>) -> Result<i64, Refusal> {
         let Some(value) = value else {
             return Ok(0);
         };
@@ -87,7 +104,7 @@ fn unsigned_of_text(text: &str) -> Option<u64>
 /// other is refused.
 #[tactic(auto, unfolding(etcd_model::specs::Members::read_unsigned))]
 pub fn read_unsigned(value: Option<&Value>) -> Result<u64, Refusal>
-    ensures { IsAnswer result (read_unsigned (option_map (λ v. view v.now) value.entry)) }
+    ensures { result ≡ read_unsigned (option_map (λ v. view v.now) value.entry) }
 {
     let Some(value) = value else {
         return Ok(0);
@@ -100,19 +117,19 @@ pub fn read_unsigned(value: Option<&Value>) -> Result<u64, Refusal>
     number.ok_or(Refusal::BadBody)
 }
 
-impl FromMember for u64 {
+impl PlainMember for u64 {
     ghost reads = { read_unsigned };
 
-    fn read(_alloc: Global, value: Option<&Value>) -> Result<u64, Refusal> {
+    fn read(value: Option<&Value>) -> Result<u64, Refusal> {
         read_unsigned(value)
     }
 }
 
-impl FromMember for bool {
+impl PlainMember for bool {
     ghost reads = { read_flag };
 
     #[tactic(auto, unfolding(etcd_model::specs::Members::read_flag))]
-    fn read(_alloc: Global, value: Option<&Value>) -> Result<bool, Refusal> {
+    fn read(value: Option<&Value>) -> Result<bool, Refusal> {
         match value {
             None => Ok(false),
             Some(value) => value.as_bool().ok_or(Refusal::BadBody),
@@ -139,13 +156,22 @@ pub(crate) fn member_of<'v>(value: &'v Value, name: MemberName) -> Option<&'v Va
     }
 }
 
-/// Reads the member of that name.
-pub(crate) fn read_member<T: FromMember>(
+/// Reads the member of that name, which takes no memory.
+pub(crate) fn read_plain<T: PlainMember>(value: &Value, name: MemberName) -> Result<T, Refusal>
+    ensures { result ≡ T.reads (member_of name (view value.now)) }
+{
+    T::read(member_of(value, name))
+}
+
+/// Reads the bytes or the list of that name.
+pub(crate) fn read_held<T: HeldMember>(
     alloc: Global,
     value: &Value,
     name: MemberName,
 ) -> Result<T, Refusal>
-    ensures { IsAnswer result (T.reads (member_of name (view value.now))) }
+    ensures answer { IsAnswer result (T.reads (member_of name (view value.now))) }
+    ensures exact { T.takes_none (member_of name (view value.now))
+        → result ≡ T.reads (member_of name (view value.now)) }
 {
     T::read(alloc, member_of(value, name))
 }

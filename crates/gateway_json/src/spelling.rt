@@ -1,5 +1,5 @@
 //! The bytes that a JSON string spells.
-ghost use Rattle.std.specs.Prelude.{◌≡◌, ◌≢◌, ◌↔◌, List, ℕ, IfOk, Ok, Err, Some, map};
+ghost use Rattle.std.specs.Prelude.{◌≡◌, ◌≢◌, ◌↔◌, List, ℕ, IfOk, Ok, Err, Some, length, map};
 ghost use Rattle.std.specs.Result.{result_ok};
 ghost use Rattle.base64.specs.Engines.{standard_no_pad};
 ghost use Rattle.base64.specs.GeneralPurpose.{IsBytes, decode_of};
@@ -80,12 +80,16 @@ fn bytes_of_symbols(alloc: Global, symbols: &[u8]) -> Result<List<u8>, Refusal>
 }
 
 /// The bytes that a text spells in base64, of either alphabet, with padding or without. A text that
-/// spells none is refused.
+/// spells none is refused. One with no symbols takes no memory.
 #[tactic(auto, unfolding(etcd_model::specs::Spelling::spelled_bytes))]
 pub fn bytes_of_text(alloc: Global, text: &str) -> Result<List<u8>, Refusal>
     ensures value { IsAnswer result (or_bad (spelled_bytes text.now)) }
+    ensures exact { length text.now ≡ 0 → result ≡ or_bad (spelled_bytes text.now) }
     ensures spells { (b : List ℕ) → IsBytes b
         → (spelled_bytes text.now ≡ Some b) ↔ Spells text.now b }
 {
+    if text.is_empty() {
+        return Ok(List::new(alloc));
+    }
     bytes_of_symbols(alloc, without_padding(text.as_bytes()))
 }

@@ -3,10 +3,11 @@ ghost use Rattle.std.specs.Prelude.{◌≡◌, Ok};
 ghost use Rattle.serde_json.specs.View.{view};
 ghost use Rattle.etcd_model.specs.Members.{IsAnswer};
 ghost use Rattle.etcd_model.specs.Requests.{compare_in, op_in, operand_of, read_compare, read_op, read_txn};
+ghost use Rattle.gateway_json.specs.Taking.{CompareTakesNone, OpTakesNone, TxnTakesNone};
 
 use crate::kv::{read_delete, read_put, read_range};
 use crate::list::{FromElement, object};
-use crate::member::{member_of, read_member};
+use crate::member::{member_of, read_held, read_plain};
 use etcd_types::{Compare, CompareTarget, List, MemberName, Op, Operand, Refusal, TxnReq};
 use serde_json::Value;
 use std::alloc::Global;
@@ -40,29 +41,32 @@ impl Operands {
 /// Reads a compare. Every operand is read, so that a fault in any of them is told.
 #[tactic(auto, unfolding(etcd_model::specs::Requests::read_compare))]
 fn read_compare(alloc: Global, value: &Value) -> Result<Compare, Refusal>
-    ensures { IsAnswer result (read_compare (view value.now)) }
+    ensures answer { IsAnswer result (read_compare (view value.now)) }
+    ensures exact { CompareTakesNone (view value.now) → result ≡ read_compare (view value.now) }
 {
-    let key = read_member(alloc, value, MemberName::Key)?;
-    let range_end = read_member(alloc, value, MemberName::RangeEnd)?;
-    let result = read_member(alloc, value, MemberName::Result)?;
-    let target = read_member(alloc, value, MemberName::Target)?;
+    let key = read_held(alloc, value, MemberName::Key)?;
+    let range_end = read_held(alloc, value, MemberName::RangeEnd)?;
+    let wanted = read_plain(value, MemberName::Result)?;
+    let target = read_plain(value, MemberName::Target)?;
     let operands = Operands {
-        version: read_member(alloc, value, MemberName::Version)?,
-        create_revision: read_member(alloc, value, MemberName::CreateRevision)?,
-        mod_revision: read_member(alloc, value, MemberName::ModRevision)?,
-        value: read_member(alloc, value, MemberName::Value)?,
-        lease: read_member(alloc, value, MemberName::Lease)?,
+        version: read_plain(value, MemberName::Version)?,
+        create_revision: read_plain(value, MemberName::CreateRevision)?,
+        mod_revision: read_plain(value, MemberName::ModRevision)?,
+        value: read_held(alloc, value, MemberName::Value)?,
+        lease: read_plain(value, MemberName::Lease)?,
     };
     Ok(Compare {
         key,
         range_end,
-        result,
+        result: wanted,
         operand: operands.of(target),
     })
 }
 
 impl FromElement for Compare {
     ghost reads_element = { compare_in };
+
+    ghost element_takes_none = { CompareTakesNone };
 
     fn read_element(alloc: Global, value: &Value) -> Result<Compare, Refusal> {
         read_compare(alloc, object(value)?)
@@ -73,7 +77,8 @@ impl FromElement for Compare {
 /// is not looked at.
 #[tactic(auto, unfolding(etcd_model::specs::Requests::read_op))]
 fn read_op(alloc: Global, value: &Value) -> Result<Op, Refusal>
-    ensures { IsAnswer result (read_op (view value.now)) }
+    ensures answer { IsAnswer result (read_op (view value.now)) }
+    ensures exact { OpTakesNone (view value.now) → result ≡ read_op (view value.now) }
 {
     let range = member_of(value, MemberName::RequestRange);
     let put = member_of(value, MemberName::RequestPut);
@@ -91,6 +96,8 @@ fn read_op(alloc: Global, value: &Value) -> Result<Op, Refusal>
 impl FromElement for Op {
     ghost reads_element = { op_in };
 
+    ghost element_takes_none = { OpTakesNone };
+
     fn read_element(alloc: Global, value: &Value) -> Result<Op, Refusal> {
         read_op(alloc, object(value)?)
     }
@@ -99,11 +106,12 @@ impl FromElement for Op {
 /// Reads a transaction.
 #[tactic(auto, unfolding(etcd_model::specs::Requests::read_txn))]
 pub(crate) fn read_txn(alloc: Global, value: &Value) -> Result<TxnReq, Refusal>
-    ensures { IsAnswer result (read_txn (view value.now)) }
+    ensures answer { IsAnswer result (read_txn (view value.now)) }
+    ensures exact { TxnTakesNone (view value.now) → result ≡ read_txn (view value.now) }
 {
     Ok(TxnReq {
-        compare: read_member(alloc, value, MemberName::Compare)?,
-        success: read_member(alloc, value, MemberName::Success)?,
-        failure: read_member(alloc, value, MemberName::Failure)?,
+        compare: read_held(alloc, value, MemberName::Compare)?,
+        success: read_held(alloc, value, MemberName::Success)?,
+        failure: read_held(alloc, value, MemberName::Failure)?,
     })
 }
