@@ -2,24 +2,39 @@
 ghost use Rattle.std.specs.Prelude.{◌≡◌, IfOk, IsOk, true};
 ghost use Rattle.etcd_model.specs.ReplyText.{memory_answer, text};
 ghost use Rattle.host_front.specs.Answering.{has_fixed_text, Refuses};
+ghost use Rattle.host_front.specs.Bodies.{body_bytes};
 
 use etcd_types::{Mem, Refusal, Reply};
 use gateway_text::{memory_text, write_reply};
 use std::alloc::Global;
 use std::marker::Model;
 
-/// A body's bytes: made for the answer, or always the same.
+/// A body's bytes.
 #[derive(Drop)]
-enum Body {
+pub enum Body {
+    /// Made for this answer.
     Made(Vec<u8>),
+    /// Always the same.
     Fixed(&'static [u8]),
 }
 
-/// A status of HTTP and a body.
+impl Body {
+    /// The bytes, made or fixed.
+    pub fn bytes(&self) -> &[u8]
+        ensures { result.now ≡ body_bytes self.now }
+    {
+        match self {
+            Body::Made(bytes) => bytes.as_slice(),
+            Body::Fixed(bytes) => bytes,
+        }
+    }
+}
+
+/// A status of HTTP and a body. Contracts see the body as its bytes.
 #[derive(Drop)]
 pub struct Answer {
-    status: u16,
-    body: Body,
+    pub status: u16,
+    pub body: Body,
 }
 
 impl Model for Answer {
@@ -32,23 +47,6 @@ impl Model for Answer {
 }
 
 impl Answer {
-    /// The status of HTTP.
-    pub fn status(&self) -> u16
-        ensures { result ≡ self.now.status }
-    {
-        self.status
-    }
-
-    /// The body's bytes.
-    pub fn body(&self) -> &[u8]
-        ensures { result.now ≡ self.now.body }
-    {
-        match &self.body {
-            Body::Made(bytes) => bytes.as_slice(),
-            Body::Fixed(bytes) => bytes,
-        }
-    }
-
     /// The text of a reply. It fails only for want of memory, and takes none for a reply with a fixed text.
     pub(crate) fn to(alloc: Global, reply: &Reply) -> Mem<Answer>
         ensures told { IfOk result (λ answer. answer ≡ text reply.now) }

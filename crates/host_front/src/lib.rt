@@ -11,7 +11,7 @@ mod law;
 mod line;
 mod living;
 
-pub use answer::Answer;
+pub use answer::{Answer, Body};
 pub use event::{HostEvent, LentEvent};
 pub use front::Front;
 pub use law::{events_alone, two_lived_worlds, two_worlds};

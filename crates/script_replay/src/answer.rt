@@ -41,8 +41,8 @@ pub fn write_answer<W: Write>(writer: &mut AnswerWriter<W>, answer: &LineAnswer)
         }
         LineAnswer::Event(answer) => {
             let mut digits = itoa::Buffer::new();
-            writer.write_bytes(digits.format(answer.status()).as_bytes())?;
-            write_body(writer, answer.body())
+            writer.write_bytes(digits.format(answer.status).as_bytes())?;
+            write_body(writer, answer.body.bytes())
         }
     }
 }

@@ -1,6 +1,7 @@
 use Rattle.std.proofs.Common.{◌∙◌, refl, ap, decimal}
 use Rattle.std.proofs.lemmas.Result.{on_err_weaker}
 use Rattle.cell_arena.proofs.Fronts.{held_err}
+use Rattle.etcd_model.specs.ReplyText.{Answer}
 use Rattle.script_replay.specs.Answers.{word_of}
 use Rattle.script_replay.proofs.AnswerLemmas.{no_cut, word_cut, end_cut, status_cut, told_cut}
 use Rattle.script_replay.proofs.answer.write_answer.Goals as goal
@@ -17,7 +18,7 @@ returns-in_err-write_bytes-in-No-2-clause-cut g c =
 
 pub returns-in_err-write_bytes-in-Event-clause-cut : goal.returns-in_err-write_bytes-in-Event-clause-cut
 returns-in_err-write_bytes-in-Event-clause-cut g c =
-    let text = c.as_bytes-in-Event.ensures.value ∙ c.format.ensures.text ∙ ap decimal c.status.ensures in
+    let text = c.as_bytes-in-Event.ensures.value ∙ c.format.ensures.text ∙ ap decimal (ap (λ (a : Answer). a.status) c.answer.view_is) in
     held_err _ _ (status_cut c.args.answer.now c.in-Event.answer _ c.in-Event.is text _ _ c.in_err-write_bytes-in-Event.ensures.cut)
 
 pub returns-in_ok-write_bytes-in-No-2-clause-cut : goal.returns-in_ok-write_bytes-in-No-2-clause-cut
@@ -29,8 +30,8 @@ returns-in_ok-write_bytes-in-No-2-clause-cut g c =
 
 pub returns-in_ok-write_bytes-in-Event-clause-cut : goal.returns-in_ok-write_bytes-in-Event-clause-cut
 returns-in_ok-write_bytes-in-Event-clause-cut g c =
-    let text = c.as_bytes-in-Event.ensures.value ∙ c.format.ensures.text ∙ ap decimal c.status.ensures in
+    let text = c.as_bytes-in-Event.ensures.value ∙ c.format.ensures.text ∙ ap decimal (ap (λ (a : Answer). a.status) c.answer.view_is) in
     on_err_weaker _
-    (told_cut c.args.answer.now c.in-Event.answer _ c.in-Event.is text _ _ _ c.body.result.now c.body.ensures
-    c.in_ok-write_bytes-in-Event.ensures.whole)
+    (told_cut c.args.answer.now c.in-Event.answer _ c.in-Event.is text _ _ _ c.bytes.result.now
+    (c.bytes.ensures ∙ ap (λ (a : Answer). a.body) c.answer.view_is) c.in_ok-write_bytes-in-Event.ensures.whole)
     c.write_body.ensures.cut
