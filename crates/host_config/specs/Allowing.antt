@@ -1,5 +1,5 @@
 -- What the clients of a tenant may take.
-use Rattle.std.specs.Prelude.{◌≡◌, ℕ, ◌+◌, ◌*◌, ◌≤◌, codes, min, Some, IfSome}
+use Rattle.std.specs.Prelude.{◌≡◌, ℕ, ◌+◌, ◌*◌, ◌≤◌, codes, min, Some, IfSome, option_map}
 use Rattle.serde_json.specs.Data.{Data}
 use Rattle.etcd_types.specs.declared.limits.TheConstants.{CELL_BYTES}
 use Rattle.fair_turns.specs.declared.budget.TheConstants.{DEFAULT_BUDGET}
@@ -26,14 +26,14 @@ IsBudget b = (min_budget ≤ b) × (b ≤ max_budget)
 pub record IsAllowance (d : Data) (quota : ℕ) (a : Allowance) : Type 0 where
   pub budget : number (codes "budget") (usual_budget quota) d ≡ Some a.budget
   pub bounded : IsBudget a.budget
-  pub connections : told_number (codes "open_connections") d ≡ a.open_connections
+  pub connections : told_number (codes "open_connections") d ≡ option_map Some a.open_connections
   pub some : IfSome a.open_connections (λ n. 1 ≤ n)
   pub retention : retention_in d ≡ Some a.retention
 
 -- the changes that the members of an object tell
 pub record AreChanges (d : Data) (c : Changes) : Type 0 where
-  pub quota : told_number (codes "quota") d ≡ c.quota
-  pub budget : told_number (codes "budget") d ≡ c.budget
+  pub quota : told_number (codes "quota") d ≡ option_map Some c.quota
+  pub budget : told_number (codes "budget") d ≡ option_map Some c.budget
   pub bounded : IfSome c.budget IsBudget
-  pub connections : told_number (codes "open_connections") d ≡ c.open_connections
+  pub connections : told_number (codes "open_connections") d ≡ option_map Some c.open_connections
   pub some : IfSome c.open_connections (λ n. 1 ≤ n)

@@ -1,6 +1,6 @@
 -- A configuration, by the members of its object.
 use Rattle.std.specs.Prelude.{◌≡◌, ℕ, ◌≤◌, ◌<◌, ⊤, List, [], ◌∷◌, codes, length, string_bytes, is_some}
-use Rattle.std.specs.Prelude.{Option, Some, None, option_and_then, option_map, IfSome, MatchOption}
+use Rattle.std.specs.Prelude.{Option, Some, None, option_map, IfSome, MatchOption}
 use Rattle.std.specs.Net.Addr.{MatchIp, IsLoopbackV4, IsLoopbackV6}
 use Rattle.std.specs.Net.Socket.{socket_ip}
 use Rattle.serde_json.specs.Data.{Data, Items, no_items, item}
@@ -58,14 +58,14 @@ IsGuarded o =
     MatchOption o.token (MatchIp (socket_ip o.listen) IsLoopbackV4 IsLoopbackV6)
     (λ token. 0 < length token.items)
 
--- the token that an operator brings
-unfoldable pub token_in : Data → Option (List ℕ)
-token_in d = option_and_then as_str (member (codes "operator_token") d)
+-- the token that an operator brings: none where it is absent, and some none where it is no text
+unfoldable pub token_in : Data → Option (Option (List ℕ))
+token_in d = option_map as_str (member (codes "operator_token") d)
 
 -- the operator is served where an address is told, and brings the token that is told
 pub record IsOperator (d : Data) (o : Option OperatorConfig) : Type 0 where
   pub told : is_some (member (codes "operator") d) ≡ is_some o
-  pub token : IfSome o (λ o. option_map (λ t. t.items) o.token ≡ token_in d)
+  pub token : IfSome o (λ o. option_map (λ t. Some t.items) o.token ≡ token_in d)
   pub guarded : IfSome o IsGuarded
 
 pub record IsConfig (d : Data) (c : Config) : Type 0 where
@@ -74,9 +74,9 @@ pub record IsConfig (d : Data) (c : Config) : Type 0 where
   pub workers : number (codes "workers") 4 d ≡ Some c.workers
   pub some : 1 ≤ c.workers
   pub few : c.workers ≤ MAX_WORKERS
-  pub connections : told_number (codes "connections") d ≡ c.connections
+  pub connections : told_number (codes "connections") d ≡ option_map Some c.connections
   pub patience : IsPatience d c.patience
-  pub open_connections : told_number (codes "open_connections") d ≡ c.open_connections
+  pub open_connections : told_number (codes "open_connections") d ≡ option_map Some c.open_connections
   pub some_open : IfSome c.open_connections (λ n. 1 ≤ n)
   pub tenants : HasTenants d c.tenants.items c.allowances.items
   pub lawful : new_fault c.segments c.tenants.items ≡ None

@@ -1,5 +1,5 @@
 -- The members of an object.
-use Rattle.std.specs.Prelude.{ℕ, List, Option, Some, None, option_and_then}
+use Rattle.std.specs.Prelude.{ℕ, List, Option, Some, None, option_and_then, option_map}
 use Rattle.serde_json.specs.Data.{Data}
 use Rattle.serde_json.specs.Find.{as_str, get}
 use Rattle.etcd_model.specs.Members.{unless_null, unsigned_in}
@@ -8,9 +8,9 @@ use Rattle.etcd_model.specs.Members.{unless_null, unsigned_in}
 unfoldable pub member : List ℕ → Data → Option Data
 member name d = unless_null (get name d)
 
--- a number or a text of one; none where it is absent
-unfoldable pub told_number : List ℕ → Data → Option ℕ
-told_number name d = option_and_then unsigned_in (member name d)
+-- a number or a text of one: none where it is absent, and some none where it can't be read
+unfoldable pub told_number : List ℕ → Data → Option (Option ℕ)
+told_number name d = option_map unsigned_in (member name d)
 
 -- a number, or what an absent one stands for
 abbrev pub number_or : ℕ → Option Data → Option ℕ

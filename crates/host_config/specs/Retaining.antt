@@ -52,12 +52,12 @@ kept_or (Some mode) (Some d) = kept_by mode d
 unfoldable pub retention_in : Data → Option Retention
 retention_in d = kept_or (mode_in d) (member (codes "auto_compaction_retention") d)
 
--- a change: none where no retention is told
-abbrev pub change_or : Option Data → Option Retention → Option Retention
+-- a change: none where no retention is told, and some none where it can't be read
+abbrev pub change_or : Option Data → Option Retention → Option (Option Retention)
 change_or None kept = None
-change_or (Some d) kept = kept
+change_or (Some d) kept = Some kept
 
-unfoldable pub retention_change_in : Data → Option Retention
+unfoldable pub retention_change_in : Data → Option (Option Retention)
 retention_change_in d = change_or (member (codes "auto_compaction_retention") d) (retention_in d)
 
 -- how a retention is told: the name of what it counts, and its text

@@ -141,7 +141,7 @@ fn workers_of(object: &Value) -> Result<usize, ConfigFault>
 }
 
 fn connections_of(object: &Value) -> Result<Option<u32>, ConfigFault>
-    ensures { IfOk result (λ n. specs.told_number (codes "connections") (view object.now) ≡ n) }
+    ensures { IfOk result (λ n. specs.told_number (codes "connections") (view object.now) ≡ option_map Some n) }
 {
     match told_number(object, "connections")? {
         None => Ok(None),
@@ -233,7 +233,7 @@ fn operator_of(alloc: Global, object: &Value) -> Result<Option<OperatorConfig>, 
 
 #[tactic(auto, unfolding(crate::specs::Configuring::token_in, crate::specs::Numbers::text))]
 fn token_of(alloc: Global, object: &Value) -> Result<Option<Vec<u8>>, ConfigFault>
-    ensures { IfOk result (λ token. option_map (λ t. t.items) token ≡ token_in (view object.now)) }
+    ensures { IfOk result (λ token. option_map (λ t. Some t.items) token ≡ token_in (view object.now)) }
 {
     match member(object, "operator_token") {
         None => Ok(None),

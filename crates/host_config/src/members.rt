@@ -74,7 +74,7 @@ pub(crate) fn number(object: &Value, name: &str, absent: u64) -> Result<u64, Con
 /// The number of that name, if there is one.
 #[tactic(auto, unfolding(crate::specs::Numbers::told_number))]
 pub(crate) fn told_number(object: &Value, name: &str) -> Result<Option<u64>, ConfigFault>
-    ensures number { IfOk result (λ n. specs.told_number name.now (view object.now) ≡ n) }
+    ensures number { IfOk result (λ n. specs.told_number name.now (view object.now) ≡ option_map Some n) }
     ensures fault { IfErr result (λ fault. fault ≡ ConfigFault.Unreadable) }
 {
     match member(object, name) {

@@ -48,7 +48,7 @@ pub(crate) fn retention_of(object: &Value) -> Result<Retention, ConfigFault>
 /// The change that is asked for; none where nothing is told. A mode by itself says nothing.
 #[tactic(auto, unfolding(crate::specs::Retaining::retention_change_in))]
 pub fn retention_change_of(object: &Value) -> Result<Option<Retention>, ConfigFault>
-    ensures change { IfOk result (λ change. retention_change_in (view object.now) ≡ change) }
+    ensures change { IfOk result (λ change. retention_change_in (view object.now) ≡ option_map Some change) }
     ensures fault { IfErr result (λ fault. fault ≡ ConfigFault.Unreadable) }
 {
     let has_mode = member(object, "auto_compaction_mode").is_some();

@@ -1,5 +1,5 @@
 //! What a tenant is told to have: its quota, its audit, and what its clients may take.
-ghost use Rattle.std.specs.Prelude.{◌≡◌, ◌≤◌, codes, IfErr, IfOk, IfSome, Some};
+ghost use Rattle.std.specs.Prelude.{◌≡◌, ◌≤◌, codes, IfErr, IfOk, IfSome, Some, option_map};
 ghost use Rattle.serde_json.specs.View.{view};
 ghost use Rattle.host_config.specs.Allowing.{AreChanges, IsAllowance, IsBudget, usual_budget};
 ghost use Rattle.host_config.specs.Numbers as specs;
@@ -55,7 +55,7 @@ pub fn allowance_of(object: &Value, quota: u64) -> Result<Allowance, ConfigFault
 /// A number of connections, from one to those that numbers of 32 bits have.
 pub(crate) fn open_connections_of(object: &Value) -> Result<Option<usize>, ConfigFault>
     ensures told { IfOk result
-        (λ most. specs.told_number (codes "open_connections") (view object.now) ≡ most) }
+        (λ most. specs.told_number (codes "open_connections") (view object.now) ≡ option_map Some most) }
     ensures some { IfOk result (λ most. IfSome most (λ n. 1 ≤ n)) }
     ensures fault { IfErr result (λ fault. fault ≡ ConfigFault.Unreadable) }
 {
@@ -120,7 +120,7 @@ pub fn changes_of(object: &Value) -> Result<Changes, ConfigFault>
 /// How many segments are to be made, by a body of the operator.
 pub fn more_segments_of(object: &Value) -> Result<u64, ConfigFault>
     ensures count { IfOk result
-        (λ count. specs.told_number (codes "segments") (view object.now) ≡ Some count) }
+        (λ count. specs.told_number (codes "segments") (view object.now) ≡ Some (Some count)) }
     ensures fault { IfErr result (λ fault. fault ≡ ConfigFault.Unreadable) }
 {
     match told_number(object, "segments")? {
