@@ -1,6 +1,8 @@
-//! A script over streams that fail: that is told, and remembered.
-use script_replay::{AnswerWriter, ReplayFault, ScriptReader, run};
-use std::alloc::Global;
+//! A script is answered whole, and over streams that fail: that is told, and remembered.
+use etcd_types::Mem;
+use host_front::{LentEvent, LentLine, LineAnswer};
+use script_replay::{AnswerWriter, Asked, Replay, ReplayFault, ScriptReader, run};
+use std::alloc::{AllocError, Global};
 use std::io::{self, BufReader, Error, ErrorKind, Read, Write};
 use std::process::Abort;
 
@@ -127,13 +129,55 @@ fn failures_are_told_and_remembered(rt: HostRuntime) -> io::Result<()> {
     Ok(())
 }
 
+/// What a put is asked and answered, on a tenant that was just added.
+const PUT: &[u8] =
+    b"add one 7 1024 1\ncall POST /t/one/v3/kv/put {\"key\":\"Zm9v\",\"value\":\"YmFy\"}\n";
+
+const PUT_ANSWERS: &[u8] =
+    b"ok\n200 {\"header\":{\"cluster_id\":\"7\",\"member_id\":\"1\",\"raft_term\":\"1\",\"revision\":\"2\"}}\n";
+
 #[test]
-fn a_writer_that_takes_nothing_has_failed(rt: HostRuntime) -> io::Result<()> {
-    let mut room = [0; 4];
-    let mut reader = ScriptReader::new(SCRIPT);
+fn a_script_is_answered_whole(rt: HostRuntime) {
+    let mut room = [0; PUT_ANSWERS.len()];
+    let mut reader = ScriptReader::new(PUT);
     let mut writer = AnswerWriter::new(room.as_mut_slice());
     let result = run(rt.alloc(), &mut reader, &mut writer);
-    assert!(rt; result == Err(ReplayFault::Io));
-    assert!(rt; writer.has_failed() && !reader.has_failed());
+    assert!(rt; result.is_ok() && !writer.has_failed() && !reader.has_failed());
+    drop(writer);
+    assert!(rt; room.as_slice() == PUT_ANSWERS);
+}
+
+#[test]
+fn a_replay_answers_line_by_line(rt: HostRuntime) -> Mem<()> {
+    let mut replay = Replay::new();
+    let add = Asked::Live(LentLine::Add {
+        name: b"one",
+        cluster: 7,
+        quota: 1024,
+        first: 1,
+    });
+    assert!(rt; matches!(replay.answer(rt.alloc(), &add)?, LineAnswer::Done));
+    let tick = Asked::Live(LentLine::Event(LentEvent::Tick {
+        tenant: b"one",
+        moment: 5,
+    }));
+    let LineAnswer::Event(told) = replay.answer(rt.alloc(), &tick)? else {
+        return Err(AllocError);
+    };
+    assert!(rt; told.status() == 204 && told.body().is_empty());
     Ok(())
+}
+
+#[test]
+fn a_writer_that_takes_no_more_has_failed(rt: HostRuntime) {
+    let mut room = [0; PUT_ANSWERS.len()];
+    for taken in 0..room.len() {
+        let mut reader = ScriptReader::new(PUT);
+        let mut writer = AnswerWriter::new(&mut room[..taken]);
+        let result = run(rt.alloc(), &mut reader, &mut writer);
+        assert!(rt; result == Err(ReplayFault::Io));
+        assert!(rt; writer.has_failed() && !reader.has_failed());
+        drop(writer);
+        assert!(rt; room[..taken] == PUT_ANSWERS[..taken]);
+    }
 }
