@@ -17,9 +17,11 @@ def tenant_of(name, quota=1024, **members):
     return {"name": name, "cluster_id": "7", "quota": quota, **members}
 
 
-def run_to_end(program, given, *words):
-    """What becomes of the program that is given such a configuration, in bytes, and ends by itself."""
-    return subprocess.run([program, *words], input=given, capture_output=True, timeout=SECONDS, check=False)
+def run_to_end(program, given, *words, variables=None):
+    """What becomes of the program that is given such a configuration, in bytes, and ends by itself; it runs under some more
+    variables if there are any."""
+    variables = {**os.environ, **(variables or {})}
+    return subprocess.run([program, *words], input=given, capture_output=True, timeout=SECONDS, check=False, env=variables)
 
 
 class Server(Process):
