@@ -103,11 +103,12 @@ impl From<ListenFault> for HostFault {
 
 impl From<ServeFault> for HostFault {
     fn from(fault: ServeFault) -> HostFault
-        ensures socket { fault ≡ ServeFault.Socket → result ≡ HostFault.Io }
+        ensures io { fault ≢ ServeFault.Memory → result ≡ HostFault.Io }
         ensures memory { fault ≡ ServeFault.Memory → result ≡ HostFault.Memory }
     {
         match fault {
-            ServeFault::Socket => HostFault::Io,
+            // As many seats are made as the configuration asks for.
+            ServeFault::Socket | ServeFault::TooFew => HostFault::Io,
             ServeFault::Memory => HostFault::Memory,
         }
     }

@@ -5,7 +5,7 @@ ghost use Rattle.etcd_host.specs.Closing.{HaveClosed, HaveDiffered};
 use crate::fault::HostFault;
 use etcd_types::limits::MAX_CONFIG;
 use host_operator::{Operator, OperatorSocket, serve_operator};
-use host_sessions::{Config, Listening, Sessions, read_config};
+use host_sessions::{Config, Ended, Listening, Sessions, read_config};
 use std::alloc::{AllocGlobal, Global};
 use std::io::{Input, Read};
 use std::mem;
@@ -76,7 +76,7 @@ where
     };
     let socket = operator_socket(&rt, config)?;
     println!(rt; "listening on {address}")?;
-    let seats = match socket {
+    let ended = match socket {
         None => Sessions::serve(rt, listening, &*registry, seats, &OpenGate)?,
         Some(socket) => {
             let address = socket.address()?;
@@ -85,7 +85,7 @@ where
         }
     };
     println!(rt; "ended")?;
-    Ok(seats)
+    Ok(ended.seats)
 }
 
 /// Where the operator's connections come in, if the configuration has an address for them.
@@ -110,7 +110,7 @@ fn serve_operated<R>(
     seats: Vec<Seat>,
     listening: Listening,
     socket: OperatorSocket,
-) -> Result<Vec<Seat>, HostFault>
+) -> Result<Ended, HostFault>
 where
     R: Wait
         + Threads

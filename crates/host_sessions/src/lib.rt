@@ -9,6 +9,6 @@ mod sessions;
 
 pub use connection_table::{Allowance, Patience};
 pub use host_config::{Config, ConfigFault, OperatorConfig, read_config};
-pub use sessions::{ListenFault, Sessions};
+pub use sessions::{Ended, ListenFault, Sessions};
 pub use tenant_scheduler::Jobs;
 pub use tenant_server::{End, Listening, Opened, ServeFault};

@@ -1,6 +1,10 @@
 //! Listens, and serves a registry.
+ghost use Rattle.std.specs.Prelude.{◌≡◌, length, true, Err};
+ghost use Rattle.connection_table.specs.declared.allowance.TheConstants.{LOOPS};
+ghost use Rattle.tenant_server.specs.Threads.{are_too_few};
+
 use host_config::Config;
-use std::alloc::AllocGlobal;
+use std::alloc::{AllocGlobal, Global};
 use std::io;
 use std::net::{Net, SocketAddr};
 use std::random::RandomSource;
@@ -32,6 +36,27 @@ impl ListenFault {
     }
 }
 
+/// What serving leaves.
+#[derive(Drop)]
+pub struct Ended {
+    /// How many connections were accepted, up to 4,294,967,295.
+    pub connections: u32,
+    /// The seats that were given, with the calls that each has made.
+    pub seats: Vec<Seat>,
+}
+
+impl Ended {
+    fn of<'x, G: Gate>(
+        alloc: Global,
+        ended: tenant_server::Ended<SeatedCalls<'x, G>>,
+    ) -> Result<Ended, ServeFault> {
+        Ok(Ended {
+            connections: ended.connections,
+            seats: SeatedCalls::into_seats(alloc, ended.calls)?,
+        })
+    }
+}
+
 /// HTTP/1.1 in front of a registry.
 pub struct Sessions;
 
@@ -51,6 +76,7 @@ impl Sessions {
             connections: config.connections,
             open_connections: config.open_connections,
             patience: config.patience,
+            workers: config.workers,
             allowances,
         };
         match Listening::bind(rt, address, terms) {
@@ -59,7 +85,7 @@ impl Sessions {
         }
     }
 
-    /// The server of a registry's tenants, with a thread for each of so many seats.
+    /// The server of a registry's tenants, with a thread for each of so many seats. How many there have to be says `serve`.
     pub fn open<R>(
         rt: R,
         listening: Listening,
@@ -77,21 +103,27 @@ impl Sessions {
             + Send
             + Sync
             + 'static,
+        ensures few { are_too_few seats LOOPS listening.terms.workers ≡ true
+            → result ≡ Err ServeFault.TooFew }
     {
+        if listening.needs_more(seats) {
+            return Err(ServeFault::TooFew);
+        }
         let keys = registry.keys(rt.alloc())?;
         Opened::of(rt, listening, keys, seats)
     }
 
-    /// Serves a registry until as many connections as were told have ended, and hands the seats back. There has to
-    /// be a seat for the clock, the pump, the catch-up worker and each of the four loops; every other one is a
-    /// worker's. With fewer than eight, or where a thread can't be made, that is out of memory.
+    /// Serves a registry until as many connections as were told have ended, each as `serve_one` serves one, and hands
+    /// the seats back. There has to be a seat for each worker of the configuration, for the clock, the pump, the
+    /// catch-up worker and each of the four loops: `Config::seats`. Every other one is a worker's too. With fewer, that
+    /// is too few. Where a thread can't be made, that is out of memory.
     pub fn serve<'x, R, G>(
         rt: R,
         listening: Listening,
         registry: &'x Registry,
         seats: Vec<Seat>,
         gate: &'x G,
-    ) -> Result<Vec<Seat>, ServeFault>
+    ) -> Result<Ended, ServeFault>
     where
         R: Wait
             + Threads
@@ -104,11 +136,15 @@ impl Sessions {
             + Sync
             + 'static,
         G: Gate + Sync,
+        ensures few { are_too_few (length seats.items) LOOPS listening.terms.workers ≡ true
+            → result ≡ Err ServeFault.TooFew }
     {
         let alloc = rt.alloc();
         let opened = Sessions::open(rt, listening, registry, seats.len())?;
-        let calls = opened.run(rt, SeatedCalls::all(alloc, seats, gate)?)?;
-        Ok(SeatedCalls::into_seats(alloc, calls)?)
+        Ended::of(
+            alloc,
+            opened.run(rt, SeatedCalls::all(alloc, seats, gate)?)?,
+        )
     }
 
     /// The same of a server that was opened, while other work is done on this thread, as that of an operator who has the
@@ -119,7 +155,7 @@ impl Sessions {
         seats: Vec<Seat>,
         gate: &'x G,
         work: W,
-    ) -> Result<Vec<Seat>, ServeFault>
+    ) -> Result<Ended, ServeFault>
     where
         R: Wait
             + Threads
@@ -136,8 +172,8 @@ impl Sessions {
         requires { W.IsAlwaysCallable work }
     {
         let alloc = rt.alloc();
-        let calls = opened.run_beside(rt, SeatedCalls::all(alloc, seats, gate)?, work)?;
-        Ok(SeatedCalls::into_seats(alloc, calls)?)
+        let calls = SeatedCalls::all(alloc, seats, gate)?;
+        Ended::of(alloc, opened.run_beside(rt, calls, work)?)
     }
 
     /// Serves what a function brings, over streams of any kind by `serve_one`, until it returns; all connections
@@ -171,8 +207,8 @@ impl Sessions {
         Ok(SeatedCalls::into_seats(alloc, calls)?)
     }
 
-    /// Serves one connection over any stream, by the jobs that `serve` uses. It waits for its peer however long that
-    /// takes.
+    /// Serves one connection over any stream, by the jobs that `serve_with` uses, as `serve` serves each of its own. It
+    /// waits for its peer however long that takes.
     pub fn serve_one<R, I>(rt: R, jobs: &Jobs<R>, io: I) -> End
     where
         R: Wait + Clock + RandomSource + AllocGlobal + Copy + Drop,

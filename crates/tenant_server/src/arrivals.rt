@@ -26,8 +26,9 @@ pub(crate) struct Arrivals<R: Wait + Drop, K: TenantKey> {
 }
 
 impl<R: Wait + Clock + Copy + Drop, K: TenantKey> Arrivals<R, K> {
-    /// Accepts connections until the server ends. Where it was told to end, watches and connections end too.
-    pub(crate) fn accept(self, rt: R) -> Result<(), ServeFault> {
+    /// Accepts connections until the server ends, and says how many. Where it was told to end, watches and connections end
+    /// too.
+    pub(crate) fn accept(self, rt: R) -> Result<u32, ServeFault> {
         let Arrivals {
             acceptor,
             listener,
@@ -49,7 +50,7 @@ impl<R: Wait + Clock + Copy + Drop, K: TenantKey> Arrivals<R, K> {
         self,
         rt: R,
         ending: UnboundedSender<()>,
-    ) -> Result<(), ServeFault> {
+    ) -> Result<u32, ServeFault> {
         let accepted = self.accept(rt);
         drop(ending);
         accepted

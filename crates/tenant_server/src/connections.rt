@@ -2,14 +2,14 @@
 ghost use Rattle.std.specs.Prelude.{◌≡◌, IfOk, IfSome, None};
 
 use crate::fault::ServeFault;
-use crate::threads::Ended;
+use crate::streams::Streams;
+use crate::threads::ThreadEnd;
 use connection_table::{ConnectionTable, LOOPS, Losses, OpenConnection, Patience, Stopping};
 use crossbeam_channel::{Receiver, Sender, bounded};
 use etcd_types::Mem;
 use futures::executor::TaskSet;
 use futures::task::{Context, Poll};
 use futures::{Future, ready};
-use gateway_http::{Gateway, Http};
 use hyper::rt::TokioTimer;
 use std::alloc::{AllocGlobal, Global};
 use std::hash::RandomState;
@@ -21,11 +21,11 @@ use std::{io, net, thread};
 use tenant_calls::TenantCalls;
 use tenant_scheduler::{InlineCalls, Jobs, ServingThread};
 use tokio::net::TcpStream;
+use tokio::reactor;
 use tokio::runtime::LocalRuntime;
 use tokio::sync::mpsc::error::SendError;
 use tokio::sync::mpsc::{UnboundedReceiver, UnboundedSender, unbounded_channel};
 use tokio::time::Interval;
-use tokio::{reactor, time};
 
 /// How many milliseconds no connection is accepted after one could not be, for want of a file descriptor most
 /// likely.
@@ -101,8 +101,8 @@ pub(crate) fn open_loops<R: Clock + Drop>(
 }
 
 /// Accepts connections until as many as were told have come, or until the server is told to end, and gives those that the
-/// table admits to the loops in turn. The first is accepted once each loop is ready, so that no connection takes a file
-/// descriptor that a loop still needs.
+/// table admits to the loops in turn. It says how many have come. The first is accepted once each loop is ready, so that no
+/// connection takes a file descriptor that a loop still needs.
 pub(crate) fn accept_all<R: Wait + Clock + Drop>(
     rt: &R,
     listener: &net::TcpListener,
@@ -110,7 +110,7 @@ pub(crate) fn accept_all<R: Wait + Clock + Drop>(
     acceptor: Acceptor,
     table: &mut ConnectionTable<R>,
     connections: Option<u32>,
-) -> Result<(), ServeFault> {
+) -> Result<u32, ServeFault> {
     let losses = table.losses()?;
     let senders = acceptor.senders.as_slice();
     for _ in senders {
@@ -118,17 +118,17 @@ pub(crate) fn accept_all<R: Wait + Clock + Drop>(
         let _ = acceptor.ready.recv(rt);
     }
     stopping.begin();
-    let mut left = connections;
+    let mut accepted = 0u32;
     let mut at = 0usize;
     for _ in rt.forever() {
-        if left == Some(0) || stopping.is_told() {
-            return Ok(());
+        if connections == Some(accepted) || stopping.is_told() {
+            return Ok(accepted);
         }
         let Ok((socket, _)) = listener.accept() else {
             thread::sleep(rt, Duration::from_millis(PAUSE));
             continue;
         };
-        left = left.map(|left| left.saturating_sub(1));
+        accepted = accepted.saturating_add(1);
         let Some(open) = table.admit(socket.as_raw_fd()) else {
             continue;
         };
@@ -279,30 +279,22 @@ fn begin<T: Future<Output = ()>>(tasks: &TaskSet<T>, made: Mem<T>) -> bool
     }
 }
 
-/// What a loop works with, beside its sockets.
-#[derive(Drop)]
-struct Tools<R: Clock + Copy + Drop> {
-    http: Http<TokioTimer<R>>,
-    timers: time::Handle,
-    reactor: reactor::Handle,
-}
-
-impl<R: Clock + RandomSource + Copy + Drop> Tools<R> {
-    fn new(
-        rt: R,
-        alloc: Global,
-        runtime: &LocalRuntime,
-        patience: Patience,
-    ) -> io::Result<Tools<R>> {
-        let keys = RandomState::new(&rt)?;
-        let timers = runtime.handle().time();
-        let timer = TokioTimer::new(rt, timers.clone()?);
-        Ok(Tools {
-            http: Http::new(alloc, keys, timer, patience.for_head()),
-            timers: timers.clone()?,
-            reactor: runtime.handle().reactor().clone()?,
-        })
-    }
+/// By what the connections of a loop are served, whose timers are those of its runtime.
+fn streams_of<R>(
+    rt: R,
+    alloc: Global,
+    runtime: &LocalRuntime,
+    jobs: Jobs<R>,
+    patience: Patience,
+) -> io::Result<Streams<R, TokioTimer<R>>>
+where
+    R: Wait + Clock + RandomSource + Copy + Drop,
+{
+    let keys = RandomState::new(&rt)?;
+    let timers = runtime.handle().time();
+    let timer = TokioTimer::new(rt, timers.clone()?);
+    let timers = Some(timers.clone()?);
+    Ok(Streams::new(rt, alloc, keys, jobs, timer, timers, patience))
 }
 
 /// Serves a loop's connections, until there are no more and the last has ended.
@@ -312,7 +304,7 @@ pub(crate) fn serve_connections<R, C>(
     own: SocketLoop,
     jobs: Jobs<R>,
     thread: ServingThread<R, C>,
-) -> Ended<C>
+) -> ThreadEnd<C>
 where
     R: Wait + Clock + RandomSource + AllocGlobal + Copy + Drop,
     C: TenantCalls,
@@ -347,27 +339,19 @@ where
         losses,
         ready,
     } = own;
-    let Tools {
-        http,
-        timers,
-        reactor,
-    } = Tools::new(rt, alloc, &runtime, patience)?;
-    let beats = timers
+    let streams = streams_of(rt, alloc, &runtime, jobs, patience)?;
+    let reactor = runtime.handle().reactor().clone()?;
+    let beats = runtime
+        .handle()
+        .time()
         .interval(&rt, Duration::from_secs(SECONDS_A_BEAT))
         .ok();
     let make = move |arrived| {
         let Some(Arrived { open, stream }) = arrived else {
             return Ok(Served::ended());
         };
-        let gateway = Gateway {
-            rt,
-            alloc,
-            jobs: jobs.share(),
-            requests: open.requests(rt, start),
-            timers: timers.clone().ok(),
-            body_patience: patience.for_body(),
-        };
-        Served::of(alloc, open, http.connect(stream, gateway))
+        let requests = open.requests(rt, start);
+        Served::of(alloc, open, streams.connection(stream, requests))
     };
     let arriving = Arriving {
         sockets,

@@ -6,6 +6,8 @@ use std::io;
 #[derive(Clone, Copy, Debug, PartialEq, Eq)]
 pub enum ServeFault {
     Socket,
+    /// There are fewer ways to call tenants than threads that need one.
+    TooFew,
     Memory,
 }
 

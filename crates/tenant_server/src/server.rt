@@ -1,14 +1,17 @@
 //! From a socket that listens to the last connection.
+ghost use Rattle.std.specs.Prelude.{◌≡◌, ◌<◌, length, true, Err};
+ghost use Rattle.tenant_server.specs.Threads.{are_too_few};
+
 use crate::admission::{connections, connections_of_tenant, most_connections, terms_of};
 use crate::arrivals::Arrivals;
 use crate::connections::{SocketLoop, open_loops};
 use crate::fault::ServeFault;
 use crate::peers::give_up;
-use crate::threads::{run_threads, workers_of};
+use crate::streams::Streams;
+use crate::threads::{Ended, are_too_few, run_threads, workers_of};
 use connection_table::{Allowance, LOOPS, Patience, Stopping, TenantBounds};
 use etcd_types::Mem;
 use futures::executor::block_on;
-use gateway_http::{Gateway, Http};
 use hyper::rt::NoTimer;
 use std::alloc::{AllocError, AllocGlobal};
 use std::hash::RandomState;
@@ -32,6 +35,8 @@ pub struct Terms {
     pub open_connections: Option<usize>,
     /// How long a peer may keep a connection waiting.
     pub patience: Patience,
+    /// How many workers there are to be at least.
+    pub workers: usize,
     /// What the clients of each tenant may take, in the order of the tenants' keys.
     pub allowances: Vec<Allowance>,
 }
@@ -42,6 +47,7 @@ impl Drop for Terms {
             connections: _,
             open_connections: _,
             patience: _,
+            workers: _,
             allowances: _,
         } = self;
     }
@@ -89,6 +95,14 @@ impl Listening {
         self.listener.local_addr()
     }
 
+    /// Whether a server needs more ways to call tenants than so many: one for each worker that is to be there, for the
+    /// clock, the pump, the catch-up worker and each of the four loops.
+    pub fn needs_more(&self, count: usize) -> bool
+        ensures { result ≡ are_too_few count LOOPS self.now.terms.workers }
+    {
+        are_too_few(count, LOOPS, self.terms.workers)
+    }
+
     fn into_parts(self) -> (Vec<LocalRuntime>, TcpListener, Terms, usize) {
         let Listening {
             runtimes,
@@ -106,6 +120,8 @@ pub struct Opened<R: Wait + Drop, K: TenantKey> {
     loops: Vec<SocketLoop>,
     arrivals: Arrivals<R, K>,
     connections_of_tenant: usize,
+    /// How many ways to call tenants it is to be given.
+    count: usize,
 }
 
 impl<R: Wait + Drop, K: TenantKey> Drop for Opened<R, K> {
@@ -115,6 +131,7 @@ impl<R: Wait + Drop, K: TenantKey> Drop for Opened<R, K> {
             loops: _,
             arrivals: _,
             connections_of_tenant: _,
+            count: _,
         } = self;
     }
 }
@@ -147,13 +164,20 @@ where
     R: Wait + Threads + Clock + RandomSource + AllocGlobal + Copy + Drop + Send + Sync + 'static,
     K: TenantKey + Send,
 {
-    /// The server of the tenants that have these keys, with so many threads.
+    /// The server of the tenants that have these keys, with so many threads, unless it needs more: one for the clock,
+    /// the pump, the catch-up worker and each of the four loops, and a worker's for every other one.
     pub fn of(
         rt: R,
         listening: Listening,
         keys: Vec<K>,
         count: usize,
-    ) -> Result<Opened<R, K>, ServeFault> {
+    ) -> Result<Opened<R, K>, ServeFault>
+        ensures few { are_too_few count LOOPS listening.terms.workers ≡ true
+            → result ≡ Err ServeFault.TooFew }
+    {
+        if listening.needs_more(count) {
+            return Err(ServeFault::TooFew);
+        }
         let (runtimes, listener, terms, most) = listening.into_parts();
         let alloc = rt.alloc();
         let start = Instant::now(&rt).map_err(|error| ServeFault::of(&error))?;
@@ -178,23 +202,29 @@ where
             loops,
             arrivals,
             connections_of_tenant: connections_of_tenant(most),
+            count,
         })
     }
 
-    /// Runs it until as many connections as were told have ended, and gives back what its threads called tenants by. There
-    /// has to be one for the clock, the pump, the catch-up worker and each of the four loops; every other one is a worker's.
-    /// With fewer than eight, or where a thread can't be made, that is out of memory.
-    pub fn run<C>(self, rt: R, calls: Vec<C>) -> Result<Vec<C>, ServeFault>
+    /// Runs it until as many connections as were told have ended, and gives back what its threads called tenants by: one
+    /// for each thread. With fewer than it was opened for, that is too few. Where a thread can't be made, that is out of
+    /// memory.
+    pub fn run<C>(self, rt: R, calls: Vec<C>) -> Result<Ended<C>, ServeFault>
     where
         C: TenantCalls<Key = K> + Send,
         C::Hint: Send,
         C::Receipt: Send,
+        ensures few { length calls.items < self.count → result ≡ Err ServeFault.TooFew }
     {
+        if calls.len() < self.count {
+            return Err(ServeFault::TooFew);
+        }
         let Opened {
             threads,
             loops,
             arrivals,
             connections_of_tenant: _,
+            count: _,
         } = self;
         let bring = move |_jobs, _ended| arrivals.accept(rt);
         run_threads(rt, threads, calls, loops, None, bring)
@@ -202,33 +232,38 @@ where
 
     /// The same, while other work is done on this thread, as that of an operator who has the registry to himself. The
     /// work is to go on until the other end of its channel is let go: until the server ends.
-    pub fn run_beside<C, W>(self, rt: R, calls: Vec<C>, work: W) -> Result<Vec<C>, ServeFault>
+    pub fn run_beside<C, W>(self, rt: R, calls: Vec<C>, work: W) -> Result<Ended<C>, ServeFault>
     where
         C: TenantCalls<Key = K> + Send,
         C::Hint: Send,
         C::Receipt: Send,
         W: FnOnce(UnboundedReceiver<()>) -> io::Result<()> + Drop,
         requires { W.IsAlwaysCallable work }
+        ensures few { length calls.items < self.count → result ≡ Err ServeFault.TooFew }
     {
+        if calls.len() < self.count {
+            return Err(ServeFault::TooFew);
+        }
         let Opened {
             threads,
             loops,
             arrivals,
             connections_of_tenant: _,
+            count: _,
         } = self;
         let bring = move |_jobs, ended| {
             if let Some(ended) = ended {
                 let _ = work(ended);
             }
-            Ok(())
+            Ok(0)
         };
         run_threads(rt, threads, calls, loops, Some(arrivals), bring)
     }
 }
 
 /// Serves what a function brings, over streams of any kind by `serve_one`, until it returns; all connections have to have
-/// ended by then. The threads are as for `Opened::run`, but for those of the loops, of which there is none. Each tenant
-/// has the budget that it has where nothing is told.
+/// ended by then. The threads are as for `Opened::run`, but for those of the loops, of which there is none: fewer than
+/// four are too few. Each tenant has the budget that it has where nothing is told.
 pub fn serve_with<R, C, B>(
     rt: R,
     keys: Vec<C::Key>,
@@ -243,24 +278,32 @@ where
     C::Receipt: Send,
     B: FnOnce(Jobs<R>) -> Result<(), ServeFault> + Drop,
     requires { B.IsAlwaysCallable bring }
+    ensures few { are_too_few (length calls.items) 0 1 ≡ true → result ≡ Err ServeFault.TooFew }
 {
+    if are_too_few(calls.len(), 0, 1) {
+        return Err(ServeFault::TooFew);
+    }
     let alloc = rt.alloc();
     let workers = workers_of(calls.len(), 0);
     let opened = open(&rt, alloc, keys, &[], calls.len(), workers)?;
-    let bring = move |jobs, _ended| bring(jobs);
-    run_threads(rt, opened, calls, Vec::new(alloc), None, bring)
+    let bring = move |jobs, _ended| {
+        bring(jobs)?;
+        Ok(0)
+    };
+    let ended = run_threads(rt, opened, calls, Vec::new(alloc), None, bring)?;
+    Ok(ended.calls)
 }
 
 /// How a connection ended.
 #[derive(Clone, Copy, Debug, PartialEq, Eq)]
 pub enum End {
     Finished,
-    /// Its stream failed, or what came was no HTTP.
+    /// Its stream failed, what came was no HTTP, or there was no memory to begin.
     Fault,
 }
 
-/// Serves one connection over any stream, by the jobs that `serve_with` uses. It waits for its peer however long that
-/// takes.
+/// Serves one connection over any stream, by the jobs that `serve_with` uses, as a loop serves each of its own. It waits
+/// for its peer however long that takes.
 pub fn serve_one<R, I>(rt: R, jobs: &Jobs<R>, io: I) -> End
 where
     R: Wait + Clock + RandomSource + AllocGlobal + Copy + Drop,
@@ -270,16 +313,11 @@ where
     let Ok(keys) = RandomState::new(&rt) else {
         return End::Fault;
     };
-    let http = Http::new(alloc, keys, NoTimer, Patience::DEFAULT.for_head());
-    let gateway = Gateway {
-        rt,
-        alloc,
-        jobs: jobs.share(),
-        requests: None,
-        timers: None,
-        body_patience: Patience::DEFAULT.for_body(),
+    let Some(jobs) = jobs.share() else {
+        return End::Fault;
     };
-    match block_on(&rt, http.connect(io, gateway)) {
+    let streams = Streams::new(rt, alloc, keys, jobs, NoTimer, None, Patience::DEFAULT);
+    match block_on(&rt, streams.connection(io, None)) {
         Ok(Ok(())) => End::Finished,
         _ => End::Fault,
     }

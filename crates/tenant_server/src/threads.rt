@@ -1,4 +1,6 @@
 //! The threads of the server: the event loops, and those that serve tenants beside them.
+ghost use Rattle.std.specs.Prelude.{◌≡◌, ◌+◌, ◌-◌};
+ghost use Rattle.tenant_server.specs.Threads.{are_too_few};
 
 use crate::arrivals::Arrivals;
 use crate::connections::{SocketLoop, serve_connections};
@@ -15,13 +17,32 @@ use tenant_scheduler::{Jobs, Service, ServingThread, Shared};
 use tokio::sync::mpsc::{UnboundedReceiver, unbounded_channel};
 
 /// How many of so many threads are workers, beside so many loops.
-pub(crate) fn workers_of(threads: usize, loops: usize) -> usize {
+pub(crate) fn workers_of(threads: usize, loops: usize) -> usize
+    ensures { result ≡ threads - (loops + BESIDE_WORKERS) }
+{
     threads.saturating_sub(loops.saturating_add(BESIDE_WORKERS))
 }
 
-/// Runs a function that brings connections, or their calls, and serves them by a thread for each way to call tenants: the
-/// clock, the pump, the catch-up worker, the event loops that are given, and workers. It gives these ways back. Where
-/// connections are accepted beside it, the function is told when the server ends, and does other work until then.
+/// Whether so many threads, beside so many loops, leave fewer workers than are wanted, or none.
+pub(crate) fn are_too_few(threads: usize, loops: usize, wanted: usize) -> bool
+    ensures { result ≡ are_too_few threads loops wanted }
+{
+    workers_of(threads, loops) < wanted.max(1)
+}
+
+/// What serving leaves.
+#[derive(Drop)]
+pub struct Ended<C> {
+    /// How many connections were accepted, up to 4,294,967,295.
+    pub connections: u32,
+    /// What the threads called tenants by.
+    pub calls: Vec<C>,
+}
+
+/// Runs a function that brings connections, or their calls, and says how many; they are served by a thread for each way
+/// to call tenants: the clock, the pump, the catch-up worker, the event loops that are given, and workers. It gives these
+/// ways back. Where connections are accepted beside it, the function is told when the server ends, and does other work
+/// until then.
 pub(crate) fn run_threads<R, C, B>(
     rt: R,
     opened: (Jobs<R>, Arc<Shared<R, C::Key>>),
@@ -29,14 +50,14 @@ pub(crate) fn run_threads<R, C, B>(
     loops: Vec<SocketLoop>,
     beside: Option<Arrivals<R, C::Key>>,
     bring: B,
-) -> Result<Vec<C>, ServeFault>
+) -> Result<Ended<C>, ServeFault>
 where
     R: Wait + Threads + Clock + RandomSource + AllocGlobal + Copy + Drop + Send + Sync + 'static,
     C: TenantCalls + Send,
     C::Key: Send,
     C::Hint: Send,
     C::Receipt: Send,
-    B: FnOnce(Jobs<R>, Option<UnboundedReceiver<()>>) -> Result<(), ServeFault> + Drop,
+    B: FnOnce(Jobs<R>, Option<UnboundedReceiver<()>>) -> Result<u32, ServeFault> + Drop,
     requires { B.IsAlwaysCallable bring }
 {
     let alloc = rt.alloc();
@@ -88,19 +109,19 @@ where
             };
             let accepted = match acceptor {
                 Some(thread) => thread.join(&rt),
-                None => Ok(()),
+                None => Ok(0),
             };
-            let brought = brought.and(accepted);
-            let (mut back, served) = group.join(&rt, alloc, &shared, roles);
-            brought.and(served)?;
-            free_slots(rt, shared, &mut back);
-            Ok(back)
+            let (mut calls, served) = group.join(&rt, alloc, &shared, roles);
+            let connections = brought?.saturating_add(accepted?);
+            served?;
+            free_slots(rt, shared, &mut calls);
+            Ok(Ended { connections, calls })
         },
     )
 }
 
 /// What a thread called tenants by, which it gives back, and how its work ended.
-pub(crate) type Ended<C> = (C, Result<(), ServeFault>);
+pub(crate) type ThreadEnd<C> = (C, Result<(), ServeFault>);
 
 /// When a thread ends.
 #[derive(Clone, Copy)]
@@ -114,8 +135,8 @@ enum Ends {
 /// The threads that are at work.
 #[derive(Drop)]
 struct ThreadGroup<C> {
-    loops: Vec<JoinHandle<Ended<C>>>,
-    others: Vec<JoinHandle<Ended<C>>>,
+    loops: Vec<JoinHandle<ThreadEnd<C>>>,
+    others: Vec<JoinHandle<ThreadEnd<C>>>,
 }
 
 impl<C: TenantCalls> ThreadGroup<C> {
@@ -130,7 +151,7 @@ impl<C: TenantCalls> ThreadGroup<C> {
     fn keep<F: Drop>(
         &mut self,
         ends: Ends,
-        made: Result<JoinHandle<Ended<C>>, SpawnError<F>>,
+        made: Result<JoinHandle<ThreadEnd<C>>, SpawnError<F>>,
     ) -> bool {
         match (made, ends) {
             (Ok(thread), Ends::WithConnections) => self.loops.push(thread).is_ok(),
@@ -164,10 +185,9 @@ impl<C: TenantCalls> ThreadGroup<C> {
         (calls, served)
     }
 
-    /// There is a thread for each role, and a worker among them.
+    /// There is a thread for each role.
     fn is_whole(&self, roles: usize) -> bool {
-        let others = self.others.len();
-        self.loops.len().saturating_add(others) == roles && others > BESIDE_WORKERS
+        self.loops.len().saturating_add(self.others.len()) == roles
     }
 }
 
@@ -198,7 +218,7 @@ impl<R: Wait + Drop> Role<R> {
 }
 
 /// A thread's work, until there are no more turns or connections.
-fn serve<R, C>(rt: R, alloc: Global, role: Role<R>, thread: ServingThread<R, C>) -> Ended<C>
+fn serve<R, C>(rt: R, alloc: Global, role: Role<R>, thread: ServingThread<R, C>) -> ThreadEnd<C>
 where
     R: Wait + Clock + RandomSource + AllocGlobal + Copy + Drop,
     C: TenantCalls,

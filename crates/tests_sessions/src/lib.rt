@@ -1,5 +1,6 @@
-//! The server's sessions under test: over streams that fail, and beside a call that is held; what it refuses before it listens; and
-//! standing orders over days. What they answer over sockets is asked of the program, by `tools/check-server`.
+//! The server's sessions under test: over a socket and over streams that fail, and beside a call that is held; what it
+//! refuses before it listens; and standing orders over days. What they answer over sockets is asked of the program too,
+//! by `tools/check-server`.
 #![tactic(auto)]
 
 #[cfg(test)]
@@ -10,6 +11,8 @@ mod orders;
 mod peer;
 #[cfg(test)]
 mod refused;
+#[cfg(test)]
+mod serving;
 #[cfg(test)]
 mod streams;
 #[cfg(test)]

@@ -27,8 +27,8 @@ struct Left {
     is_finished: bool,
     /// The slot that a new watch gets.
     slot: Option<u8>,
-    /// A put was made.
-    is_put: bool,
+    /// The tenant's revision, if it is 1, as at its opening, or 2, as after a put.
+    revision: Option<u64>,
 }
 
 /// Serves one connection that fails after so many reads and writes, and looks at the tenant afterwards.
@@ -99,27 +99,40 @@ fn left_on<R: Wait + Clock>(
         had_fault: false,
         is_finished,
         slot: watch.slot(),
-        is_put: status.body().ends_with(b"\"revision\":\"2\"}}"),
+        revision: revision_in(status.body()),
     })
+}
+
+/// The revision in the text of a status, if it is 1 or 2.
+fn revision_in(status: &[u8]) -> Option<u64> {
+    if status.ends_with(b"\"revision\":\"1\"}}") {
+        return Some(1);
+    }
+    if status.ends_with(b"\"revision\":\"2\"}}") {
+        return Some(2);
+    }
+    None
 }
 
 #[test]
 fn a_put_is_made_or_not_whatever_fails(rt: HostRuntime) -> Result<(), Fail> {
     let whole = round(rt, PUT_REQUEST, 1, ENOUGH, ENOUGH)?;
-    assert!(rt; whole.is_finished && whole.is_put && !whole.had_fault);
+    assert!(rt; whole.is_finished && whole.revision == Some(2) && !whole.had_fault);
     for k in 0..ENOUGH {
         let left = round(rt, PUT_REQUEST, 1, k, ENOUGH)?;
         assert!(rt; left.slot == Some(0));
         if !left.had_fault {
+            assert!(rt; k > 0 && left.revision == Some(2));
             break;
         }
         // The body can't be read to its end: no call.
-        assert!(rt; !left.is_put && !left.is_finished);
+        assert!(rt; left.revision == Some(1) && !left.is_finished);
     }
     for k in 0..ENOUGH {
         let left = round(rt, PUT_REQUEST, 1, ENOUGH, k)?;
-        assert!(rt; left.slot == Some(0) && left.is_put);
+        assert!(rt; left.slot == Some(0) && left.revision == Some(2));
         if !left.had_fault {
+            assert!(rt; k > 0);
             break;
         }
         assert!(rt; !left.is_finished);
@@ -131,15 +144,17 @@ fn a_put_is_made_or_not_whatever_fails(rt: HostRuntime) -> Result<(), Fail> {
 fn a_watch_frees_its_slot_whatever_fails(rt: HostRuntime) -> Result<(), Fail> {
     for k in 0..ENOUGH {
         let left = round(rt, WATCH, 100, k, ENOUGH)?;
-        assert!(rt; left.slot == Some(0) && !left.is_put);
+        assert!(rt; left.slot == Some(0) && left.revision == Some(1));
         if !left.had_fault {
+            assert!(rt; k > 0);
             break;
         }
     }
     for k in 0..ENOUGH {
         let left = round(rt, WATCH, 100, ENOUGH, k)?;
-        assert!(rt; left.slot == Some(0) && !left.is_put);
+        assert!(rt; left.slot == Some(0) && left.revision == Some(1));
         if !left.had_fault {
+            assert!(rt; k > 0);
             break;
         }
     }
