@@ -2,7 +2,6 @@
 use Rattle.std.specs.Prelude.{IfSome}
 use Rattle.std.proofs.Common.{◌≡◌, ◌∙◌, ℕ, List, Option, None, Some, sym, ap, subst, refl}
 use Rattle.etcd_types.specs.declared.step.Step.{Step}
-use Rattle.etcd_types.specs.declared.reply.Reply.{Reply}
 use Rattle.tenant_audit.specs.declared.audit.Entry.{Entry}
 use Rattle.tenant_audit.specs.declared.audit.Opening.{Opening}
 use Rattle.tenant_audit.specs.Audits.{entry, entry_at, turn_of}
