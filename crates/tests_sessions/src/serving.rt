@@ -22,7 +22,7 @@ const PUT_ANSWER: &[u8] =
 
 /// What a server of a configuration is made of.
 #[derive(Drop)]
-struct Made {
+struct Server {
     registry: Registry,
     seats: Vec<Seat>,
     listening: Listening,
@@ -35,7 +35,7 @@ fn registry_of(alloc: Global, config: &mut Config) -> Result<Registry, Fail> {
 }
 
 /// The server of the configuration, with as many seats less as are told.
-fn made<R>(rt: &R, less: usize) -> Result<Made, Fail>
+fn server_with_less<R>(rt: &R, less: usize) -> Result<Server, Fail>
 where
     R: Threads + Clock + Net + RandomSource + AllocGlobal,
 {
@@ -44,7 +44,7 @@ where
     let mut registry = registry_of(alloc, &mut config)?;
     let seats = seats(alloc, &mut registry, config.seats().saturating_sub(less))?;
     let listening = Sessions::listen(rt, &config)?;
-    Ok(Made {
+    Ok(Server {
         registry,
         seats,
         listening,
@@ -91,11 +91,11 @@ where
 
 #[test]
 fn a_put_over_a_socket_is_answered(rt: HostRuntime) -> Result<(), Fail> {
-    let Made {
+    let Server {
         registry,
         seats,
         listening,
-    } = made(&rt, 0)?;
+    } = server_with_less(&rt, 0)?;
     let (ended, answer) = serve_a_put(rt, &registry, seats, listening)?;
     assert!(rt; answer.starts_with(b"HTTP/1.1 200 OK\r\n") && answer.ends_with(PUT_ANSWER));
     assert!(rt; ended.connections == 1 && ended.seats.len() == 9);
@@ -105,11 +105,11 @@ fn a_put_over_a_socket_is_answered(rt: HostRuntime) -> Result<(), Fail> {
 
 #[test]
 fn a_seat_too_few_is_told(rt: HostRuntime) -> Result<(), Fail> {
-    let Made {
+    let Server {
         registry,
         seats,
         listening,
-    } = made(&rt, 1)?;
+    } = server_with_less(&rt, 1)?;
     let told = Sessions::serve(rt, listening, &registry, seats, &OpenGate);
     assert!(rt; matches!(told, Err(ServeFault::TooFew)));
     Ok(())
