@@ -67,7 +67,7 @@ impl KeyIndex {
     /// The newest records of the keys of an interval that are live, by ascending key. The interval begins at
     /// `key` and ends before `range_end`. With an empty end it is the one key, and with the single byte 0 it
     /// has no end.
-    pub fn live_in<R: Records>(&self, records: &R, key: &[u8], range_end: &[u8]) -> Walk<'_, CellNo>
+    pub fn span<R: Records>(&self, records: &R, key: &[u8], range_end: &[u8]) -> Walk<'_, CellNo>
         requires { IsIndexOf (R.cells records.now) self.now.live self.now.dead }
         ensures { AreHeadsIn (R.cells records.now) self.now.live key.now range_end.now result }
     {
@@ -75,7 +75,12 @@ impl KeyIndex {
     }
 
     /// The same of the keys that are deleted.
-    pub fn dead_in<R: Records>(&self, records: &R, key: &[u8], range_end: &[u8]) -> Walk<'_, CellNo>
+    pub fn dead_span<R: Records>(
+        &self,
+        records: &R,
+        key: &[u8],
+        range_end: &[u8],
+    ) -> Walk<'_, CellNo>
         requires { IsIndexOf (R.cells records.now) self.now.live self.now.dead }
         ensures { AreHeadsIn (R.cells records.now) self.now.dead key.now range_end.now result }
     {
@@ -89,14 +94,14 @@ impl KeyIndex {
         ensures { MatchOption result (NoneUpTo (R.cells records.now) key.now revision)
             (IsLast (R.cells records.now) key.now revision) }
     {
-        match self.head_of(records, key) {
+        match self.find(records, key) {
             Some(head) => last_up_to(head, records, revision),
             None => None,
         }
     }
 
-    /// The newest record of a key.
-    fn head_of<R: Records>(&self, records: &R, key: &[u8]) -> Option<CellNo>
+    /// The newest record of a key: a put where the key is live, and a delete where it is deleted.
+    pub fn find<R: Records>(&self, records: &R, key: &[u8]) -> Option<CellNo>
         requires { IsIndexOf (R.cells records.now) self.now.live self.now.dead }
         ensures { MatchOption result (NoneOfKey (R.cells records.now) key.now)
             (IsHeadOf (R.cells records.now) key.now) }

@@ -63,8 +63,8 @@ impl Log {
         ensures room { IfOk result (λ found. vec_capacity found ≤ most_room (length found.items)) }
     {
         let reader = Reader::new(&self.region);
-        let live = self.index.live_in(&reader, key, range_end);
-        let dead = self.index.dead_in(&reader, key, range_end);
+        let live = self.index.span(&reader, key, range_end);
+        let dead = self.index.dead_span(&reader, key, range_end);
         let mut found = Growing::new(alloc);
         let mut heads = HeadsInOrder::new(live, dead);
         while let Some(head) = heads.next(&reader) {
@@ -80,8 +80,8 @@ impl Log {
         ensures { result ≡ length (rows (is_in key.now range_end.now) revision self.now.changes) }
     {
         let reader = Reader::new(&self.region);
-        let live = self.index.live_in(&reader, key, range_end);
-        let dead = self.index.dead_in(&reader, key, range_end);
+        let live = self.index.span(&reader, key, range_end);
+        let dead = self.index.dead_span(&reader, key, range_end);
         let mut count = 0;
         let mut heads = HeadsInOrder::new(live, dead);
         while let Some(head) = heads.next(&reader) {
@@ -97,8 +97,7 @@ impl Log {
         ensures { (revision : ℕ) → AllByRecursion (λ x. x.revision ≤ revision) self.now.changes
             → ShowRows (cells_of self.now.records) self.now.changes key.now range_end.now revision result }
     {
-        self.index
-            .live_in(&Reader::new(&self.region), key, range_end)
+        self.index.span(&Reader::new(&self.region), key, range_end)
     }
 
     /// The same in a list.

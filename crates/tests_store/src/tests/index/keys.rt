@@ -108,13 +108,13 @@ impl Changes {
 
     /// The newest records of the keys that are live, by ascending key.
     fn live(&self, alloc: Global) -> Mem<Vec<CellNo>> {
-        let heads = self.index.live_in(&self.records, &[], &[0]);
+        let heads = self.index.span(&self.records, &[], &[0]);
         heads.collect(alloc)
     }
 
     /// The same of the keys that are deleted.
     fn dead(&self, alloc: Global) -> Mem<Vec<CellNo>> {
-        let heads = self.index.dead_in(&self.records, &[], &[0]);
+        let heads = self.index.dead_span(&self.records, &[], &[0]);
         heads.collect(alloc)
     }
 }

@@ -18,9 +18,9 @@ pub loop-head-init : goal.loop-head-init
 loop-head-init c =
     let records = ap (λ (l : LogState). l.records) c.self.view_is in
     let changes = ap (λ (l : LogState). l.changes) c.self.view_is in
-    let of_live = subst (λ (h : RegionState). AreHeadsIn (cells_of h.records) c.self.inside.index.live c.args.key.now c.args.range_end.now c.live_in-live.result) c.new-reader.ensures c.live_in-live.ensures in
-    let of_dead = subst (λ (h : RegionState). AreHeadsIn (cells_of h.records) c.self.inside.index.dead c.args.key.now c.args.range_end.now c.dead_in-dead.result) c.new-reader.ensures c.dead_in-dead.ensures in
-    let first = reading_first _ _ _ _ _ _ _ c.args.key.now c.args.range_end.now c.args.revision c.live_in-live.result c.dead_in-dead.result c.self.invariant records changes of_live of_dead in
+    let of_live = subst (λ (h : RegionState). AreHeadsIn (cells_of h.records) c.self.inside.index.live c.args.key.now c.args.range_end.now c.span-live.result) c.new-reader.ensures c.span-live.ensures in
+    let of_dead = subst (λ (h : RegionState). AreHeadsIn (cells_of h.records) c.self.inside.index.dead c.args.key.now c.args.range_end.now c.dead_span-dead.result) c.new-reader.ensures c.dead_span-dead.ensures in
+    let first = reading_first _ _ _ _ _ _ _ c.args.key.now c.args.range_end.now c.args.revision c.span-live.result c.dead_span-dead.result c.self.invariant records changes of_live of_dead in
     let seen = reading_as _ _ _ _ _ _ c.new-heads.result c.new-heads.ensures.live c.new-heads.ensures.dead first in
     subst (λ (cs : List ℕ). IsReading (cells_of c.args.self.now.records) (λ key. live key c.args.revision c.args.self.now.changes) c.new-heads.result cs (rows (is_in c.args.key.now c.args.range_end.now) c.args.revision c.args.self.now.changes)) (sym c.new-found.ensures) seen
 

@@ -1,7 +1,7 @@
 use Rattle.std.proofs.Common.{ℕ, List, true, sym, ap, subst}
 use Rattle.key_index.specs.Index.{AreNewest, AreParted, Heads}
 use Rattle.key_index.proofs.Parted.{head_at, none_from_gaps, spread_newest, these_newest, others_newest}
-use Rattle.key_index.proofs.index.KeyIndex.head_of.Goals as goal
+use Rattle.key_index.proofs.index.KeyIndex.find.Goals as goal
 
 pub search-requires-clause-spread : goal.search-requires-clause-spread
 search-requires-clause-spread g c =

@@ -1,7 +1,7 @@
 use Rattle.std.proofs.Common.{ap}
 use Rattle.key_index.specs.Index.{Heads}
 use Rattle.key_index.proofs.Parted.{spread_newest, these_newest}
-use Rattle.key_index.proofs.index.KeyIndex.live_in.Goals as goal
+use Rattle.key_index.proofs.index.KeyIndex.span.Goals as goal
 
 pub heads_in-requires : goal.heads_in-requires
 heads_in-requires g c =
