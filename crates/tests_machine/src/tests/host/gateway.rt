@@ -1,9 +1,10 @@
-//! Each letter of base64, read and written, the refusal for want of memory, and the room that the widest replies are given.
+//! Each letter of base64, read and written, calls read from their paths, the refusal for want of memory, and the room
+//! that the widest replies are given.
 //! The bodies of requests, and the texts of the other replies, are asked by `tools/check-steps` and by the rows.
 //!
 //! A reply is moved into the function that asserts its text: a way out of a test that drops replies is long to prove.
-use etcd_types::{Event, EventKind, Header, KeyValue, List, Mem, OpReply, Refusal, Reply};
-use gateway_json::bytes_of_text;
+use etcd_types::{Event, EventKind, Header, KeyValue, List, Mem, OpReply, Refusal, Reply, Step};
+use gateway_json::{bytes_of_text, read_call};
 use gateway_text::{memory_text, write_reply};
 use std::alloc::Global;
 use std::process::Abort;
@@ -33,6 +34,45 @@ fn letters_are_numbers(rt: HostRuntime) -> Result<(), Fail> {
         }
     }
     Ok(())
+}
+
+/// The lease that a call revokes, or why it is refused.
+fn revoked(read: Result<Step, Refusal>) -> Result<Option<i64>, Refusal> {
+    match read? {
+        Step::Revoke(id) => Ok(Some(id)),
+        _ => Ok(None),
+    }
+}
+
+/// Paths with the bodies that follow them, and the leases that they revoke, or why they are refused. An ID has
+/// 64 bits with its sign, as a number and as a text.
+const REVOKES: [(&str, &str, Result<Option<i64>, Refusal>); 6] = [
+    (
+        "lease/revoke",
+        r#"{"ID":4611686018427387904}"#,
+        Ok(Some(1 << 62)),
+    ),
+    (
+        "kv/lease/revoke",
+        r#"{"ID":"4611686018427387904"}"#,
+        Ok(Some(1 << 62)),
+    ),
+    ("lease/revoke", "", Ok(Some(0))),
+    ("lease/leases", "{}", Ok(None)),
+    (
+        "lease/revoke",
+        r#"{"ID":9223372036854775808}"#,
+        Err(Refusal::BadBody),
+    ),
+    ("lease/revokes", "{}", Err(Refusal::NoPath)),
+];
+
+#[test]
+fn calls_are_read(rt: HostRuntime) {
+    for (path, body, wanted) in REVOKES {
+        let read = read_call(rt.alloc(), path.as_bytes(), body.as_bytes());
+        assert!(rt; revoked(read) == wanted);
+    }
 }
 
 /// The bytes whose text is `STANDARD`.
