@@ -164,7 +164,7 @@ fn a_replay_answers_line_by_line(rt: HostRuntime) -> Mem<()> {
     let LineAnswer::Event(told) = replay.answer(rt.alloc(), &tick)? else {
         return Err(AllocError);
     };
-    assert!(rt; told.status() == 204 && told.body().is_empty());
+    assert!(rt; told.status == 204 && told.body.bytes().is_empty());
     Ok(())
 }
 
