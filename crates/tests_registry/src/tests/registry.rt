@@ -2,8 +2,7 @@
 mod between;
 mod callers;
 mod letters;
-mod lines;
-mod long;
+mod limits;
 mod opening;
 mod operator;
 mod second;

@@ -1,8 +1,6 @@
 //! The worked rows, answered by the second of three tenants. The other two have before and after what they had.
 use super::assert_closes;
 use super::callers::{Callers, Way};
-use super::lines::{Texts, texts_of};
-use super::long::{LONG_ROWS, LongRow};
 use super::opening::registry_of;
 use etcd_types::Mem;
 use std::alloc::Global;
@@ -57,17 +55,8 @@ fn assert_between<R: Wait + Clock + Abort>(
     assert_second(rt, alloc, callers, first, script, answers);
 }
 
-/// A row that has many lines, or long ones.
-fn assert_long_row<R: Wait + Clock + Abort>(rt: &R, alloc: Global, row: &LongRow, audit: u32) {
-    let registry = registry_of(rt, alloc, row.first);
-    let mut callers = Callers::new(rt, alloc, registry, audit, Way::ByName);
-    let Texts { script, answers } = texts_of(alloc, row.lines).expect(rt, "memory");
-    assert_second(rt, alloc, &mut callers, row.first, &script, &answers);
-    assert_closes(rt, alloc, callers, audit);
-}
-
 /// A line adds the second tenant, and a script asks it.
-fn assert_second<R: Wait + Clock + Abort>(
+pub(super) fn assert_second<R: Wait + Clock + Abort>(
     rt: &R,
     alloc: Global,
     callers: &mut Callers,
@@ -134,12 +123,6 @@ fn assert_rows_between<R: Wait + Clock + Abort>(rt: &R, alloc: Global, audit: u3
     }
 }
 
-fn assert_long_rows<R: Wait + Clock + Abort>(rt: &R, alloc: Global, audit: u32) {
-    for row in &LONG_ROWS {
-        assert_long_row(rt, alloc, row, audit);
-    }
-}
-
 #[test]
 fn rows_between_others_without_audits(rt: HostRuntime) {
     assert_rows_between(&rt, rt.alloc(), 0);
@@ -148,14 +131,4 @@ fn rows_between_others_without_audits(rt: HostRuntime) {
 #[test]
 fn rows_between_others_over_audits_that_are_full(rt: HostRuntime) {
     assert_rows_between(&rt, rt.alloc(), 1);
-}
-
-#[test]
-fn long_rows_between_others_without_audits(rt: HostRuntime) {
-    assert_long_rows(&rt, rt.alloc(), 0);
-}
-
-#[test]
-fn long_rows_between_others_over_audits_that_are_full(rt: HostRuntime) {
-    assert_long_rows(&rt, rt.alloc(), 1);
 }
