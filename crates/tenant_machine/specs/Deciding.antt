@@ -2,7 +2,7 @@
 use Rattle.std.specs.Prelude.{◌≡◌, ◌&&◌, ◌||◌, not, Bool, ℕ, ℤ, pos, [], ◌∷◌, length, nat_lt, Option, is_some, true, false}
 use Rattle.std.specs.Prelude.{if◌then◌else◌}
 use Rattle.etcd_types.specs.declared.step.Step.{Step}
-use Rattle.etcd_types.specs.declared.step.Step.TheVariants.{Take, TimeToLive}
+use Rattle.etcd_types.specs.declared.step.Step.TheVariants.{Range as RangeStep, Take, TimeToLive}
 use Rattle.etcd_types.specs.declared.refusal.Refusal.{Refusal}
 use Rattle.etcd_types.specs.declared.refusal.Refusal.TheVariants.{NoSpace}
 use Rattle.etcd_types.specs.declared.reply.Header.{Header}
@@ -37,9 +37,10 @@ abbrev pub gives_keys : State Store → ℤ → Bool → Bool
 gives_keys t id asked =
     asked && (has_lease t.leases id && nat_lt 0 (length (attached (reads kept_store t) id)))
 
--- A step whose answer has nothing that is copied from what the tenant holds: a take that gives no event, be it a
--- cancel, word of progress or quiet, and a time to live without keys.
+-- A step whose answer has nothing that is copied from what the tenant holds: a range that only counts, a take that
+-- gives no event, be it a cancel, word of progress or quiet, and a time to live without keys.
 abbrev pub holds_nothing : State Store → Step → Bool
+holds_nothing t (RangeStep request) = request.count_only
 holds_nothing t (Take slot) = not (gives_events t.store (watch_in t.slots slot))
 holds_nothing t (TimeToLive id asked) = not (gives_keys t id asked)
 holds_nothing t step = false

@@ -25,6 +25,7 @@ impl Machine {
         ensures does { IfOk result (λ p. Does self.now p (past_early (tenant self.now) (Range request.now))) }
         ensures sure { is_some (look_up kept.kept_store (tenant self.now) (Range request.now)) ≡ true
             → IsOk result }
+        ensures sure_count { request.now.count_only ≡ true → IsOk result }
         ensures fits { IfOk result (λ p. Fits self.now p) }
     {
         Ok(match self.store.plan_range(alloc, request)? {
