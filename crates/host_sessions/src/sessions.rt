@@ -115,8 +115,8 @@ impl Sessions {
 
     /// Serves a registry until as many connections as were told have ended, each as `serve_one` serves one, and hands
     /// the seats back. There has to be a seat for each worker of the configuration, for the clock, the pump, the
-    /// catch-up worker and each of the four loops: `Config::seats`. Every other one is a worker's too. With fewer, that
-    /// is too few. Where a thread can't be made, that is out of memory.
+    /// catch-up worker and each of the four loops: `Config::seats`. Every other one is a worker's too. Fewer are
+    /// `TooFew`. Where a thread can't be made, that is out of memory.
     pub fn serve<'x, R, G>(
         rt: R,
         listening: Listening,

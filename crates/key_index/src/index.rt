@@ -160,12 +160,13 @@ impl KeyIndex {
             Ok(place) => cut_head(&mut self.live, records, place, revision),
             Err(_) => match search(&self.dead, records, &sought) {
                 Ok(place) => cut_head(&mut self.dead, records, place, revision),
-                // Each key of a record has a place in one of them.
+                // A record's key stands in one of the two lists.
                 Err(_) => unreachable!(),
             },
         }
     }
-    /// The same of all keys.
+
+    /// Drops what a compaction at this revision doesn't keep of any key.
     pub fn cut<R: RecordsMut>(&mut self, records: &mut R, revision: u64)
         requires index { IsIndexOf (R.cells records.old) self.old.live self.old.dead }
         requires chained { IsChained (R.cells records.old) }

@@ -16,6 +16,9 @@ use tenant_registry::{OpenGate, Registry, Seat};
 const ONE: &[u8] = br#"{"listen":"127.0.0.1:0","connections":1,"workers":2,
     "tenants":[{"name":"one","cluster_id":"7","quota":"1024","audit":"100"}]}"#;
 
+/// The seats that its server asks for: two workers', those of clock, pump and catch-up worker, and four loops'.
+const ONE_SEATS: usize = 2 + 3 + 4;
+
 /// What the put is answered.
 const PUT_ANSWER: &[u8] =
     br#"{"header":{"cluster_id":"7","member_id":"1","raft_term":"1","revision":"2"}}"#;
@@ -98,7 +101,7 @@ fn a_put_over_a_socket_is_answered(rt: HostRuntime) -> Result<(), Fail> {
     } = server_with_less(&rt, 0)?;
     let (ended, answer) = serve_a_put(rt, &registry, seats, listening)?;
     assert!(rt; answer.starts_with(b"HTTP/1.1 200 OK\r\n") && answer.ends_with(PUT_ANSWER));
-    assert!(rt; ended.connections == 1 && ended.seats.len() == 9);
+    assert!(rt; ended.connections == 1 && ended.seats.len() == ONE_SEATS);
     assert!(rt; registry.close(ended.seats).is_ok());
     Ok(())
 }

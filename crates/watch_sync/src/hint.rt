@@ -19,9 +19,8 @@ impl SlotHint {
     };
 }
 
-/// The slots whose take may not be quiet: of watches that have notes, that are behind, that are to be
-/// cancelled, or that are to be told that there is no event. Whoever drives watches takes these, and is answered
-/// what each take is answered at its own time.
+/// The slots worth a take. A take of any other is quiet: its watch has no notes, is not behind, is not to be
+/// cancelled and is not due to be told that there is no event. Of a slot that is here a take may be quiet too.
 #[derive(Clone, Copy)]
 pub struct Hint {
     pub(crate) slots: [SlotHint; WATCH_SLOTS],
