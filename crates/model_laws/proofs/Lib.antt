@@ -26,3 +26,4 @@ pub mod SortingLaws
 pub mod EndsLaws
 pub mod AttachedLaws
 pub mod BoundLaws
+pub mod RefusedLaws

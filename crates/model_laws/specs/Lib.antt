@@ -11,3 +11,4 @@ pub mod Once
 pub mod Pending
 pub mod Apart
 pub mod Numbers
+pub mod Refusals

@@ -14,6 +14,7 @@ ghost use Rattle.model_laws.specs.Numbers.{NumberLaws};
 ghost use Rattle.model_laws.specs.Once.{OnceLaws};
 ghost use Rattle.model_laws.specs.Pending.{PendingLaws};
 ghost use Rattle.model_laws.specs.Recording.{RecordingLaws};
+ghost use Rattle.model_laws.specs.Refusals.{RefusalLaws};
 ghost use Rattle.model_laws.specs.Runs.{RunLaws};
 ghost use Rattle.model_laws.specs.Space.{SpaceLaws};
 ghost use Rattle.model_laws.specs.Worlds.{WorldLaws};
@@ -61,6 +62,11 @@ pub fn space_laws()
 /// What holds of every state that a run from an opening comes to.
 pub fn run_laws()
     ensures { RunLaws }
+{}
+
+/// What a refusal leaves, and its number.
+pub fn refusal_laws()
+    ensures { RefusalLaws }
 {}
 
 /// The ID that is chosen for a lease, and the order in which leases end.
