@@ -261,7 +261,7 @@ impl<I: Drop, R: Wait + Clock + Copy + Drop> Exchange<I, R> {
         let Stage::Reading(reading) = mem::replace(&mut self.stage, Stage::Over) else {
             return None;
         };
-        match reading.begin(whole, self.rt, self.alloc, &self.jobs) {
+        match reading.begin(self.rt, self.alloc, whole, &self.jobs) {
             Begun::Answered(told) => Some(told),
             Begun::Pending(call) => {
                 self.stage = Stage::Pending(call);

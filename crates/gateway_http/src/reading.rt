@@ -252,9 +252,9 @@ impl<I: Drop, R: Wait + Clock + Copy + Drop> Reading<I, R> {
     /// Begins the call of a request that was read, or refuses it.
     pub(crate) fn begin(
         self,
-        _whole: WholeBody,
         rt: R,
         alloc: Global,
+        _whole: WholeBody,
         jobs: &Option<Jobs<R>>,
     ) -> Begun<R>
         ensures { IsTakenUp self.route self.lost self.read.items result }

@@ -327,7 +327,7 @@ impl<'x, R: Wait + Clock + Files + AllocGlobal + Copy + Drop> Operator<'x, R> {
         drop(audit);
         self.shared
             .tenants()
-            .retire(&self.rt, SHARD, self.alloc, name);
+            .retire(&self.rt, self.alloc, SHARD, name);
         if let Some(told) = self.told.shift_remove(name) {
             self.bounds.remove(told.number);
         }

@@ -89,7 +89,7 @@ impl<R: Wait + Drop> Entrances<R> {
 
     /// Leaves a job in its tenant's queue, and has a worker serve it. It is refused if the tenant was removed, and else
     /// only for want of memory.
-    pub(crate) fn queue(&self, rt: &R, shard: usize, alloc: Global, job: Job<R>) {
+    pub(crate) fn queue(&self, rt: &R, alloc: Global, shard: usize, job: Job<R>) {
         let pushed = match self.numbered(rt, shard, job.unserved.request().tenant().number) {
             Ok(Some(entrance)) => {
                 let pushed = entrance.queue.push(rt, alloc, job);

@@ -87,7 +87,7 @@ impl<R: Wait + Clock + Copy + Drop, C: TenantCalls> InlineCalls<R, C> {
             _ => Some(brief),
         };
         if let Some(brief) = left {
-            tenants.queue(rt, self.own.shard, self.alloc, brief.into_job(rt));
+            tenants.queue(rt, self.alloc, self.own.shard, brief.into_job(rt));
         }
     }
 

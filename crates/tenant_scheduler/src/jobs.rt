@@ -169,7 +169,7 @@ impl<R: Wait + Clock + Drop> Jobs<R> {
             step,
             waiting: Stopwatch::start(rt),
         };
-        self.entrances.queue(rt, self.shard(), alloc, job);
+        self.entrances.queue(rt, alloc, self.shard(), job);
     }
 
     /// Hands a brief request to the event loop of its connection, or leaves it in its tenant's queue where there is no loop.
@@ -182,6 +182,6 @@ impl<R: Wait + Clock + Drop> Jobs<R> {
             None => brief,
         };
         let job = left.into_job(rt);
-        self.entrances.queue(rt, self.shard(), alloc, job);
+        self.entrances.queue(rt, alloc, self.shard(), job);
     }
 }

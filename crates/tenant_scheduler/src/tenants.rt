@@ -220,8 +220,8 @@ impl<R: Wait + Drop, K: TenantKey> Tenants<R, K> {
     }
 
     /// Leaves a job in its tenant's queue.
-    pub(crate) fn queue(&self, rt: &R, shard: usize, alloc: Global, job: Job<R>) {
-        self.entrances.queue(rt, shard, alloc, job);
+    pub(crate) fn queue(&self, rt: &R, alloc: Global, shard: usize, job: Job<R>) {
+        self.entrances.queue(rt, alloc, shard, job);
     }
 
     /// Work is due on all tenants.
@@ -291,7 +291,7 @@ impl<R: Wait + Drop, K: TenantKey> Tenants<R, K> {
 
 impl<R: Wait + Clock + Copy + Drop, K: TenantKey> Tenants<R, K> {
     /// Serves a tenant no more that was removed. It waits until the turn that somebody may have there has ended.
-    pub fn retire(&self, rt: &R, shard: usize, alloc: Global, name: &[u8]) {
+    pub fn retire(&self, rt: &R, alloc: Global, shard: usize, name: &[u8]) {
         let Some(number) = self.entrances.remove(rt, name) else {
             return;
         };
