@@ -1,7 +1,7 @@
 //! Requests to alarms.
 
 /// What is asked of an alarm.
-#[derive(Clone, Copy, Debug, PartialEq, Eq)]
+#[derive(Clone, Copy, PartialEq, Eq)]
 pub enum AlarmAction {
     Get,
     Activate,
@@ -9,7 +9,7 @@ pub enum AlarmAction {
 }
 
 /// Which alarm is meant.
-#[derive(Clone, Copy, Debug, PartialEq, Eq)]
+#[derive(Clone, Copy, PartialEq, Eq)]
 pub enum AlarmKind {
     /// `NONE`: a get of any alarm.
     Any,
@@ -18,7 +18,7 @@ pub enum AlarmKind {
 }
 
 /// A request to an alarm.
-#[derive(Clone, Copy, Debug, PartialEq, Eq)]
+#[derive(Clone, Copy, PartialEq, Eq)]
 pub struct AlarmReq {
     pub action: AlarmAction,
     /// 0 or 1 is this member, and no other is there.

@@ -3,7 +3,7 @@ ghost use Rattle.std.specs.Prelude.{◌≡◌};
 ghost use Rattle.etcd_types.specs.Steps.{may_give};
 
 /// A call. The aliases of a path are one call.
-#[derive(Clone, Copy, Debug, PartialEq, Eq)]
+#[derive(Clone, Copy, PartialEq, Eq)]
 pub enum Call {
     Range,
     Put,
@@ -46,7 +46,7 @@ impl Call {
 }
 
 /// A member of a request, of a compare or of an operation.
-#[derive(Clone, Copy, Debug, PartialEq, Eq)]
+#[derive(Clone, Copy)]
 pub enum MemberName {
     Key,
     RangeEnd,

@@ -6,7 +6,7 @@ use crate::list::List;
 use std::alloc::Global;
 
 /// A key with its value, as it stands at a revision.
-#[derive(Debug, PartialEq, Eq, Drop)]
+#[derive(PartialEq, Eq, Drop)]
 pub struct KeyValue {
     pub key: List<u8>,
     /// The revision of the first put since the key was last deleted.
@@ -43,14 +43,14 @@ impl CopyOf for KeyValue {
 }
 
 /// What an event tells of its key.
-#[derive(Clone, Copy, Debug, PartialEq, Eq)]
+#[derive(Clone, Copy, PartialEq, Eq)]
 pub enum EventKind {
     Put,
     Delete,
 }
 
 /// One change, as a watch tells of it.
-#[derive(Debug, PartialEq, Eq, Drop)]
+#[derive(PartialEq, Eq, Drop)]
 pub struct Event {
     pub kind: EventKind,
     /// The row of a put; of a delete the key and its revision alone.

@@ -4,7 +4,7 @@ use crate::list::List;
 use std::alloc::Global;
 
 /// The order that a range is sorted in.
-#[derive(Clone, Copy, Debug, PartialEq, Eq)]
+#[derive(Clone, Copy, PartialEq, Eq)]
 pub enum SortOrder {
     /// `NONE`: ascending by the target.
     Unsorted,
@@ -13,7 +13,7 @@ pub enum SortOrder {
 }
 
 /// What a range is sorted by.
-#[derive(Clone, Copy, Debug, PartialEq, Eq)]
+#[derive(Clone, Copy, PartialEq, Eq)]
 pub enum SortTarget {
     Key,
     Version,
@@ -23,7 +23,7 @@ pub enum SortTarget {
 }
 
 /// A read of an interval of keys.
-#[derive(Debug, PartialEq, Eq, Drop)]
+#[derive(PartialEq, Eq, Drop)]
 pub struct RangeReq {
     /// The first key of the interval.
     pub key: List<u8>,
@@ -67,7 +67,7 @@ impl CopyOf for RangeReq {
 }
 
 /// A write of one key.
-#[derive(Debug, PartialEq, Eq, Drop)]
+#[derive(PartialEq, Eq, Drop)]
 pub struct PutReq {
     pub key: List<u8>,
     pub value: List<u8>,
@@ -95,7 +95,7 @@ impl CopyOf for PutReq {
 }
 
 /// A delete of an interval of keys.
-#[derive(Debug, PartialEq, Eq, Drop)]
+#[derive(PartialEq, Eq, Drop)]
 pub struct DeleteReq {
     pub key: List<u8>,
     pub range_end: List<u8>,

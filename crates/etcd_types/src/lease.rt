@@ -1,7 +1,7 @@
 //! Requests to leases.
 
 /// A grant of a lease.
-#[derive(Clone, Copy, Debug, PartialEq, Eq)]
+#[derive(Clone, Copy, PartialEq, Eq)]
 pub struct GrantReq {
     /// The time to live, in seconds. Below 1 it counts as 1.
     pub ttl: i64,

@@ -7,7 +7,7 @@ use std::alloc::Global;
 use std::marker::Model;
 
 /// Owned items in order. Two lists with equal items are equal, whatever room each has.
-#[derive(Debug, Drop)]
+#[derive(Drop)]
 pub struct List<T> {
     items: Vec<T>,
 }

@@ -8,7 +8,7 @@ use crate::refusal::Refusal;
 use std::alloc::Global;
 
 /// Who answers, and at which revision.
-#[derive(Clone, Copy, Debug, PartialEq, Eq)]
+#[derive(Clone, Copy, PartialEq, Eq)]
 pub struct Header {
     /// The tenant's cluster ID.
     pub cluster: u64,
@@ -17,7 +17,7 @@ pub struct Header {
 }
 
 /// The answer to one operation of a transaction, with the revision of its inner header.
-#[derive(Debug, PartialEq, Eq, Drop)]
+#[derive(PartialEq, Eq, Drop)]
 pub enum OpReply {
     Range {
         revision: i64,
@@ -68,7 +68,7 @@ impl CopyOf for OpReply {
 }
 
 /// The answer to a step.
-#[derive(Debug, PartialEq, Eq, Drop)]
+#[derive(PartialEq, Eq, Drop)]
 pub enum Reply {
     Range {
         header: Header,

@@ -11,7 +11,7 @@ use crate::watch::WatchReq;
 use std::alloc::Global;
 
 /// One step of a tenant's machine.
-#[derive(Debug, PartialEq, Eq, Drop)]
+#[derive(PartialEq, Eq, Drop)]
 pub enum Step {
     Range(RangeReq),
     Put(PutReq),

@@ -8,7 +8,7 @@ use crate::list::List;
 use std::alloc::Global;
 
 /// How a row has to stand to the operand of a compare.
-#[derive(Clone, Copy, Debug, PartialEq, Eq)]
+#[derive(Clone, Copy, PartialEq, Eq)]
 pub enum CompareResult {
     Equal,
     Greater,
@@ -17,7 +17,7 @@ pub enum CompareResult {
 }
 
 /// What a compare looks at.
-#[derive(Clone, Copy, Debug, PartialEq, Eq)]
+#[derive(Clone, Copy)]
 pub enum CompareTarget {
     Version,
     Create,
@@ -27,7 +27,7 @@ pub enum CompareTarget {
 }
 
 /// The target of a compare, with what it is compared with.
-#[derive(Debug, PartialEq, Eq, Drop)]
+#[derive(PartialEq, Eq, Drop)]
 pub enum Operand {
     Version(i64),
     Create(i64),
@@ -49,7 +49,7 @@ impl CopyOf for Operand {
 }
 
 /// A condition on every live row of an interval.
-#[derive(Debug, PartialEq, Eq, Drop)]
+#[derive(PartialEq, Eq, Drop)]
 pub struct Compare {
     pub key: List<u8>,
     pub range_end: List<u8>,
@@ -69,7 +69,7 @@ impl CopyOf for Compare {
 }
 
 /// One operation of a branch.
-#[derive(Debug, PartialEq, Eq, Drop)]
+#[derive(PartialEq, Eq, Drop)]
 pub enum Op {
     Range(RangeReq),
     Put(PutReq),
@@ -107,7 +107,7 @@ impl CopyOf for Op {
 }
 
 /// Compares, and the operations to run where all of them hold, or where one does not.
-#[derive(Debug, PartialEq, Eq, Drop)]
+#[derive(PartialEq, Eq, Drop)]
 pub struct TxnReq {
     pub compare: List<Compare>,
     pub success: List<Op>,

@@ -4,14 +4,14 @@ use crate::list::List;
 use std::alloc::Global;
 
 /// The kinds of events that a watch leaves out.
-#[derive(Clone, Copy, Debug, PartialEq, Eq)]
+#[derive(Clone, Copy, PartialEq, Eq)]
 pub struct Filters {
     pub no_put: bool,
     pub no_delete: bool,
 }
 
 /// A new watch of an interval of keys.
-#[derive(Debug, PartialEq, Eq, Drop)]
+#[derive(PartialEq, Eq, Drop)]
 pub struct WatchReq {
     /// The first key. An empty one counts as the single byte 0.
     pub key: List<u8>,

@@ -23,7 +23,7 @@ pub struct Opening {
 }
 
 /// One step that was served: who asked it, what was asked, and what was answered.
-#[derive(Debug, Drop)]
+#[derive(Drop)]
 pub struct Entry {
     /// The number of the caller's seat.
     pub seat: u8,

@@ -32,7 +32,6 @@ use tenant_machine::{Hint, Machine, segments_for};
 use tenant_rules::OperatorFault;
 
 /// What a call was answered. Only `Kept::serve` makes one.
-#[derive(Debug)]
 pub struct Receipt {
     number: u64,
     seat: u8,

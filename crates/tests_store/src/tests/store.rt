@@ -93,12 +93,8 @@ fn assert_same(
 ) -> Mem<()> {
     let wanted = told_by(alloc, plain, step)?;
     let told = told_by(alloc, store, step)?;
-    assert_text(rt, told.as_str(), wanted.as_str(), step);
+    assert_told(rt, told.as_str(), wanted.as_str());
     Ok(())
-}
-
-fn assert_text(rt: &impl Abort, told: &str, wanted: &str, step: &Step) {
-    assert!(rt; told == wanted, "{told} to {step:?}");
 }
 
 /// Both stores keep the same changes from a revision on, and show the same rows before them.
