@@ -7,7 +7,7 @@ use std::mem::size_of;
 pub const CELL_BYTES: usize = 48;
 
 /// What a record is: a put, a delete, or a lease.
-#[derive(Clone, Copy, Debug, PartialEq, Eq)]
+#[derive(Clone, Copy, PartialEq, Eq)]
 pub enum Kind {
     Put,
     Delete,
@@ -15,7 +15,7 @@ pub enum Kind {
 }
 
 /// The numbers of a record.
-#[derive(Clone, Copy, Debug, PartialEq, Eq)]
+#[derive(Clone, Copy, PartialEq, Eq)]
 pub struct Fields {
     /// The revision that made the record.
     pub revision: u64,

@@ -8,7 +8,7 @@ pub(crate) const MOST: usize = 512;
 pub(crate) const LEAST: usize = 240;
 
 /// The places of a chunk's items. `MOST` places from the first one on are the chunk's own.
-#[derive(Clone, Copy, Debug)]
+#[derive(Clone, Copy)]
 pub(crate) struct Span {
     pub(crate) first: usize,
     pub(crate) len: usize,

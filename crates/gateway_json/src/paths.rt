@@ -8,7 +8,7 @@ use crate::choice::named;
 use etcd_types::Call;
 
 /// A tenant's name, and the path of a call on it: what follows `/v3/`.
-#[derive(Clone, Copy, Debug, PartialEq, Eq)]
+#[derive(Clone, Copy)]
 pub struct Target<'a> {
     pub tenant: &'a [u8],
     pub path: &'a [u8],

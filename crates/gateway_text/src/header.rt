@@ -20,7 +20,7 @@ impl WriteItem for Header {
 }
 
 /// The header of an answer within an answer: its revision alone.
-#[derive(Clone, Copy, Debug)]
+#[derive(Clone, Copy)]
 pub(crate) struct InnerHeader<'a>(pub(crate) &'a i64);
 
 impl WriteItem for InnerHeader<'_> {
