@@ -2,4 +2,5 @@
 mod host;
 mod machine;
 mod replay;
+mod segments;
 mod streams;

@@ -1,2 +1,0 @@
-pub mod Lasts
-pub mod Stores
