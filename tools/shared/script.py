@@ -12,9 +12,9 @@ PATIENCE = 60
 SEGMENT_CELLS = 64
 
 
-def run_script(script, seconds=PATIENCE, path=REPLAY_PROGRAM, **how):
-    """What the replay program makes of a whole script: its status, and what it printed."""
-    return subprocess.run([path], input=script, capture_output=True, timeout=seconds, check=False, **how)
+def run_script(script, seconds=PATIENCE, words=(REPLAY_PROGRAM,), **how):
+    """What a program makes of a whole script, the replay program or one by its words: its status, and what it printed."""
+    return subprocess.run(words, input=script, capture_output=True, timeout=seconds, check=False, **how)
 
 
 def run_file(file, **how):

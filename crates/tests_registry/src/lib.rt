@@ -1,5 +1,5 @@
-//! Tests of tenants under locks: the worked rows, answered to callers who take turns, and by worked examples calls,
-//! seats, quotas between calls, several threads and closing.
+//! Tests of tenants under locks, by worked examples: calls, seats, quotas between calls, several threads and closing. The
+//! rows are asked of them by `registry_replay`.
 #![tactic(auto)]
 
 #[cfg(test)]

@@ -1,3 +1,2 @@
-//! What a registry answers its callers, by rows and by worked examples.
+//! What a registry answers its callers, by worked examples.
 mod calls;
-mod registry;

@@ -166,3 +166,18 @@ fn seats_of_two_registries(rt: HostRuntime) {
     seats.push(other).expect(&rt, "memory");
     assert!(rt; matches!(&registry.close(seats), Err(CloseFault::Double(0))));
 }
+
+/// A registry is not closed while a key to its first tenant is out.
+fn is_lent(rt: &impl Abort, alloc: Global, registry: Registry) -> bool {
+    let name = Vec::from_slice(alloc, b"one").expect(rt, "memory");
+    let key = registry.key(name).expect(rt, "memory");
+    let told = registry.close(Vec::new(alloc));
+    drop(key);
+    matches!(told, Err(CloseFault::Lent { .. }))
+}
+
+#[test]
+fn a_registry_with_a_key_out_is_not_closed(rt: HostRuntime) {
+    let registry = two_tenants(rt.alloc(), 0).expect(&rt, "two tenants");
+    assert!(rt; is_lent(&rt, rt.alloc(), registry));
+}
