@@ -1,4 +1,4 @@
-//! The rows, over each source of segments, and some as lists of steps. Over the host's pool they are asked of the program,
+//! Rows, over each source of segments, and some as lists of steps. Over the host's pool they are asked of the program,
 //! by `tools/check-rows`, and so are scripts by chance.
 mod single;
 mod steps;
@@ -9,7 +9,7 @@ use script_replay::{Asked, read_line};
 use single::Singles;
 use std::alloc::Global;
 use std::process::Abort;
-use test_rows::{Row, live_rows, rows};
+use test_rows::{Row, rows};
 use test_segments::{SOURCES, Source};
 
 /// What a script is answered by tenants that each have segments of their own from a source.
@@ -91,9 +91,4 @@ fn rows_are_answered_over_each_source(rt: HostRuntime) -> Mem<()> {
         assert_list_over_each(&rt, rt.alloc(), list)?;
     }
     Ok(())
-}
-
-#[test]
-fn live_rows_are_answered_over_each_source(rt: HostRuntime) -> Mem<()> {
-    assert_list_over_each(&rt, rt.alloc(), live_rows())
 }

@@ -1,8 +1,7 @@
 //! Tenants with segments of their own, each from any source, which are answered as a host answers them.
-ghost use Rattle.std.specs.Prelude.{◌≡◌, ◌+◌, ◌≤◌, IfOk, IfSome, true};
+ghost use Rattle.std.specs.Prelude.{◌≡◌, ◌≤◌, true};
 ghost use Rattle.etcd_types.specs.Limits.{last_revision, max_quota, min_quota};
 
-use cell_arena::Segments;
 use etcd_types::limits::{DEFAULT_SEGMENTS, LAST_REVISION, MAX_QUOTA, MIN_QUOTA};
 use etcd_types::{Mem, Refusal, Reply, Step};
 use gateway_json::{read_posted, target_of};
@@ -18,14 +17,12 @@ use test_segments::{Shelf, Source};
 struct Single {
     name: Vec<u8>,
     machine: Machine,
-    source: Source,
     segments: Shelf,
     /// How many segments it takes, drawn or not.
     reserved: u32,
 }
 
 impl Model for Single {
-    ghost use Rattle.std.specs.Prelude.{◌≡◌};
     ghost use Rattle.cell_arena.specs.Loan.{IsLent};
     ghost use Rattle.tenant_machine.specs.Tenants.{MachineState, machine_code};
     ghost use Rattle.test_segments.specs.Shelf.{loan_of};
@@ -36,8 +33,7 @@ impl Model for Single {
 
     ghost view = { λ t. t.machine };
 
-    ghost invariant = { λ t.
-        IsLent t.machine.store.share (loan_of t.segments) × (t.machine.store.share.reserved ≡ t.reserved) };
+    ghost invariant = { λ t. IsLent t.machine.store.share (loan_of t.segments) };
 }
 
 impl Single {
@@ -58,31 +54,10 @@ impl Single {
         let reserved = segments_for(quota);
         Ok(Single {
             name: Vec::from_slice(alloc, name)?,
-            source,
             segments: Shelf::new(alloc, source, reserved)?,
             reserved,
             machine: Machine::new(alloc, cluster, quota, first as i64)?,
         })
-    }
-
-    /// Takes another quota, over a new source from which as many segments are drawn as were of the old one.
-    fn resize(&mut self, alloc: Global, quota: u32, unreserved: u32) -> Mem<&'static str>
-        requires { quota ≤ max_quota }
-    {
-        let reserved = self.machine.reservation(quota);
-        if reserved.saturating_sub(self.reserved) > unreserved {
-            return Ok("no short");
-        }
-        let drawn = self.reserved.saturating_sub(self.segments.left());
-        let shelf = Shelf::new(alloc, self.source, reserved)?;
-        let Some(segments) = drawn_from(shelf, reserved, drawn) else {
-            return Ok("no source");
-        };
-        self.machine.grow_rooms(quota)?;
-        self.machine.set_quota(quota);
-        self.segments = segments;
-        self.reserved = reserved;
-        Ok("ok")
     }
 
     /// The status and the body that an event is answered.
@@ -126,23 +101,6 @@ fn is_quota(quota: u64) -> bool
     quota >= MIN_QUOTA && quota <= MAX_QUOTA
 }
 
-/// The shelf once so many of its segments are drawn, if it counts them.
-fn drawn_from(mut shelf: Shelf, reserved: u32, drawn: u32) -> Option<Shelf>
-    ensures left { IfSome result (λ lent. lent.held + drawn ≡ reserved) }
-    ensures room { IfSome result (λ lent. drawn ≤ lent.room) }
-{
-    for _ in 0..drawn {
-        if shelf.left() > 0 {
-            drop(shelf.draw());
-        }
-    }
-    if drawn <= reserved && shelf.left() == reserved - drawn && shelf.room() >= drawn {
-        Some(shelf)
-    } else {
-        None
-    }
-}
-
 /// Tenants by name.
 #[derive(Drop)]
 pub(super) struct Singles {
@@ -161,7 +119,7 @@ impl Singles {
         }
     }
 
-    /// What the operator is told of a tenant that comes or goes.
+    /// What the operator is told of a tenant that comes.
     pub(super) fn operate(&mut self, alloc: Global, line: LentLine<'_>) -> Mem<&'static str> {
         match line {
             LentLine::Add {
@@ -170,9 +128,7 @@ impl Singles {
                 quota,
                 first,
             } => self.add(alloc, name, cluster, quota, first),
-            LentLine::Resize { name, quota } => self.resize(alloc, name, quota),
-            LentLine::Remove { name } => Ok(self.remove(name)),
-            LentLine::Event(_) => Ok(""),
+            _ => Ok(""),
         }
     }
 
@@ -197,29 +153,6 @@ impl Singles {
         let single = Single::new(alloc, self.source, name, cluster, quota, first)?;
         self.tenants.push(single)?;
         Ok("ok")
-    }
-
-    fn resize(&mut self, alloc: Global, name: &[u8], quota: u64) -> Mem<&'static str> {
-        if !is_quota(quota) {
-            return Ok("no limits");
-        }
-        let unreserved = self.unreserved();
-        for single in self.tenants.iter_mut() {
-            if single.name.as_slice() == name {
-                return single.resize(alloc, quota as u32, unreserved);
-            }
-        }
-        Ok("no tenant")
-    }
-
-    fn remove(&mut self, name: &[u8]) -> &'static str {
-        match self.place_of(name) {
-            Some(at) if at < self.tenants.len() => {
-                let _ = self.tenants.remove(at);
-                "ok"
-            }
-            _ => "no tenant",
-        }
     }
 
     fn place_of(&self, name: &[u8]) -> Option<usize> {
