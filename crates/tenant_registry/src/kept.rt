@@ -199,8 +199,8 @@ impl Served {
         ensures receipt { IfOk result (λ served. served.receipt ≡ slip_of number seat turn step reply.now) }
         ensures mine { IfOk result (λ served. served.mine ≡ entry_at turn seat step reply.now) }
     {
-        let mine = Entry::copy_at(alloc, turn, seat, &step, reply)?;
         let receipt = Receipt::of(alloc, number, seat, turn, step, reply)?;
+        let mine = Entry::copy_at(alloc, turn, seat, &receipt.step, reply)?;
         Ok(Served { receipt, mine })
     }
 
@@ -227,11 +227,24 @@ impl Served {
         ensures missed { self.receipt.turn ≡ None → AddsMissed tenant.now seat.old seat.new }
     {
         let Served { receipt, mine } = self;
-        match (receipt.turn, mine) {
-            (Some(turn), Some(entry)) => seat.record(tenant, turn, entry),
+        match mine {
+            Some(entry) => keep_entry(seat, tenant, receipt.turn, entry),
             _ => seat.miss(tenant),
         }
         receipt
+    }
+}
+
+/// Keeps an entry at its turn on a seat's list, or counts it there if it has none.
+fn keep_entry(seat: &mut Seat, tenant: &[u8], turn: Option<u32>, entry: Entry)
+    requires { HasRoomOn tenant.now seat.old }
+    ensures call { IfSome turn
+        (λ turn. AddsCall tenant.now (call turn entry.step entry.reply) seat.old seat.new) }
+    ensures missed { turn ≡ None → AddsMissed tenant.now seat.old seat.new }
+{
+    match turn {
+        Some(turn) => seat.record(tenant, turn, entry),
+        None => seat.miss(tenant),
     }
 }
 

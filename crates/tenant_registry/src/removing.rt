@@ -6,13 +6,14 @@ ghost use Rattle.std.specs.Str.{bytes_eq};
 ghost use Rattle.tenant_audit.specs.Audits.{IsLawful};
 ghost use Rattle.tenant_registry.specs.Registries.{is_among, tenants_of};
 
-use crate::kept::Ended;
+use crate::kept::{Ended, Kept};
 use crate::tenant::Tenant;
 use etcd_types::Mem;
 use futures::spin;
 use indexmap::IndexMap;
 use segment_pool::Stock;
 use std::alloc::AllocError;
+use tenant_audit::Opening;
 
 /// One of these names is the name.
 pub(crate) fn is_one_of(names: &[Vec<u8>], name: &[u8]) -> bool
@@ -65,18 +66,37 @@ fn end(tenant: &Tenant, free: &mut Stock) -> Mem<Ended>
     let Some(mut place) = spin::lock(&tenant.kept) else {
         return Err(AllocError);
     };
+    end_there(&mut *place, tenant.opening, free)
+}
+
+/// Ends what is under a lock, if it is the tenant that was opened so.
+fn end_there(place: &mut Option<Kept>, opening: Opening, free: &mut Stock) -> Mem<Ended>
+    ensures opening { IfOk result (λ ended. ended.audit.opening ≡ opening) }
+    ensures lawful { IfOk result (λ ended. IsLawful ended.audit) }
+    ensures back { IfOk result (λ ended. free.new.held ≡ free.old.held + ended.segments) }
+    ensures err { OnErr result (free.new ≡ free.old) }
+{
     let Some(kept) = place.take() else {
         return Err(AllocError);
     };
-    if kept.opening() != tenant.opening {
-        *place = Some(kept);
-        return Err(AllocError);
-    }
-    match kept.end(free) {
+    match end_if_of(kept, opening, free) {
         Ok(ended) => Ok(ended),
         Err(kept) => {
             *place = Some(kept);
             Err(AllocError)
         }
     }
+}
+
+/// Ends the tenant, if it was opened so. Else it comes back.
+fn end_if_of(kept: Kept, opening: Opening, free: &mut Stock) -> Result<Ended, Kept>
+    ensures opening { IfOk result (λ ended. ended.audit.opening ≡ opening) }
+    ensures lawful { IfOk result (λ ended. IsLawful ended.audit) }
+    ensures back { IfOk result (λ ended. free.new.held ≡ free.old.held + ended.segments) }
+    ensures err { OnErr result (free.new ≡ free.old) }
+{
+    if kept.opening() != opening {
+        return Err(kept);
+    }
+    kept.end(free)
 }

@@ -80,7 +80,15 @@ impl Usage {
         ensures takes { OnOk result (TakesOver machine.now step self.old self.new) }
         ensures segments { HasSegments self.old.reserved self.old.drawn self.new }
     {
-        let planned = machine.plan(alloc, &step)?;
+        self.ask_for(alloc, machine, &step)
+    }
+
+    /// The same of a step that is lent.
+    fn ask_for(&mut self, alloc: Global, machine: &Machine, step: &Step) -> Mem<()>
+        ensures takes { OnOk result (TakesOver machine.now step.now self.old self.new) }
+        ensures segments { HasSegments self.old.reserved self.old.drawn self.new }
+    {
+        let planned = machine.plan(alloc, step)?;
         self.take_over(planned.reply());
         Ok(())
     }
