@@ -1,4 +1,5 @@
 //! What lies under a tenant's lock, how a step is served there, and another quota.
+mod prepared;
 mod resized;
 
 ghost use Rattle.std.specs.Prelude.{◌≡◌, ◌+◌, ◌++◌, ◌≤◌, true, false, None, IfErr, IfOk, IfSome, IsOk, OnOk, OnErr};
@@ -23,6 +24,7 @@ use crate::replies::{is_cancel, refusal_of, slot_of, told_revision};
 use crate::usage::Usage;
 use etcd_types::{Mem, Refusal, Reply, Step};
 use gateway_text::write_reply;
+use prepared::prepared;
 pub use resized::Resized;
 use segment_pool::Stock;
 use std::alloc::{AllocError, Global};
@@ -349,12 +351,10 @@ impl Kept {
         ensures ok { IfOk result (λ served. Serves self.old seat step served self.new) }
         ensures err { OnErr result (self.new ≡ self.old) }
     {
-        let number = self.audit.opening().number;
-        let turn = self.audit.next_turn();
         let planned = self.machine.plan(self.alloc, &step)?;
         let told = planned.reply();
-        let kept = self.audit.copy_of_step(self.alloc, &step)?;
-        let served = Served::of(self.alloc, number, seat, turn, step, told)?;
+        let ready = prepared(self.alloc, &self.audit, seat, step, told)?;
+        let (kept, served) = ready;
         let reply = self.machine.commit(&mut self.left, planned);
         self.audit.keep(seat, kept, reply);
         Ok(served)
