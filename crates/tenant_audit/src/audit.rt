@@ -1,6 +1,6 @@
 //! What was served on a tenant, in order, from its opening on, with the quotas that it was given.
 ghost use Rattle.std.specs.Prelude.{◌≡◌, length, IfOk, OnErr, OnOk};
-ghost use Rattle.tenant_audit.specs.Audits.{KeepsStep, entry_at, opened_log, step_at, turn_of};
+ghost use Rattle.tenant_audit.specs.Audits.{KeepsStep, entry, entry_at, opened_log, step_at, turn_of};
 ghost use Rattle.tenant_audit.specs.Audits.{with_change_at};
 
 use etcd_types::{CopyOf, Mem, Reply, Step};
@@ -8,7 +8,7 @@ use std::alloc::Global;
 use std::marker::Model;
 
 /// What a tenant is opened with.
-#[derive(Clone, Copy, Debug, PartialEq, Eq)]
+#[derive(Clone, Copy, PartialEq, Eq)]
 pub struct Opening {
     /// The tenant's number, which no other tenant of its registry ever has.
     pub number: u64,
@@ -44,12 +44,17 @@ impl Entry {
     {
         match turn {
             None => Ok(None),
-            Some(_) => Ok(Some(Entry {
-                seat,
-                step: step.copy_of(alloc)?,
-                reply: reply.copy_of(alloc)?,
-            })),
+            Some(_) => Ok(Some(Entry::copied(alloc, seat, step, reply)?)),
         }
+    }
+
+    /// An entry with copies of a step and of its reply.
+    fn copied(alloc: Global, seat: u8, step: &Step, reply: &Reply) -> Mem<Entry>
+        ensures { IfOk result (λ mine. mine ≡ entry seat step.now reply.now) }
+    {
+        let step = step.copy_of(alloc)?;
+        let reply = reply.copy_of(alloc)?;
+        Ok(Entry { seat, step, reply })
     }
 }
 

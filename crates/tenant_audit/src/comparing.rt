@@ -1,6 +1,7 @@
 //! Comparing audits with seats' lists.
 ghost use Rattle.std.specs.Prelude.{◌≡◌, ◌-◌, ◌^◌, ◌<◌, ◌≤◌, ◌↔◌, true, false, length, min, IsTrue, All};
 ghost use Rattle.std.specs.Prelude.{MatchOption, slice_index_or};
+ghost use Rattle.tenant_audit.specs.Audits.{entry};
 ghost use Rattle.tenant_audit.specs.Closing.{AreApart, AreInOrder, BreaksAt, DiffersAt, HaveMissedNone};
 ghost use Rattle.tenant_audit.specs.Closing.{InOrder, IsAsGiven, IsComplete, IsFirst, IsInPlace};
 ghost use Rattle.tenant_audit.specs.declared.comparing.Sheet.{Sheet};
@@ -219,12 +220,15 @@ fn is_in_place(entries: &[Entry], number: u8, next: usize, call: &MadeCall) -> b
 {
     let turn = call.turn as usize;
     match entries.get(turn) {
-        Some(entry) => {
-            next <= turn
-                && entry.seat == number
-                && entry.step.same_as(&call.step)
-                && entry.reply.same_as(&call.reply)
-        }
+        Some(kept) => next <= turn && is_call(kept, number, call),
         None => false,
     }
+}
+
+/// The entry is this call of this seat.
+fn is_call(kept: &Entry, number: u8, call: &MadeCall) -> bool
+    ensures yes { result ≡ true → kept.now ≡ entry number call.now.step call.now.reply }
+    ensures no { result ≡ false → kept.now ≡ entry number call.now.step call.now.reply → ⊥ }
+{
+    kept.seat == number && kept.step.same_as(&call.step) && kept.reply.same_as(&call.reply)
 }
