@@ -4,7 +4,7 @@ ghost use Rattle.steps_core.specs.Adding.{Adds, add_fault};
 ghost use Rattle.tenant_rules.specs.Rules.{reason};
 
 use crate::host::Host;
-use crate::tenant::Tenant;
+use crate::tenant::{Tenant, append};
 use etcd_types::Mem;
 use etcd_types::limits::MAX_TENANTS;
 use std::alloc::Global;
@@ -69,9 +69,7 @@ impl Host {
         let Ok(ticket) = self.desk.pool.reserve(segments_for(quota)) else {
             unreachable!()
         };
-        let Ok(_) = self.tenants.insert(key, Tenant { machine, ticket }) else {
-            unreachable!()
-        };
+        append(&mut self.tenants, key, Tenant { machine, ticket });
         Ok(())
     }
 }

@@ -1,11 +1,15 @@
 //! A tenant, and how it is served over the pool.
-ghost use Rattle.std.specs.Prelude.{◌≡◌, ◌-◌, ◌≤◌, OnErr, OnOk};
+ghost use Rattle.std.specs.Prelude.{◌≡◌, ◌-◌, ◌<◌, ◌≤◌, ◌++◌, ◌∷◌, [], None, OnErr, OnOk};
+ghost use Rattle.std.specs.Map.{lookup};
+ghost use Rattle.std.specs.Str.{bytes_eq};
+ghost use Rattle.indexmap.specs.IndexMap.{spare};
 ghost use Rattle.etcd_types.specs.Limits.{max_quota};
 ghost use Rattle.tenant_machine.specs.Plans.{Fits, IsAfter};
 ghost use Rattle.tenant_machine.specs.Reserving.{reservation};
 ghost use Rattle.steps_core.specs.Sound.{CanReserve, CanServe, Leaves, LeavesNone, Reserves};
 
 use etcd_types::{Mem, Reply};
+use indexmap::IndexMap;
 use segment_pool::{Desk, Pool, Ticket};
 use std::mem;
 use tenant_machine::{Machine, Planned};
@@ -15,6 +19,17 @@ use tenant_machine::{Machine, Planned};
 pub(crate) struct Tenant {
     pub(crate) machine: Machine,
     pub(crate) ticket: Ticket,
+}
+
+/// Puts a tenant behind the others, where there is room and none has its name.
+pub(crate) fn append(tenants: &mut IndexMap<Vec<u8>, Tenant>, name: Vec<u8>, tenant: Tenant)
+    requires room { 0 < spare tenants.old }
+    requires new { lookup (λ k. bytes_eq name.items k.items) tenants.old.entries ≡ None }
+    ensures { tenants.new.entries ≡ tenants.old.entries ++ (name, tenant) ∷ [] }
+{
+    let Ok(_) = tenants.insert(name, tenant) else {
+        unreachable!()
+    };
 }
 
 /// Commits what was planned, with the tenant's ticket on the desk.
