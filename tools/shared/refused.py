@@ -5,6 +5,7 @@ import tempfile
 from concurrent.futures import ThreadPoolExecutor
 
 from shared.places import TOP
+from shared.report import Wrong
 
 SOURCE = os.path.join(TOP, "tests", "refuse", "refuse.c")
 AT_A_TIME = 2
@@ -46,7 +47,8 @@ class Refuser:
         return number, told
 
     def runs(self, run):
-        """The number of each run and what it gives, until one refuses none. A run is given variables to run under."""
+        """The number of each run and what it gives, until one refuses none, as one has to. A run is given variables to run
+        under."""
         with ThreadPoolExecutor(AT_A_TIME) as workers:
             for first in range(1, MOST, BATCH):
                 numbers = range(first, first + BATCH)
@@ -54,3 +56,4 @@ class Refuser:
                     if told is None:
                         return
                     yield told
+        raise Wrong(f"{MOST} allocations are not the last")
