@@ -1,5 +1,5 @@
 //! The host of a script, and what its lines are answered.
-ghost use Rattle.std.specs.Prelude.{◌≡◌, IfOk, OnOk, IsSome, None};
+ghost use Rattle.std.specs.Prelude.{◌≡◌, IfOk, IsOk, OnOk, IsSome, None};
 ghost use Rattle.host_front.specs.Lines.{lent_line};
 ghost use Rattle.host_front.specs.Operating.{Lives};
 ghost use Rattle.script_replay.specs.Script.{asked_by};
@@ -26,14 +26,15 @@ impl Replay {
         Replay { front: None }
     }
 
-    /// Answers one line. It fails if the pool can't be held.
+    /// Answers one line. It fails if the pool can't be held, so never once there is a host.
     ///
     /// Only a replay that has no host yet is asked for a pool, of 1 to 4,194,304 segments. The first line makes
     /// the host, of 1,024 segments if it asks for something else.
     pub fn answer(&mut self, alloc: Global, asked: &Asked<'_>) -> Mem<LineAnswer>
         requires { IsInPlace self.old.front (asked_by asked.now) }
-        ensures { IfOk result
+        ensures told { IfOk result
             (λ a. Tells (host_in self.old.front) (asked_by asked.now) a (host_in self.new.front)) }
+        ensures sure { IsSome self.old.front → IsOk result }
     {
         match *asked {
             Asked::Pool { segments } => {
@@ -51,6 +52,7 @@ impl Replay {
     fn begin(&mut self, alloc: Global) -> Mem<()>
         ensures same { host_in self.new.front ≡ host_in self.old.front }
         ensures there { OnOk result (IsSome self.new.front) }
+        ensures sure { IsSome self.old.front → IsOk result }
     {
         if self.front.is_none() {
             self.front = Some(Front::new(Host::new(alloc, DEFAULT_SEGMENTS)?));

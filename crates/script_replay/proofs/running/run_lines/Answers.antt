@@ -73,7 +73,7 @@ loop-n-preserved g c =
       going =
           going_more _ _ _ _ _ _ _ _ _ _ (asked_by c.in-Some.asked) c.in-Ok.answer going
           (c.in_ok-take_line.ensures.line line) (c.in_ok-take_line.ensures.rest line) some is
-          c.in-Ok.ensures c.in-Ok-write_answer.ensures.whole;
+          c.in-Ok.ensures.told c.in-Ok-write_answer.ensures.whole;
       first = λ zero. absurd (omega (arith, zero));
       reader = c.in_ok-take_line.ensures.unmarked ∙ c.loop-n.invariant.reader;
       count = omega (arith, c.loop-n.invariant.count, c.in_ok-take_line.ensures.count line);
@@ -97,7 +97,7 @@ returns-in_default-write_answer-clause-answers g c =
     let is = ap (read_line (c.loop-n.n == 0)) (sym text) ∙ sym c.in-Some.ensures in
     going_cut _ _ _ _ _ _ _ _ _ _ (asked_by c.in-Some.asked) c.in-Ok.answer going
     (c.in_ok-take_line.ensures.line line) (c.in_ok-take_line.ensures.rest line) some is
-    c.in-Ok.ensures c.in_default-write_answer.ensures.cut
+    c.in-Ok.ensures.told c.in_default-write_answer.ensures.cut
 
 pub returns-clause-answers : goal.returns-clause-answers
 returns-clause-answers g c = going_whole _ _ _ _ _ _ c.loop-n.invariant.going
