@@ -1,64 +1,48 @@
 //! Quotas that a tenant is given between its calls. What else an operator does is asked in `registry`.
-use super::{alone, call, config, two_tenants};
-use etcd_types::{CopyOf, Mem, Reply};
+use super::{alone, call, two_tenants};
+use etcd_types::{Mem, Reply};
 use gateway_text::write_reply;
 use std::alloc::Global;
 use std::process::Abort;
 use std::rt::Clock;
 use std::sync::Wait;
-use tenant_registry::{Audit, Closed, OpenGate, Receipt, Registry, Seat, TenantConfig};
+use steps_core::Host;
+use tenant_registry::{Audit, Closed, Receipt, Registry, Seat};
 
-/// A tenant that is opened as an audit says, given its quotas and asked its steps, each in its place, answers
-/// what the audit has.
-pub(super) fn is_replayed<R: Wait + Clock + Abort>(
-    rt: &R,
-    alloc: Global,
-    audit: &Audit,
-) -> Mem<bool> {
-    let mut registry = opened_as(rt, alloc, audit)?;
-    let mut seat = registry.seat().expect(rt, "a seat");
-    answers_as(rt, alloc, &registry, &mut seat, audit)
-}
-
-/// The tenant of a registry, once it is open.
-fn answers_as<R: Wait + Clock + Abort>(
-    rt: &R,
-    alloc: Global,
-    registry: &Registry,
-    seat: &mut Seat,
-    audit: &Audit,
-) -> Mem<bool> {
+/// A machine that is opened as an audit says, given its quotas and asked its steps, each in its place, gives the replies
+/// that the audit has. No registry is asked: it would repeat its own faults.
+pub(super) fn is_replayed(rt: &impl Abort, alloc: Global, audit: &Audit) -> Mem<bool> {
+    let mut host = opened_as(rt, alloc, audit)?;
     for (place, entry) in audit.entries().iter().enumerate() {
-        give_quotas(rt, registry, audit, place);
-        let step = entry.step.copy_of(alloc)?;
-        let told = registry.call(rt, seat, &OpenGate, b"again", step);
-        let receipt = told.expect(rt, "the tenant is there");
-        if !is_text(alloc, &entry.reply, &receipt)? {
+        give_quotas(rt, &mut host, audit, place);
+        let reply = host.step(alloc, b"again", &entry.step);
+        if !reply.same_as(&entry.reply) {
             return Ok(false);
         }
     }
     Ok(true)
 }
 
-/// A registry of a tenant with an audit's opening.
-fn opened_as(rt: &impl Abort, alloc: Global, audit: &Audit) -> Mem<Registry> {
-    let configs = config_of(alloc, audit)?;
-    Ok(Registry::new(alloc, configs, 64).expect(rt, "a registry"))
-}
-
-/// The tenant with an audit's opening, alone.
-fn config_of(alloc: Global, audit: &Audit) -> Mem<Vec<TenantConfig>> {
+/// A host of one tenant, with an audit's opening.
+fn opened_as(rt: &impl Abort, alloc: Global, audit: &Audit) -> Mem<Host> {
+    let mut host = Host::new(alloc, 64)?;
     let quota = u64::from(audit.quota());
-    let config = config(alloc, "again", audit.cluster(), quota, audit.cap())?;
-    Ok(vec![in alloc; config]?)
+    let told = host.add(
+        alloc,
+        b"again",
+        audit.cluster(),
+        quota,
+        u64::try_from(audit.first()).expect(rt, "a revision"),
+    );
+    assert!(rt; told.is_ok());
+    Ok(host)
 }
 
 /// Gives the quotas that an audit has after so many entries.
-fn give_quotas<R: Wait + Abort>(rt: &R, registry: &Registry, audit: &Audit, place: usize) {
+fn give_quotas(rt: &impl Abort, host: &mut Host, audit: &Audit, place: usize) {
     for (before, quota) in audit.quotas() {
         if *before as usize == place {
-            let told = registry.resize(rt, b"again", u64::from(*quota));
-            assert!(rt; told.is_ok());
+            assert!(rt; host.resize(b"again", u64::from(*quota)).is_ok());
         }
     }
 }

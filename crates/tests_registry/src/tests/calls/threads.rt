@@ -110,8 +110,8 @@ fn turns_rise(receipts: &[Receipt], tenant: u64) -> bool {
     true
 }
 
-/// Each tenant's audit has the calls of four seats, and a new tenant answers them so.
-fn assert_lawful<R: Wait + Clock + Abort>(rt: &R, alloc: Global, closed: &Closed) {
+/// Each tenant's audit has the calls of four seats, and the machine run over them gives the replies.
+fn assert_lawful(rt: &impl Abort, alloc: Global, closed: &Closed) {
     for (_, audit) in &closed.audits {
         assert_eq!(rt; audit.entries().len(), 200);
         assert!(rt; is_replayed(rt, alloc, audit).expect(rt, "memory"));
@@ -281,8 +281,8 @@ fn four_threads_close_beside_resizes(rt: HostRuntime) {
     assert_replayed(&rt, rt.alloc(), &closed);
 }
 
-/// The first tenant's audit has all calls and quotas, and is answered so again.
-fn assert_replayed<R: Wait + Clock + Abort>(rt: &R, alloc: Global, closed: &Closed) {
+/// The first tenant's audit has all calls and quotas, and the machine run over them gives the replies.
+fn assert_replayed(rt: &impl Abort, alloc: Global, closed: &Closed) {
     let (_, audit) = closed.audits.first().expect(rt, "an audit");
     assert_eq!(rt; (audit.entries().len(), audit.quotas().len()), (200, 100));
     assert!(rt; is_replayed(rt, alloc, audit).expect(rt, "memory"));
