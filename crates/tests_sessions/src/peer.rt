@@ -19,14 +19,38 @@ pub(crate) struct Seen {
     pub(crate) fault: AtomicBool,
     /// How many bytes were written to it.
     pub(crate) written: AtomicU64,
+    /// What it waits for was written, or its test has it leave without it.
+    pub(crate) leaves: AtomicBool,
+    /// How often more was read of it than it has to say.
+    pub(crate) waits: AtomicU64,
 }
 
-/// Says its piece, waits until enough was written, and is then at its end. Once its reads or writes are used
+/// What is looked for in what is written. No other byte of it is its first one.
+#[derive(Drop)]
+struct Search {
+    wanted: &'static [u8],
+    left: &'static [u8],
+}
+
+impl Search {
+    fn look(&mut self, byte: u8) {
+        if !self.left.is_empty() && self.left.first() != Some(&byte) {
+            self.left = self.wanted;
+        }
+        if let [first, rest @ ..] = self.left
+            && *first == byte
+        {
+            self.left = rest;
+        }
+    }
+}
+
+/// Says its piece, waits until what it looks for was written, and is then at its end. Once its reads or writes are used
 /// up, the next one fails.
 #[derive(Drop)]
 pub(crate) struct Peer {
     pub(crate) says: &'static [u8],
-    pub(crate) enough: u64,
+    search: Search,
     pub(crate) reads_left: u32,
     pub(crate) writes_left: u32,
     pub(crate) seen: Arc<Seen>,
@@ -35,28 +59,43 @@ pub(crate) struct Peer {
 impl Peer {
     /// A peer that never fails, and leaves once its answer begins.
     pub(crate) fn new(alloc: Global, says: &'static [u8]) -> Mem<Peer> {
-        Peer::failing(alloc, says, 1, u32::MAX, u32::MAX)
+        Peer::failing(alloc, says, b"HTTP", u32::MAX, u32::MAX)
     }
 
-    /// A peer that waits for so many bytes, and fails after so many reads and writes.
+    /// A peer that waits for a text, and fails after so many reads and writes.
     pub(crate) fn failing(
         alloc: Global,
         says: &'static [u8],
-        enough: u64,
+        wanted: &'static [u8],
         reads_left: u32,
         writes_left: u32,
     ) -> Mem<Peer> {
         let seen = Seen {
             fault: AtomicBool::new(false),
             written: AtomicU64::new(0),
+            leaves: AtomicBool::new(false),
+            waits: AtomicU64::new(0),
         };
         Ok(Peer {
             says,
-            enough,
+            search: Search {
+                wanted,
+                left: wanted,
+            },
             reads_left,
             writes_left,
             seen: Arc::new(alloc, seen)?,
         })
+    }
+
+    /// Looks for its text in what is written.
+    fn see(&mut self, written: &[u8]) {
+        for byte in written {
+            self.search.look(*byte);
+        }
+        if self.search.left.is_empty() {
+            self.seen.leaves.store(true, Ordering::SeqCst);
+        }
     }
 }
 
@@ -71,10 +110,11 @@ impl AsyncRead for Peer {
 
     fn poll_read(&mut self, cx: &mut Context<'_>, buf: &mut [u8]) -> Poll<io::Result<usize>> {
         if self.says.is_empty() {
-            if self.seen.written.load(Ordering::SeqCst) < self.enough {
-                return cx.yield_now();
+            if self.seen.leaves.load(Ordering::SeqCst) {
+                return Poll::Ready(Ok(0));
             }
-            return Poll::Ready(Ok(0));
+            self.seen.waits.fetch_add(1, Ordering::SeqCst);
+            return cx.yield_now();
         }
         if self.reads_left == 0 {
             self.seen.fault.store(true, Ordering::SeqCst);
@@ -103,6 +143,7 @@ impl AsyncWrite for Peer {
         self.writes_left -= 1;
         let count = buf.len().min(PIECE);
         self.seen.written.fetch_add(count as u64, Ordering::SeqCst);
+        self.see(&buf[..count]);
         Poll::Ready(Ok(count))
     }
 

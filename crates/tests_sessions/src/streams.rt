@@ -17,6 +17,11 @@ const WATCH: &'static [u8] =
 
 const NEW_WATCH: &str = "{\"create_request\":{\"key\":\"Zm9v\"}}";
 
+/// What a peer is told of its watch, and of its put.
+const CREATED: &'static [u8] = b"created\":true";
+
+const PUT: &'static [u8] = b"revision\":\"2\"";
+
 /// More reads and writes than a connection of these tests makes.
 const ENOUGH: u32 = 1000;
 
@@ -24,6 +29,8 @@ const ENOUGH: u32 = 1000;
 #[derive(Clone, Copy)]
 struct Left {
     had_fault: bool,
+    /// What the peer waits for was written.
+    is_told: bool,
     is_finished: bool,
     /// The slot that a new watch gets.
     slot: Option<u8>,
@@ -35,17 +42,18 @@ struct Left {
 fn round<R>(
     rt: R,
     says: &'static [u8],
-    enough: u64,
+    wanted: &'static [u8],
     reads_left: u32,
     writes_left: u32,
 ) -> Result<Left, Fail>
 where
     R: Wait + Threads + Clock + RandomSource + AllocGlobal + Copy + Drop + Send + Sync + 'static,
 {
-    let peer = Peer::failing(rt.alloc(), says, enough, reads_left, writes_left)?;
+    let peer = Peer::failing(rt.alloc(), says, wanted, reads_left, writes_left)?;
     let seen = Arc::try_clone(&peer.seen)?;
     let mut left = left_by(rt, peer)?;
     left.had_fault = seen.fault.load(Ordering::SeqCst);
+    left.is_told = seen.leaves.load(Ordering::SeqCst);
     Ok(left)
 }
 
@@ -97,66 +105,91 @@ fn left_on<R: Wait + Clock>(
     let watch = ask(rt, alloc, registry, seat, Call::Watch, NEW_WATCH)?;
     Ok(Left {
         had_fault: false,
+        is_told: false,
         is_finished,
         slot: watch.slot(),
         revision: revision_in(status.body()),
     })
 }
 
-/// The revision in the text of a status, if it is 1 or 2.
-fn revision_in(status: &[u8]) -> Option<u64> {
+/// The revision in the text of a status, if it is 1, 2 or 3.
+pub(crate) fn revision_in(status: &[u8]) -> Option<u64> {
     if status.ends_with(b"\"revision\":\"1\"}}") {
         return Some(1);
     }
     if status.ends_with(b"\"revision\":\"2\"}}") {
         return Some(2);
     }
+    if status.ends_with(b"\"revision\":\"3\"}}") {
+        return Some(3);
+    }
     None
 }
 
 #[test]
-fn a_put_is_made_or_not_whatever_fails(rt: HostRuntime) -> Result<(), Fail> {
-    let whole = round(rt, PUT_REQUEST, 1, ENOUGH, ENOUGH)?;
-    assert!(rt; whole.is_finished && whole.revision == Some(2) && !whole.had_fault);
+fn a_put_is_made_or_not_whatever_is_not_read(rt: HostRuntime) -> Result<(), Fail> {
+    let mut had_none = false;
     for k in 0..ENOUGH {
-        let left = round(rt, PUT_REQUEST, 1, k, ENOUGH)?;
+        let left = round(rt, PUT_REQUEST, PUT, k, ENOUGH)?;
         assert!(rt; left.slot == Some(0));
         if !left.had_fault {
-            assert!(rt; k > 0 && left.revision == Some(2));
+            assert!(rt; k > 0 && left.is_finished && left.is_told && left.revision == Some(2));
+            had_none = true;
             break;
         }
         // The body can't be read to its end: no call.
-        assert!(rt; left.revision == Some(1) && !left.is_finished);
+        assert!(rt; left.revision == Some(1) && !left.is_finished && !left.is_told);
     }
-    for k in 0..ENOUGH {
-        let left = round(rt, PUT_REQUEST, 1, ENOUGH, k)?;
-        assert!(rt; left.slot == Some(0) && left.revision == Some(2));
-        if !left.had_fault {
-            assert!(rt; k > 0);
-            break;
-        }
-        assert!(rt; !left.is_finished);
-    }
+    assert!(rt; had_none);
     Ok(())
 }
 
 #[test]
-fn a_watch_frees_its_slot_whatever_fails(rt: HostRuntime) -> Result<(), Fail> {
+fn a_put_is_made_whatever_is_not_written(rt: HostRuntime) -> Result<(), Fail> {
+    let mut had_none = false;
     for k in 0..ENOUGH {
-        let left = round(rt, WATCH, 100, k, ENOUGH)?;
+        let left = round(rt, PUT_REQUEST, PUT, ENOUGH, k)?;
+        assert!(rt; left.slot == Some(0) && left.revision == Some(2));
+        if !left.had_fault {
+            assert!(rt; k > 0 && left.is_finished && left.is_told);
+            had_none = true;
+            break;
+        }
+        assert!(rt; !left.is_finished);
+    }
+    assert!(rt; had_none);
+    Ok(())
+}
+
+#[test]
+fn a_watch_frees_its_slot_whatever_is_not_read(rt: HostRuntime) -> Result<(), Fail> {
+    let mut had_none = false;
+    for k in 0..ENOUGH {
+        let left = round(rt, WATCH, CREATED, k, ENOUGH)?;
         assert!(rt; left.slot == Some(0) && left.revision == Some(1));
         if !left.had_fault {
-            assert!(rt; k > 0);
+            // It was open.
+            assert!(rt; k > 0 && left.is_told);
+            had_none = true;
             break;
         }
     }
+    assert!(rt; had_none);
+    Ok(())
+}
+
+#[test]
+fn a_watch_frees_its_slot_whatever_is_not_written(rt: HostRuntime) -> Result<(), Fail> {
+    let mut had_none = false;
     for k in 0..ENOUGH {
-        let left = round(rt, WATCH, 100, ENOUGH, k)?;
+        let left = round(rt, WATCH, CREATED, ENOUGH, k)?;
         assert!(rt; left.slot == Some(0) && left.revision == Some(1));
         if !left.had_fault {
-            assert!(rt; k > 0);
+            assert!(rt; k > 0 && left.is_told);
+            had_none = true;
             break;
         }
     }
+    assert!(rt; had_none);
     Ok(())
 }
