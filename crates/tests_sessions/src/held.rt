@@ -38,7 +38,7 @@ impl Gate for Until {
 }
 
 /// Waits until this is so, ten seconds at most.
-fn wait_for<R: Clock>(rt: &R, so: &AtomicBool) {
+pub(crate) fn wait_for<R: Clock>(rt: &R, so: &AtomicBool) {
     for _ in 0..10_000 {
         if so.load(Ordering::SeqCst) {
             return;

@@ -1,6 +1,6 @@
-//! The server's sessions under test: over a socket and over streams that fail, and beside a call that is held; what it
-//! refuses before it listens; and standing orders over days. What they answer over sockets is asked of the program too,
-//! by `tools/check-server`.
+//! The server's sessions under test: over a socket and over streams that fail, beside a call that is held, and where
+//! one waits when the workers stop; what it refuses before it listens; and standing orders over days. What they answer over
+//! sockets is asked of the program too, by `tools/check-server`.
 #![tactic(auto)]
 
 #[cfg(test)]
@@ -17,3 +17,5 @@ mod serving;
 mod streams;
 #[cfg(test)]
 mod tenants;
+#[cfg(test)]
+mod waiting;
