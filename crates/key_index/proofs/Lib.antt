@@ -13,14 +13,12 @@ pub mod Leaving
 pub mod Passed
 pub mod Counting
 pub mod Visits
-pub mod Linking
 pub mod Kept
 pub mod Times
 pub mod Order
 pub mod OrderKept
 pub mod OrderAdded
 pub mod Settled
-pub mod Listing
 pub mod Turned
 pub mod Parted
 pub mod Chains

@@ -5,4 +5,3 @@ pub mod Sought
 pub mod Compaction
 pub mod Order
 pub mod Visiting
-pub mod Listed

@@ -31,7 +31,6 @@
 
 mod compaction;
 mod index;
-pub mod record_list;
 mod records;
 mod search;
 mod span;
