@@ -27,33 +27,45 @@ class Outcome(NamedTuple):
     slots: int
 
 
-def attack_from_here(attack, place, seconds, count, told):
-    """The attacking process: it tells what it did, or what is wrong."""
-    try:
-        told.send((attack.make(place, seconds, count), None))
-    except (Wrong, OSError) as fault:
-        told.send((None, f"{type(fault).__name__}: {fault}"))
+class Attacker:
+    """The attacking process. It waits until it is told to begin, so that making it takes nothing of the time beside it, and
+    with its end all of its connections end."""
 
+    def __init__(self, attack, place, seconds, count):
+        fork = multiprocessing.get_context("fork")
+        self.seconds = seconds
+        self.here, there = fork.Pipe()
+        self.process = fork.Process(target=attack_when_told, args=(there, attack, place, seconds, count), daemon=True)
+        self.process.start()
 
-@contextlib.contextmanager
-def attacked(attack, place, seconds, count):
-    """Attacks by a process of its own, with whose end all of its connections end. It gives a list of what was done."""
-    fork, did = multiprocessing.get_context("fork"), []
-    listening, told = fork.Pipe(duplex=False)
-    process = fork.Process(target=attack_from_here, args=(attack, place, seconds, count, told), daemon=True)
-    process.start()
-    try:
-        yield did
-        if not listening.poll(seconds + PATIENCE):
-            raise Wrong(f"the attack did not end within {seconds + PATIENCE} seconds")
-        done, fault = listening.recv()
+    def __enter__(self):
+        return self
+
+    def __exit__(self, *_):
+        self.process.kill()
+        self.process.join()
+
+    def begin(self):
+        self.here.send(True)
+
+    def did(self):
+        """What it did, once it has ended."""
+        if not self.here.poll(self.seconds + PATIENCE):
+            raise Wrong(f"the attack did not end within {self.seconds + PATIENCE} seconds")
+        done, fault = self.here.recv()
         if fault:
             raise Wrong(f"the attack: {fault}")
-        did.append(done)
-        process.join(PATIENCE)
-    finally:
-        process.kill()
-        process.join()
+        self.process.join(PATIENCE)
+        return done
+
+
+def attack_when_told(there, attack, place, seconds, count):
+    """Attacks, and tells what was done, or what is wrong."""
+    there.recv()
+    try:
+        there.send((attack.make(place, seconds, count), None))
+    except (Wrong, OSError) as fault:
+        there.send((None, f"{type(fault).__name__}: {fault}"))
 
 
 def held_after(host, before, is_given_back, seconds):
@@ -84,16 +96,18 @@ def measured(program, attack, count, seconds, seconds_alone, is_given_back=lambd
     with contextlib.ExitStack() as stack:
         host = stack.enter_context(Host(program, attack.workers))
         attack.before(host.attacked, count)
+        attacker = stack.enter_context(Attacker(attack, host.attacked, seconds, count))
         neighbour = stack.enter_context(Neighbour(host.other, fixed))
         alone = neighbour.measured(seconds_alone)
         if attack.descriptors:
             host.leave_descriptors(attack.descriptors)
         before = host.held()
         host.forget_peak()
-        with attacked(attack, host.attacked, seconds, count) as did:
-            began = processor_time()
-            beside = neighbour.measured(seconds)
-            idle, whole = (now - then for now, then in zip(processor_time(), began))
+        began = processor_time()
+        attacker.begin()
+        beside = neighbour.measured(seconds)
+        idle, whole = (now - then for now, then in zip(processor_time(), began))
+        did = attacker.did()
         after, peak = held_after(host, before, is_given_back, after_it), host.peak()
         host.look()
-        return Outcome(did[0], alone, beside, idle / max(1, whole), before, peak, after, slots_after(host, after_it))
+        return Outcome(did, alone, beside, idle / max(1, whole), before, peak, after, slots_after(host, after_it))

@@ -6,7 +6,7 @@ import re
 import time
 
 from attacks.attacks import ATTACKS, endless_bodies, idle_connections, unread_answers, unread_pipelines, unread_watches
-from attacks.measure import attacked
+from attacks.measure import Attacker
 from server_checks.patience import fill
 from shared.http_client import text
 from shared.report import want
@@ -155,11 +155,16 @@ def check_process(program):
 def attack(server):
     """Has the clients of both tenants do all that is rude at once, by what bench/rude has."""
     with contextlib.ExitStack() as stack:
+        attackers = []
         for deed, count in DEEDS.items():
             attack_of = next(one for one in ATTACKS if one.act is deed)
             for name in NAMES:
                 place = Place("ours", server.port, f"/t/{name}/v3/")
-                stack.enter_context(attacked(attack_of, place, ATTACKED_SECONDS, count))
+                attackers.append(stack.enter_context(Attacker(attack_of, place, ATTACKED_SECONDS, count)))
+        for attacker in attackers:
+            attacker.begin()
+        for attacker in attackers:
+            attacker.did()
 
 
 def check_host(program):
