@@ -3,6 +3,7 @@ import contextlib
 from statistics import median
 from typing import NamedTuple
 
+from serving.redis import COMMANDS
 from shared.load import KEYS, RANGE_ROWS, compacted
 from shared.report import spread, table
 
@@ -21,14 +22,25 @@ class Reading(NamedTuple):
     processor: float
 
 
+def load_of(bench, program, kind, connections):
+    if program.who == "redis":
+        return program.load(kind, connections, bench.seconds)
+    return bench.wrk.run(program.place, kind, connections, bench.seconds)
+
+
 def one_reading(bench, program, kind, connections):
-    keeps = kind == "puts" and program.who != "nginx"
+    keeps = kind == "puts" and program.who in ["ours", "etcd"]
     with compacted(program.place) if keeps else contextlib.nullcontext():
         before = program.processor()
-        load = bench.wrk.run(program.place, kind, connections, bench.seconds)
+        load = load_of(bench, program, kind, connections)
         used = program.processor() - before
     program.look()
     return Reading(load.rate(), used / load.calls)
+
+
+def programs_for(programs, kind):
+    """Those that have such calls: Redis has no ranges."""
+    return [program for program in programs if program.who != "redis" or kind in COMMANDS]
 
 
 def measure(bench, kinds):
@@ -37,7 +49,7 @@ def measure(bench, kinds):
     for turn in range(bench.rounds):
         for kind in kinds:
             for connections in CONNECTIONS:
-                for program in bench.in_turn(turn):
+                for program in programs_for(bench.in_turn(turn), kind):
                     reading = one_reading(bench, program, kind, connections)
                     readings.setdefault((kind, connections, program.who), []).append(reading)
     return readings
@@ -59,11 +71,11 @@ def tell_rates(readings, kinds, names):
         for connections in CONNECTIONS:
             rates = [median(one.rate for one in readings[kind, connections, who]) for who in names]
             row = [f"{TOLD[kind]}, over {connections}", *(f"{rate:,.0f}" for rate in rates)]
-            for other in names[1:] if names[0] == "ours" else []:
+            for other in others_of(names):
                 row.append(told_ratio(ratios(readings, kind, connections, other, lambda one: one.rate)))
             rows.append(row)
     heads = ["calls a second", *names]
-    table(heads + [f"ours by {other}'s" for other in names[1:] if names[0] == "ours"], rows)
+    table(heads + [f"ours by {other}'s" for other in others_of(names)], rows)
 
 
 def tell_processor(readings, kinds, names):
@@ -74,15 +86,20 @@ def tell_processor(readings, kinds, names):
             row = [f"{TOLD[kind]}, over {connections}"]
             for who in names:
                 row.append(f"{median(one.processor for one in readings[kind, connections, who]) * 1e6:,.1f}")
-            if len(names) == 2:
-                row.append(told_ratio(ratios(readings, kind, connections, "etcd", lambda one: one.processor)))
+            for other in others_of(names):
+                row.append(told_ratio(ratios(readings, kind, connections, other, lambda one: one.processor)))
             rows.append(row)
     if names:
-        table(["microseconds of processor a call", *names, "ours by etcd's"][: len(rows[0])], rows)
+        table(["microseconds of processor a call", *names, *(f"ours by {who}'s" for who in others_of(names))], rows)
+
+
+def others_of(names):
+    """Those beside which ours is told, if it is there."""
+    return names[1:] if names[:1] == ["ours"] else []
 
 
 def tell(bench, readings, kinds):
-    names = [program.who for program in bench.programs]
-    if names:
-        tell_rates(readings, kinds, names)
-        tell_processor(readings, kinds, names)
+    for kind in kinds:
+        if names := [program.who for program in programs_for(bench.programs, kind)]:
+            tell_rates(readings, [kind], names)
+            tell_processor(readings, [kind], names)

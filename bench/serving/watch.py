@@ -127,7 +127,7 @@ def measure(bench):
     for turn in range(bench.rounds):
         for count in WATCHERS:
             for program in bench.in_turn(turn):
-                if program.who != "nginx":
+                if program.who in ["ours", "etcd"]:
                     readings.setdefault((count, program.who), []).append(one_reading(bench, program, count))
     return readings
 
@@ -143,7 +143,7 @@ ROWS = [
 
 
 def tell(bench, readings):
-    names = [program.who for program in bench.programs if program.who != "nginx"]
+    names = [program.who for program in bench.programs if program.who in ["ours", "etcd"]]
     rows = []
     for count in WATCHERS:
         for label, number, form in ROWS:
