@@ -20,5 +20,5 @@ pub record Sends {R : Type 0} (response : Response (ResponseBody R)) (answer : A
   pub status : (head_of response).status ≡ answer.status
   pub closes : Bool
   pub headers : (head_of response).headers ≡ headers_of closes
-  pub text : text_of (body_of response).first ≡ Some (bytes_of answer.text)
+  pub text : text_of (body_of response).unsent ≡ Some (bytes_of answer.text)
   pub following : (body_of response).following ≡ answer.following

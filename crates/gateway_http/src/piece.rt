@@ -6,12 +6,12 @@ ghost use Rattle.std.specs.Prelude.{◌≡◌, ◌++◌, length, IfOk};
 ghost use Rattle.fair_turns.specs.Answers.{bytes_of};
 
 use bytes::{Buf, Bytes};
-use fair_turns::{Share, TakenText, Text};
+use fair_turns::{MadeText, Share, TakenText, Text};
 use gateway_text::memory_text;
 use std::alloc::AllocError;
 use std::marker::Model;
 
-/// How many bytes of an answer are handed to the connection at once, which copies them. So a long text is held here,
+/// How many bytes of a text are handed to the connection at once, which copies them. So a long text is held here,
 /// with its share of the tenant's budget, until the last piece of it is taken.
 const PIECE: usize = 65_536;
 
@@ -54,25 +54,7 @@ impl From<Piece> for Bytes {
     }
 }
 
-impl Piece {
-    /// A text of a watch, whole. A long one stays in the tenant's budget until it is sent.
-    pub(crate) fn taken(taken: TakenText) -> Result<(Piece, Option<Sending>), AllocError>
-        ensures { IfOk result (λ it. it.0 ≡ taken.text.bytes.items) }
-    {
-        let (bytes, share) = taken.into_text().into_parts();
-        let bytes = shared(bytes)?;
-        let sending = match share {
-            Some(share) => Some(Sending {
-                text: bytes.clone()?,
-                share,
-            }),
-            None => None,
-        };
-        Ok((Piece { bytes }, sending))
-    }
-}
-
-/// What is left of an answer's text.
+/// What is left of the text of an answer, or of one that was taken of a watch.
 #[derive(Drop)]
 pub(crate) struct Unsent {
     text: Bytes,
@@ -80,21 +62,34 @@ pub(crate) struct Unsent {
 }
 
 impl Unsent {
-    /// The whole text.
+    /// The whole text of an answer.
     pub(crate) fn new(text: Text) -> Result<Unsent, AllocError>
         ensures { IfOk result (λ unsent. unsent.text ≡ bytes_of text) }
     {
         match text {
-            Text::Made(text) => {
-                let (bytes, share) = text.into_parts();
-                let text = shared(bytes)?;
-                Ok(Unsent { text, share })
-            }
+            Text::Made(text) => Unsent::made(text),
             Text::OutOfMemory => Ok(Unsent {
                 text: Bytes::from_static(memory_text()),
                 share: None,
             }),
         }
+    }
+
+    /// The whole text that was taken of a watch.
+    pub(crate) fn taken(taken: TakenText) -> Result<Unsent, AllocError>
+        ensures { IfOk result (λ unsent. unsent.text ≡ taken.text.bytes.items) }
+    {
+        Unsent::made(taken.into_text())
+    }
+
+    fn made(text: MadeText) -> Result<Unsent, AllocError>
+        ensures { IfOk result (λ unsent. unsent.text ≡ text.bytes.items) }
+    {
+        let (bytes, share) = text.into_parts();
+        let Ok(text) = Bytes::from_vec(bytes) else {
+            return Err(AllocError);
+        };
+        Ok(Unsent { text, share })
     }
 
     /// How many bytes are left.
@@ -111,34 +106,5 @@ impl Unsent {
         let length = self.text.len().min(PIECE);
         let bytes = self.text.split_to(length)?;
         Ok(Piece { bytes })
-    }
-}
-
-/// The last long text of a watch that was handed to the connection, which keeps it until it is sent: from then on it is
-/// held here alone.
-#[derive(Drop)]
-pub(crate) struct Sending {
-    text: Bytes,
-    share: Share,
-}
-
-impl Sending {
-    pub(crate) fn is_sent(&self) -> bool {
-        self.text.is_unique()
-    }
-
-    /// An earlier text, which is sent before this one, leaves it its share.
-    pub(crate) fn absorb(&mut self, earlier: Sending) {
-        let Sending { text: _, share } = earlier;
-        self.share.absorb(share);
-    }
-}
-
-fn shared(bytes: Vec<u8>) -> Result<Bytes, AllocError>
-    ensures { IfOk result (λ text. text ≡ bytes.items) }
-{
-    match Bytes::from_vec(bytes) {
-        Ok(text) => Ok(text),
-        Err(_) => Err(AllocError),
     }
 }

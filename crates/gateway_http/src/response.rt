@@ -10,7 +10,7 @@ ghost use Rattle.gateway_http.specs.Bodies.{Counts, GivesNext, bytes_left, frame
 ghost use Rattle.gateway_http.specs.Responses.{Sends};
 
 use crate::exchange::Standing;
-use crate::piece::{Piece, Sending, Unsent};
+use crate::piece::{Piece, Unsent};
 use fair_turns::{TakenText, Text, WatchTexts};
 use futures::ready;
 use futures::task::{Context, Poll};
@@ -24,11 +24,11 @@ use tenant_scheduler::Told;
 
 /// The body of a response: a text, and behind that of a watch the texts that follow.
 pub struct ResponseBody<R: Wait + Clock + Drop> {
-    first: Option<Unsent>,
+    /// The text whose pieces are handed over: at first that of the answer.
+    unsent: Option<Unsent>,
     /// A piece of it was handed over: before the next one the other connections of the loop come.
     rests: bool,
     following: Option<WatchTexts<R>>,
-    sending: Option<Sending>,
     /// The request is under way until all was handed over.
     standing: Standing<R>,
 }
@@ -36,10 +36,9 @@ pub struct ResponseBody<R: Wait + Clock + Drop> {
 impl<R: Wait + Clock + Drop> Drop for ResponseBody<R> {
     fn drop(self) {
         let ResponseBody {
-            first: _,
+            unsent: _,
             rests: _,
             following: _,
-            sending: _,
             standing: _,
         } = self;
     }
@@ -87,23 +86,22 @@ impl<R: Wait + Clock + Drop> ResponseBody<R> {
         following: Option<WatchTexts<R>>,
         standing: Standing<R>,
     ) -> Result<ResponseBody<R>, AllocError>
-        ensures text { IfOk result (λ body. text_of body.first ≡ Some (bytes_of first)) }
+        ensures text { IfOk result (λ body. text_of body.unsent ≡ Some (bytes_of first)) }
         ensures following { IfOk result (λ body. body.following ≡ following) }
     {
         Ok(ResponseBody {
-            first: Some(Unsent::new(first)?),
+            unsent: Some(Unsent::new(first)?),
             rests: false,
             following,
-            sending: None,
             standing,
         })
     }
 
-    /// The next piece: of the first text, and behind it the texts of a watch, each once.
+    /// The next piece: of the answer's text, and behind it of the texts of a watch, each once.
     fn poll_piece(&mut self, cx: &mut Context<'_>) -> Poll<Option<Result<Piece, AllocError>>>
         ensures given { IfReady result (λ told. GivesNext self.old told self.new) }
         ensures counted { IfReady result (λ told. Counts self.old told self.new) }
-        ensures text { OnPending result (text_of self.new.first ≡ text_of self.old.first) }
+        ensures text { OnPending result (text_of self.new.unsent ≡ text_of self.old.unsent) }
         ensures waits { OnPending result (told_of self.new.following ≡ told_of self.old.following) }
         ensures watch { watch_of self.new.following ≡ watch_of self.old.following }
         ensures registered { OnPending result (IsArmed cx.new) }
@@ -113,10 +111,9 @@ impl<R: Wait + Clock + Drop> ResponseBody<R> {
             self.rests = false;
             return cx.yield_now();
         }
-        if let Some(first) = self.first.take() {
-            return Poll::Ready(Some(self.first_piece(first)));
+        if let Some(text) = self.unsent.take() {
+            return Poll::Ready(Some(self.piece_of(text)));
         }
-        self.forget_sent();
         let Some(texts) = &mut self.following else {
             return Poll::Ready(None);
         };
@@ -126,54 +123,25 @@ impl<R: Wait + Clock + Drop> ResponseBody<R> {
         }
     }
 
-    /// The next piece of the first text, of which the rest is kept.
-    fn first_piece(&mut self, first: Unsent) -> Result<Piece, AllocError>
-        ensures piece { IfOk result (λ piece. piece ++ bytes_left (text_of self.new.first) ≡ first.text) }
+    /// The next piece of a text, of which the rest is kept.
+    fn piece_of(&mut self, text: Unsent) -> Result<Piece, AllocError>
+        ensures piece { IfOk result (λ piece. piece ++ bytes_left (text_of self.new.unsent) ≡ text.text) }
         ensures following { self.new.following ≡ self.old.following }
     {
-        let mut first = first;
-        let piece = first.next_piece();
-        self.rests = first.len() > 0;
-        self.first = if self.rests { Some(first) } else { None };
+        let mut text = text;
+        let piece = text.next_piece();
+        self.rests = text.len() > 0;
+        self.unsent = if self.rests { Some(text) } else { None };
         piece
     }
 
-    /// Lets go of the last text of a watch, once it is sent.
-    fn forget_sent(&mut self)
-        ensures first { self.new.first ≡ self.old.first }
-        ensures following { self.new.following ≡ self.old.following }
-    {
-        if let Some(sending) = &self.sending
-            && sending.is_sent()
-        {
-            self.sending = None;
-        }
-    }
-
-    /// A text of a watch, whole. One that can't be shared ends the connection: what was taken of a watch is not given
-    /// again.
+    /// The first piece of a text of a watch. One that can't be shared ends the connection: what was taken of a watch is not
+    /// given again.
     fn watched(&mut self, taken: TakenText) -> Result<Piece, AllocError>
-        ensures text { IfOk result (λ sent. sent ≡ taken.text.bytes.items) }
-        ensures first { self.new.first ≡ self.old.first }
+        ensures piece { IfOk result (λ piece. piece ++ bytes_left (text_of self.new.unsent) ≡ taken.text.bytes.items) }
         ensures following { self.new.following ≡ self.old.following }
     {
-        let (piece, sending) = Piece::taken(taken)?;
-        if let Some(sending) = sending {
-            self.keep(sending);
-        }
-        Ok(piece)
-    }
-
-    /// Keeps a long text until it is sent. An earlier one is sent before it.
-    fn keep(&mut self, sending: Sending)
-        ensures first { self.new.first ≡ self.old.first }
-        ensures following { self.new.following ≡ self.old.following }
-    {
-        let mut sending = sending;
-        if let Some(earlier) = self.sending.take() {
-            sending.absorb(earlier);
-        }
-        self.sending = Some(sending);
+        self.piece_of(Unsent::taken(taken)?)
     }
 }
 
@@ -201,15 +169,15 @@ impl<R: Wait + Clock + Drop> Body for ResponseBody<R> {
     }
 
     fn is_end_stream(&self) -> bool {
-        self.first.is_none() && self.following.is_none()
+        self.unsent.is_none() && self.following.is_none()
     }
 
     fn size_hint(&self) -> SizeHint
-        ensures { exact result ≡ length_left (text_of self.now.first) (watch_of self.now.following) }
+        ensures { exact result ≡ length_left (text_of self.now.unsent) (watch_of self.now.following) }
     {
-        match (&self.first, &self.following) {
+        match (&self.unsent, &self.following) {
             (_, Some(_)) => SizeHint::new(),
-            (Some(first), None) => SizeHint::with_exact(first.len() as u64),
+            (Some(text), None) => SizeHint::with_exact(text.len() as u64),
             (None, None) => SizeHint::with_exact(0),
         }
     }
