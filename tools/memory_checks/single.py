@@ -6,14 +6,18 @@ from typing import NamedTuple
 from shared.held import HeldProgram
 from shared.report import fault_of, want
 from shared.script import SEGMENT_CELLS
-from sizing.host_size import ROW, SEGMENT_MOST
+from sizing.host_size import ROW, SEGMENT_MOST, TENANT_MOST
 
 KEYS = 240_000
 CELLS = 1_048_576
 # As many operations as a branch of a transaction may have.
 MAX_OPS = 128
-# A tenant that is resized, from so many cells to twice as many.
+# A tenant that is added with so many cells, and one that is resized from so many to twice as many.
 SMALL = 65_536
+# What a tenant's rooms take for a cell, with TENANT_MOST beside: lists have 512 places for each 240 items, and an item has 4
+# bytes in each of the index's and the order's two, 32 among the leases and 16 among their keys; what collects the leases that
+# have run out has 24, and a segment's bay 48.
+CELL_ROOMS = 164
 ROWS = 1_000
 
 # What a call takes beside rows and lists: the tree of its short body, what is planned of it, and a text without rows.
@@ -84,7 +88,7 @@ def txn_of(numbers, *others):
 
 def filled():
     """The lines of a tenant with so many keys, and of one with none."""
-    yield f"pool {(CELLS + 2 * SMALL) // SEGMENT_CELLS}\n"
+    yield f"pool {(CELLS + 3 * SMALL) // SEGMENT_CELLS}\n"
     yield f"add one 7 {CELLS} 1\n"
     yield f"add two 8 {SMALL} 1\n"
     for first in range(0, KEYS, MAX_OPS):
@@ -135,7 +139,11 @@ def short_calls():
 
 
 def large_calls():
-    """A resize, which has room at the most for what tools/size counts; and a delete of all keys."""
+    """A tenant that is added, with its rooms and no more; a resize, which has room at the most for what tools/size counts;
+    and a delete of all keys."""
+    rooms = CELL_ROOMS * SMALL + TENANT_MOST
+    yield Single(f"a tenant of {SMALL:,} cells", f"add three 9 {SMALL} 1\n", "ok", rooms, rooms)
+    yield Single("a resize to the quota that is", f"resize three {SMALL}\n", "ok", 0)
     room = SMALL // SEGMENT_CELLS * SEGMENT_MOST
     yield Single(f"a resize by {SMALL:,} cells", f"resize two {2 * SMALL}\n", "ok", room, room)
     yield Single("a resize back", f"resize two {SMALL}\n", "ok", 0)
@@ -157,6 +165,7 @@ def results(path):
         for line in filled():
             told = program.ask_line(line.encode())
             want(told.startswith((b"ok", b"200")), f"{line[:100]} is answered {told[:200]!r}")
+        want(program.held()[0] > KEYS, "the allocator counts nothing")
         for kind in [ranges, transactions, short_calls, large_calls]:
             for single in kind():
                 yield single.name, fault_of(check, program, single)
