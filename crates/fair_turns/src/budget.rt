@@ -151,12 +151,6 @@ impl Share {
         self.bytes = bytes;
         self
     }
-
-    /// Takes another share of the same budget over.
-    pub fn absorb(&mut self, mut other: Share) {
-        self.bytes = self.bytes.saturating_add(other.bytes);
-        other.bytes = 0;
-    }
 }
 
 impl Drop for Share {
