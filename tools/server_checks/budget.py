@@ -240,8 +240,26 @@ def watches_that_nobody_reads_stop_at_the_budget(program):
         want_soon(other, "kv/range", RANGE_OF_ALL, 200)
 
 
+def a_text_is_made_where_the_budget_has_room_for_it(program):
+    """A text of 16 values has half of the budget and weighs nearly all of it. As long as one is not read no other is made, also
+    where the other's client reads."""
+    create = f'{{{ALL},"start_revision":"2"}}'
+    with budgeted(program, LEAST_BUDGET) as server, server.connect() as other:
+        fill(other, "two", VALUES)
+        with server.watch("two", create, WINDOW):
+            want_soon(other, "kv/range", f'{{{ALL},"limit":"16"}}', 503)
+            with server.watch("two", create) as reading:
+                reading.told()
+                want_quiet(reading, 2.5)
+                want(not reading.text, f"it is told {len(reading.text):,} bytes")
+        with server.watch("two", create) as reading:
+            reading.told()
+            reading.events(VALUES)
+        want_others_served(other)
+
+
 def a_watch_that_is_read_is_told_all(program):
-    """Its one text has more bytes than the budget, and the next one comes when that is sent."""
+    """Its texts have more bytes than the budget together, and each comes when the last one is sent."""
     with budgeted(program, LEAST_BUDGET) as server, server.connect() as other:
         fill(other, "two", VALUES)
         with server.watch("two", f'{{{ALL},"start_revision":"2"}}') as watch:
@@ -291,6 +309,6 @@ TESTS = [an_answer_that_is_too_long_is_refused_before_it_is_made, a_range_of_wha
          a_budget_that_is_not_told_grows_with_the_quota, a_body_waits_for_its_share,
          a_body_that_gets_its_share_is_served, a_body_that_gets_no_share_in_time_is_refused,
          a_body_that_takes_too_much_to_read_is_refused, watches_that_nobody_reads_stop_at_the_budget,
-         a_watch_that_is_read_is_told_all]
+         a_text_is_made_where_the_budget_has_room_for_it, a_watch_that_is_read_is_told_all]
 # What keeps all processors busy, and so has to go behind all others.
 BUSY = [a_worker_is_left_to_tenants_whose_calls_are_brief]

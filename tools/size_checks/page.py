@@ -19,7 +19,8 @@ SAME_NAMES = {
     "tenant_server/src/admission.rt": ["BESIDE_CONNECTIONS", "TENANT_PART"],
     "gateway_http/src/connection.rt": ["MAX_UNSENT"],
     "auto_compaction/src/order.rt": ["MAX_NOTES"],
-    "fair_turns/src/budget.rt": ["DEFAULT_BUDGET", "LONGEST_ROW", "SMALL_TREE", "SHORT"],
+    "fair_turns/src/budget.rt": ["DEFAULT_BUDGET", "LONGEST_ROW", "SHORT"],
+    "fair_turns/src/tree_weight.rt": ["SMALL_TREE"],
     "fair_turns/src/scheduler.rt": ["BESIDE_WORKERS"],
     "gateway_text/src/size.rt": ["REPLY", "EVENT", "ROW"],
 }
@@ -29,6 +30,7 @@ OTHER_NAMES = {
     "gateway_http/src/piece.rt": {"PIECE": host_size.MAX_UNSENT},
     "tenant_scheduler/src/worker.rt": {"BYTES_A_TURN": 65_536},
     "fair_turns/src/watch_texts.rt": {"ROOM": 2},
+    "revision_store/src/weighing.rt": {"ROW": host_size.WEIGHED_ROW},
 }
 
 

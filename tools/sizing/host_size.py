@@ -54,6 +54,8 @@ ROUNDED = 6
 EVENT_HELD = 3 * 16 + 176 + 4 * 24
 # A row that a call on one key is answered, which nobody weighs.
 LONGEST_ROW = 4_194_304
+# What a row weighs beside its strings, whose bytes weigh two and a half times as much.
+WEIGHED_ROW = 512
 # A worker reads a body, which it holds up to three times, and makes a tree of it.
 SMALL_TREE = 1_048_576
 WORKER = 3 * MAX_BODY + SMALL_TREE
@@ -256,8 +258,16 @@ def held_most(quota):
     return records * EVENT_HELD + (quota - records) * CELL_BYTES * 2
 
 
+def weight_most(quota):
+    """What such a text weighs at the most before it is made."""
+    return 2 * (quota // 2 * WEIGHED_ROW + quota * CELL_BYTES * 5 // 2)
+
+
 def text_beyond(tenant):
-    """How far a tenant's clients may go beyond its budget: by a text of a watch, or by the row of a call on one key."""
+    """How far a tenant's clients may go beyond its budget: by the row of a call on one key, or by a text of a watch, if one may
+    weigh more than the budget."""
+    if weight_most(tenant.quota) <= tenant.budget:
+        return LONGEST_ROW
     return max(text_most(tenant.quota) + held_most(tenant.quota), LONGEST_ROW)
 
 

@@ -3,14 +3,15 @@
 //!
 //! Each tenant has a budget of its own, and no other tenant can take of it. A long body waits for its share before it
 //! is read. A call whose answer may be long reserves what its plan and its text may take, by a weight that is told
-//! before it is planned, and is refused where so much is not left; its answer keeps the share of its text. How long the
-//! text of a watch is shows once it is made: what is not there then is owed, and paid before anything else is given
-//! back.
+//! before it is planned, and is refused where so much is not left; its answer keeps the share of its text. So does a text
+//! of a watch, which is taken later where so much is not left. One that may be longer than the whole budget could never be
+//! taken so: what is not there once it is made is owed, and paid before anything else is given back.
 ghost use Rattle.std.specs.Prelude.{◌≡◌};
 ghost use Rattle.futures.specs.Task.{IsArmed, Keeps};
 ghost use Rattle.futures.specs.Poll.{OnPending};
 ghost use Rattle.tokio.specs.Locks.{CanAcquire};
 
+use crate::tree_weight::TreeWeight;
 use etcd_types::Mem;
 use futures::Future;
 use futures::task::{Context, Poll};
@@ -26,14 +27,6 @@ pub const SHORT: usize = 4096;
 /// which are held once and written in base64.
 pub const LONGEST_ROW: usize = 4_194_304;
 
-/// The most bytes that an object, and that another value, takes in the tree that is made of a body.
-const OBJECT: u64 = 1024;
-
-const VALUE: u64 = 96;
-
-/// The most bytes of a tree that takes no share: each worker has one such tree at a time.
-pub const SMALL_TREE: u64 = 1_048_576;
-
 /// The budget of a tenant that none is told for: room for eight of the longest bodies.
 pub const DEFAULT_BUDGET: usize = 16_777_216;
 
@@ -43,21 +36,38 @@ pub struct Budget {
     left: Arc<Semaphore>,
     /// What was taken that was not there.
     owed: Arc<AtomicUsize>,
+    /// All of it, whoever has it.
+    whole: Arc<AtomicUsize>,
 }
 
 impl Drop for Budget {
     fn drop(self) {
-        let Budget { left: _, owed: _ } = self;
+        let Budget {
+            left: _,
+            owed: _,
+            whole: _,
+        } = self;
     }
+}
+
+/// The share of a text of a watch that is to be made.
+#[derive(Drop)]
+pub enum TextShare {
+    /// So much is reserved as it may take.
+    Reserved(Share),
+    /// It may take more than the whole budget, and takes it once it is made.
+    Later,
 }
 
 impl Budget {
     /// One of so many bytes.
     pub fn new(alloc: Global, bytes: usize) -> Mem<Budget> {
-        let left = Semaphore::new(alloc, bytes.min(Semaphore::MAX_PERMITS))?;
+        let bytes = bytes.min(Semaphore::MAX_PERMITS);
+        let left = Semaphore::new(alloc, bytes)?;
         Ok(Budget {
             left: Arc::new(alloc, left)?,
             owed: Arc::new(alloc, AtomicUsize::new(0))?,
+            whole: Arc::new(alloc, AtomicUsize::new(bytes))?,
         })
     }
 
@@ -66,7 +76,19 @@ impl Budget {
         Ok(Budget {
             left: Arc::try_clone(&self.left)?,
             owed: Arc::try_clone(&self.owed)?,
+            whole: Arc::try_clone(&self.whole)?,
         })
+    }
+
+    /// Another budget from now on. What is under way beyond it is owed.
+    pub fn change(&self, bytes: usize) {
+        let bytes = bytes.min(Semaphore::MAX_PERMITS);
+        let before = self.whole.swap(bytes, Ordering::SeqCst);
+        if bytes > before {
+            self.give_back(bytes - before);
+        } else {
+            self.take(before - bytes);
+        }
     }
 
     /// How many bytes are left.
@@ -87,6 +109,23 @@ impl Budget {
             bytes: there,
         };
         if there == bytes { Some(share) } else { None }
+    }
+
+    /// The share of a text of a watch that may take so many bytes; none where they are not left, but may be later.
+    pub fn reserve_text(&self, bytes: u64) -> Option<TextShare> {
+        if bytes > self.whole.load(Ordering::SeqCst) as u64 {
+            return if self.left() > 0 {
+                Some(TextShare::Later)
+            } else {
+                None
+            };
+        }
+        self.reserve(bytes).map(TextShare::Reserved)
+    }
+
+    /// Whether so much is left as the tree of a body needs, which may be nothing.
+    pub fn has_room_for(&self, tree: TreeWeight) -> bool {
+        tree.is_small() || tree.bytes() <= self.left() as u64
     }
 
     /// A text that was made, with a share of its length, for which something may have been reserved. A short one takes
@@ -250,19 +289,4 @@ impl MadeText {
         let MadeText { bytes, share } = self;
         (bytes, share)
     }
-}
-
-/// A bound of what the tree of a body's values takes beside its texts: each value but the first comes behind one of three
-/// bytes.
-pub fn tree_weight(body: &[u8]) -> u64 {
-    let mut weight = 0u64;
-    for byte in body {
-        let value = match *byte {
-            b'{' => OBJECT,
-            b'[' | b',' => VALUE,
-            _ => 0,
-        };
-        weight = weight.saturating_add(value);
-    }
-    weight
 }

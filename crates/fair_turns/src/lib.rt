@@ -4,8 +4,8 @@
 //! 1. A tenant is served by one thread at a time, which has the *turn* there. The `Scheduler` marks the work that is due
 //!    on each tenant, and gives the turns in a fixed round (`scheduler`). A tenant whose turns are long leaves a worker to
 //!    the others (`slow_tenants`, `stopwatch`).
-//! 2. Long bodies and texts take shares of their tenant's budget (`budget`), so that what one tenant's clients have under
-//!    way is bounded, and no other tenant pays for it.
+//! 2. Long bodies and texts take shares of their tenant's budget (`budget`, `tree_weight`), so that what one tenant's clients
+//!    have under way is bounded, and no other tenant pays for it.
 //! 3. An `Answer` is a status and a text (`answer`), or the texts of a watch as they come, one at a time
 //!    (`watch_texts`, `taken_text`).
 //! 4. A dashboard is told what was answered and how long that took (`counts`, `answered`, `durations`), and whether each
@@ -22,18 +22,19 @@ mod scheduler;
 mod slow_tenants;
 mod stopwatch;
 mod taken_text;
+mod tree_weight;
 mod watch_texts;
 
 pub use answer::{Answer, Text};
 pub use answered::{AnsweredCalls, CALLS, LAST_REFUSAL, STATUSES};
 pub use beats::Beats;
 pub use budget::{
-    AwaitedShare, BodyShare, Budget, DEFAULT_BUDGET, LONGEST_ROW, MadeText, SHORT, SMALL_TREE,
-    Share, tree_weight,
+    AwaitedShare, BodyShare, Budget, DEFAULT_BUDGET, LONGEST_ROW, MadeText, SHORT, Share, TextShare,
 };
 pub use counts::TenantCounts;
 pub use durations::{Durations, ENDS};
 pub use scheduler::{BESIDE_WORKERS, Scheduler, TenantTurns, Turn, Turns, Work};
 pub use stopwatch::Stopwatch;
 pub use taken_text::{TakenText, WatchTake};
+pub use tree_weight::{SMALL_TREE, TreeWeight};
 pub use watch_texts::{NoRoom, ServedWatch, TextRoom, WatchEnds, WatchTexts};

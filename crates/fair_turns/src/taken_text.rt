@@ -6,7 +6,7 @@ ghost use Rattle.etcd_types.specs.declared.step.Step.TheVariants.{Take};
 ghost use Rattle.tenant_calls.specs.Answers.{IsTold};
 ghost use Rattle.fair_turns.specs.Watching.{IsTaken};
 
-use crate::budget::{Budget, MadeText};
+use crate::budget::{Budget, MadeText, Share};
 use std::sync::atomic::{AtomicU64, Ordering};
 use tenant_calls::CallReceipt;
 
@@ -90,7 +90,8 @@ impl Drop for TakenText {
 }
 
 impl TakenText {
-    /// The text of the receipt that a take of a slot got, with its share of the tenant's budget. It is the watch's next one.
+    /// The text of the receipt that a take of a slot got, with its share of the tenant's budget, of which something may have been
+    /// reserved. It is the watch's next one.
     #[tactic(auto, using(crate::proofs::AnswerLemmas::taken))]
     pub(crate) fn new<T: CallReceipt>(
         tenant: u64,
@@ -98,6 +99,7 @@ impl TakenText {
         count: &TextCount,
         take: WatchTake<T>,
         budget: &Budget,
+        reserved: Option<Share>,
     ) -> TakenText
         requires { IsTold tenant (Take slot) (T.slip_of take.receipt) }
         ensures tenant { result.tenant ≡ tenant }
@@ -105,7 +107,7 @@ impl TakenText {
         ensures text { result.text.bytes.items ≡ (T.slip_of take.receipt).body }
     {
         let WatchTake { receipt } = take;
-        let text = budget.charge(None, receipt.into_body());
+        let text = budget.charge(reserved, receipt.into_body());
         TakenText {
             tenant,
             slot,

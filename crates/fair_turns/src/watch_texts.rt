@@ -10,7 +10,7 @@ ghost use Rattle.futures.specs.Poll.{IfReady, OnPending};
 ghost use Rattle.tenant_calls.specs.Answers.{IsTold};
 ghost use Rattle.fair_turns.specs.Watching.{IsCreated, IsTaken};
 
-use crate::budget::Budget;
+use crate::budget::{Budget, TextShare};
 use crate::scheduler::TenantTurns;
 use crate::taken_text::{TakenText, TextCount, WatchTake};
 use etcd_types::Mem;
@@ -191,7 +191,7 @@ impl ServedWatch {
         requires told { IsTold self.tenant (Take self.slot) (T.slip_of take.receipt) }
         requires canceled { (T.slip_of take.receipt).canceled ≡ true }
     {
-        let text = TakenText::new(self.tenant, self.slot, &self.count, take, budget);
+        let text = TakenText::new(self.tenant, self.slot, &self.count, take, budget, None);
         let length = text.len();
         match self.texts.try_send(text) {
             Ok(()) => length,
@@ -215,7 +215,7 @@ impl ServedWatch {
 impl TextRoom<'_> {
     /// Puts in the text that a take of the watch's slot got, with its share of the tenant's budget: how many bytes it has. The
     /// watch is open.
-    pub fn put<T: CallReceipt>(self, take: WatchTake<T>, budget: &Budget) -> usize
+    pub fn put<T: CallReceipt>(self, take: WatchTake<T>, budget: &Budget, share: TextShare) -> usize
         requires told { IsTold self.tenant (Take self.slot) (T.slip_of take.receipt) }
         requires open { (T.slip_of take.receipt).canceled ≡ false }
     {
@@ -225,7 +225,11 @@ impl TextRoom<'_> {
             count,
             permit,
         } = self;
-        let text = TakenText::new(tenant, slot, count, take, budget);
+        let reserved = match share {
+            TextShare::Reserved(share) => Some(share),
+            TextShare::Later => None,
+        };
+        let text = TakenText::new(tenant, slot, count, take, budget, reserved);
         let length = text.len();
         permit.send(text);
         length

@@ -13,7 +13,7 @@ use crate::stall::Stall;
 use bytes::Bytes;
 use etcd_types::Refusal;
 use etcd_types::limits::MAX_BODY;
-use fair_turns::BodyShare;
+use fair_turns::{BodyShare, SHORT, TreeWeight};
 use futures::ready;
 use futures::task::{Context, Poll};
 use http_body_util::{Limited, LimitedError};
@@ -43,6 +43,8 @@ pub(crate) struct Reading<I, R: Wait + Drop> {
     route: Result<Route, Refusal>,
     body: Limited<Incoming<I>>,
     read: Vec<u8>,
+    /// What reading the values of a long body may take.
+    tree: TreeWeight,
     terms: BodyTerms<R>,
     /// Much of it was read: the next piece is left for a later turn of its loop.
     rests: bool,
@@ -120,6 +122,7 @@ impl<I: Drop, R: Wait + Clock + Copy + Drop> Reading<I, R> {
             route,
             body: Limited::new(body, MAX_BODY),
             read: Vec::new(alloc),
+            tree: TreeWeight::EMPTY,
             terms,
             rests: false,
             lost,
@@ -246,6 +249,8 @@ impl<I: Drop, R: Wait + Clock + Copy + Drop> Reading<I, R> {
         }
         if self.read.extend_from_slice(piece).is_err() {
             self.lose();
+        } else if self.terms.bound > SHORT {
+            self.tree.add(piece);
         }
     }
 
@@ -264,6 +269,7 @@ impl<I: Drop, R: Wait + Clock + Copy + Drop> Reading<I, R> {
             route,
             body: _,
             read,
+            tree,
             terms,
             rests: _,
             lost,
@@ -284,7 +290,11 @@ impl<I: Drop, R: Wait + Clock + Copy + Drop> Reading<I, R> {
             return Begun::Answered(unanswered.refused(alloc, Refusal::Memory));
         };
         let share = terms.into_share().for_body(read.len());
-        let body = RequestBody { bytes: read, share };
+        let body = RequestBody {
+            bytes: read,
+            share,
+            tree,
+        };
         Begun::new(&rt, alloc, jobs, unanswered, route, body)
     }
 }

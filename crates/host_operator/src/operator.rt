@@ -297,7 +297,7 @@ impl<'x, R: Wait + Clock + Files + AllocGlobal + Copy + Drop> Operator<'x, R> {
         let tenant = self.shared.tenants().named(&self.rt, SHARD, name);
         if let Some(budget) = changes.budget {
             if let Some(tenant) = &tenant {
-                tenant.change_budget(told.allowance.budget, budget);
+                tenant.change_budget(budget);
             }
             told.allowance.budget = budget;
         }

@@ -1,4 +1,4 @@
-//! How much memory the answer of a range may take, told before it is planned.
+//! How much memory the answer of a range and the events of a watch may take, told before they are planned.
 //!
 //! A weight is a bound in bytes: of the rows that a plan holds, and of the text that is written of them. It promises
 //! nothing beyond that, and no answer depends on it.
@@ -61,7 +61,37 @@ impl Store {
     }
 }
 
+impl Store {
+    /// The weight of an event of each kept change, with the row before it.
+    pub fn weight_of_changes(&self) -> u64 {
+        let changes = self.log.settled.len().saturating_add(self.log.recent.len()) as u64;
+        let bytes = u64::from(self.filled_cells()) * CELL_BYTES;
+        weight_for(changes.saturating_mul(2), bytes.saturating_mul(2))
+    }
+
+    /// The weight of the event of the change under a cell, with the row before it where that is asked for.
+    pub fn event_weight(&self, cell: CellNo, with_row_before: bool) -> u64 {
+        let own = self.log.row_weight(cell);
+        if with_row_before {
+            own.saturating_add(self.log.weight_before(cell))
+        } else {
+            own
+        }
+    }
+}
+
 impl Log {
+    /// The weight of the row before the change under a cell.
+    fn weight_before(&self, cell: CellNo) -> u64 {
+        if !self.region.has(cell) {
+            return 0;
+        }
+        match self.region.older(cell) {
+            Some(before) => self.row_weight(before),
+            None => 0,
+        }
+    }
+
     fn weight_of(&self, cells: &[CellNo]) -> u64 {
         let mut weight = 0u64;
         for cell in cells {

@@ -31,6 +31,7 @@ impl Machine {
             }
             Step::TimeToLive { keys: true, .. } => Ok(self.attached_weight()),
             Step::Leases => Ok(weight_for(self.leases.len() as u64, 0)),
+            Step::Take(slot) => self.watchers.weight(alloc, &self.store, *slot, enough),
             _ => Ok(0),
         }
     }

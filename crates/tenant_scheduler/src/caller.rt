@@ -18,7 +18,9 @@ use crate::clock::Moment;
 use crate::request::NamedTenant;
 use auto_compaction::DueRevision;
 use etcd_types::{Refusal, Step};
-use fair_turns::{Answer, LONGEST_ROW, MadeText, ServedWatch, Share, WatchEnds, WatchTake};
+use fair_turns::{
+    Answer, Budget, LONGEST_ROW, MadeText, ServedWatch, Share, TextShare, WatchEnds, WatchTake,
+};
 use std::alloc::Global;
 use std::rt::Clock;
 use std::sync::Wait;
@@ -266,6 +268,22 @@ impl<R: Wait + Clock + Drop, C: TenantCalls> Caller<R, C> {
         let enough = clients.budget.left() as u64;
         let weight = self.calls.weight(&self.rt, key, step, enough)?;
         Ok(clients.budget.reserve(weight))
+    }
+
+    /// The share of what a watch may be told next; none where its tenant's budget has not so much now.
+    pub(crate) fn reserve_text(
+        &self,
+        key: &Option<C::Key>,
+        budget: &Budget,
+        watch: &ServedWatch,
+    ) -> Result<Option<TextShare>, Refusal> {
+        let Some(key) = key else {
+            return Err(Refusal::NoTenant);
+        };
+        let take = Step::Take(watch.slot());
+        let enough = budget.left() as u64;
+        let weight = self.calls.weight(&self.rt, key, &take, enough)?;
+        Ok(budget.reserve_text(weight))
     }
 
     /// The current revision of the tenant of that number, if the key is to it.

@@ -11,6 +11,8 @@ use auto_compaction::DueRevision;
 use fair_turns::{Scheduler, Stopwatch, Work};
 use std::rt::Clock;
 use std::sync::Wait;
+use std::thread;
+use std::time::Duration;
 use tenant_calls::{TakeHint, TenantCalls};
 
 /// How many kept changes one step looks at.
@@ -21,6 +23,10 @@ const STEPS_A_TURN: u32 = 1024;
 
 /// After how many milliseconds a turn ends, once the step at hand is done.
 const MILLIS_A_TURN: u64 = 1;
+
+/// How many microseconds the thread rests behind such a turn. It may go on for seconds, and a thread that is woken on its processor
+/// would wait until the system takes that away from it.
+const MICROS_A_REST: u64 = 100;
 
 /// Steps CatchUp on each tenant where that is due, and compacts it where its standing order says so, until there are no
 /// more turns.
@@ -40,8 +46,11 @@ pub(crate) fn catch_up<R: Wait + Clock + Copy + Drop, C: TenantCalls>(
         };
         if let Some(tenant) = shared.numbered(&rt, tenant) {
             keep_order(&rt, caller, &shared.scheduler, &tenant);
-            move_on(&rt, caller, &tenant);
+            let has_more = move_on(&rt, caller, &tenant);
             shared.scheduler.finish(&rt, tenant.turns(), Work::CatchUp);
+            if has_more {
+                thread::sleep(&rt, Duration::from_micros(MICROS_A_REST));
+            }
         }
     }
 }
@@ -100,12 +109,12 @@ fn due_revision<R: Wait + Clock + Drop, C: TenantCalls>(
     clients.standing.look(moment, revision)
 }
 
-/// Steps a tenant's CatchUp, and goes on for a while as long as a watch is far behind.
+/// Steps a tenant's CatchUp, and goes on for a while as long as a watch is far behind. Whether one still is then is told.
 fn move_on<R: Wait + Clock + Drop, C: TenantCalls>(
     rt: &R,
     caller: &mut Caller<R, C>,
     tenant: &ServedTenant<R, C::Key>,
-) {
+) -> bool {
     let clients = tenant.clients.lock(rt);
     let stopwatch = Stopwatch::start(rt);
     for _ in 0..STEPS_A_TURN {
@@ -113,13 +122,15 @@ fn move_on<R: Wait + Clock + Drop, C: TenantCalls>(
         if caller
             .catch_up(&clients.key, tenant.number(), BUDGET)
             .is_err()
+            || !is_far_behind(caller, &*clients)
         {
-            return;
+            return false;
         }
-        if !is_far_behind(caller, &*clients) || stopwatch.is_past(rt, MILLIS_A_TURN) {
-            return;
+        if stopwatch.is_past(rt, MILLIS_A_TURN) {
+            break;
         }
     }
+    true
 }
 
 /// A watch of the tenant is far behind.

@@ -8,11 +8,9 @@ use crate::caller::Caller;
 use crate::clients::Clients;
 use crate::serving::ServingThread;
 use crate::tenants::ServedTenant;
-use etcd_types::Mem;
 use fair_turns::{
     Budget, NoRoom, Scheduler, ServedWatch, Stopwatch, TenantCounts, TenantTurns, WatchTake, Work,
 };
-use std::alloc::AllocError;
 use std::rt::Clock;
 use std::sync::Wait;
 use tenant_calls::{TakeHint, TenantCalls};
@@ -170,7 +168,7 @@ pub(crate) fn take_all<R: Wait + Clock + Drop, C: TenantCalls>(
 }
 
 /// Takes for the watch at a place, if it is meant, and goes on to the next one. One that was cancelled ends, and leaves its
-/// place to the last. It is `false` where the take found no memory.
+/// place to the last. It is `false` where the take found no memory, or a client that waits is not told for its tenant's budget.
 fn take_at<R: Wait + Clock + Drop, C: TenantCalls>(
     caller: &mut Caller<R, C>,
     clients: &mut Clients<C::Key>,
@@ -206,11 +204,19 @@ fn take_at<R: Wait + Clock + Drop, C: TenantCalls>(
             *at = at.saturating_add(1);
             true
         }
-        Err(_) => {
+        Err(why) => {
             *at = at.saturating_add(1);
-            false
+            meant.is_met_without(why)
         }
     }
+}
+
+/// Why a watch is not taken for.
+#[derive(Clone, Copy)]
+enum NoTake {
+    /// Its tenant's budget has no room for its text now.
+    Spent,
+    Memory,
 }
 
 /// Which watches are taken for.
@@ -231,9 +237,15 @@ impl Meant {
             Meant::All => !may_give || budget.left() > 0,
         }
     }
+
+    /// Whether all is done that is meant, although a watch was not taken for.
+    fn is_met_without(self, why: NoTake) -> bool {
+        matches!((self, why), (Meant::All, NoTake::Spent))
+    }
 }
 
-/// Takes once, if there is room for a text, and puts it in. A take that found the watch cancelled comes back: the watch ends by it.
+/// Takes once, if the watch has room for a text and its tenant's budget has its share, and puts it in. A take that found the
+/// watch cancelled comes back: the watch ends by it.
 #[tactic(auto, using(crate::proofs::MakeLemmas::only_own, crate::proofs::MakeLemmas::only_none))]
 fn take<R: Wait + Clock + Drop, C: TenantCalls>(
     caller: &mut Caller<R, C>,
@@ -241,7 +253,7 @@ fn take<R: Wait + Clock + Drop, C: TenantCalls>(
     budget: &Budget,
     counts: &TenantCounts,
     watch: &ServedWatch,
-) -> Mem<Option<WatchTake<C::Receipt>>>
+) -> Result<Option<WatchTake<C::Receipt>>, NoTake>
     ensures others { IsOnlyOn C.Key.name_of key.now (C.made caller.old.calls) (C.made caller.new.calls) }
     ensures told { IfOk result (λ told. IfSome told (λ take.
         IsTold watch.now.tenant (Take watch.now.slot) (C.Receipt.slip_of take.receipt))) }
@@ -250,10 +262,15 @@ fn take<R: Wait + Clock + Drop, C: TenantCalls>(
     let room = match watch.room() {
         Ok(room) => room,
         Err(NoRoom::Unread) => return Ok(None),
-        Err(NoRoom::Memory) => return Err(AllocError),
+        Err(NoRoom::Memory) => return Err(NoTake::Memory),
+    };
+    let share = match caller.reserve_text(key, budget, watch) {
+        Ok(Some(share)) => share,
+        Ok(None) => return Err(NoTake::Spent),
+        Err(_) => return Err(NoTake::Memory),
     };
     let Ok(take) = caller.take(key, watch.tenant(), watch.slot()) else {
-        return Err(AllocError);
+        return Err(NoTake::Memory);
     };
     if take.is_cancel() {
         return Ok(Some(take));
@@ -261,7 +278,7 @@ fn take<R: Wait + Clock + Drop, C: TenantCalls>(
     if take.is_quiet() {
         take.end();
     } else {
-        counts.add_out(room.put(take, budget));
+        counts.add_out(room.put(take, budget, share));
     }
     Ok(None)
 }

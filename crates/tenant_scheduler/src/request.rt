@@ -3,7 +3,7 @@ ghost use Rattle.std.specs.Prelude.{◌≡◌, true, IfErr, IfOk};
 ghost use Rattle.tenant_scheduler.specs.Requests.{AsksTheSame, IsStepOf, IsUnread};
 
 use etcd_types::{Call, Refusal, Step};
-use fair_turns::Share;
+use fair_turns::{Share, TreeWeight};
 use gateway_json::read_step;
 use std::alloc::Global;
 use std::sync::Arc;
@@ -35,11 +35,17 @@ pub struct Route {
 pub struct RequestBody {
     pub bytes: Vec<u8>,
     pub share: Option<Share>,
+    /// What reading it may take beside, if it is long.
+    pub tree: TreeWeight,
 }
 
 impl Drop for RequestBody {
     fn drop(self) {
-        let RequestBody { bytes: _, share: _ } = self;
+        let RequestBody {
+            bytes: _,
+            share: _,
+            tree: _,
+        } = self;
     }
 }
 
@@ -55,6 +61,11 @@ impl Request {
     /// How many bytes its body has.
     pub(crate) fn len(&self) -> usize {
         self.body.bytes.len()
+    }
+
+    /// What reading its body may take beside the body's bytes, if it is long.
+    pub(crate) fn tree(&self) -> TreeWeight {
+        self.body.tree
     }
 
     /// The bytes of its body.

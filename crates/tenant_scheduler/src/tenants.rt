@@ -125,13 +125,9 @@ impl<R: Wait + Drop, K: TenantKey> ServedTenant<R, K> {
         self.clients.lock(rt).standing = order;
     }
 
-    /// Gives its clients another budget than they had. What they have under way beyond it is owed.
-    pub fn change_budget(&self, before: usize, bytes: usize) {
-        if bytes > before {
-            self.entrance.budget.give_back(bytes - before);
-        } else {
-            self.entrance.budget.take(before - bytes);
-        }
+    /// Gives its clients another budget. What they have under way beyond it is owed.
+    pub fn change_budget(&self, bytes: usize) {
+        self.entrance.budget.change(bytes);
     }
 }
 

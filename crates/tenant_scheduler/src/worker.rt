@@ -11,7 +11,7 @@ use crate::request::Request;
 use crate::serving::ServingThread;
 use crate::tenants::ServedTenant;
 use etcd_types::{Refusal, Step};
-use fair_turns::{SMALL_TREE, Scheduler, Stopwatch, WatchEnds, Work, tree_weight};
+use fair_turns::{Scheduler, Stopwatch, WatchEnds, Work};
 use std::alloc::Global;
 use std::rt::Clock;
 use std::sync::{Arc, Wait};
@@ -221,15 +221,15 @@ impl<R: Wait + Clock + Copy + Drop, C: TenantCalls> WorkerTurn<'_, '_, R, C> {
         ensures step { IfOk result (λ step. IsStepOf request.now step) }
         ensures refused { IfErr result (λ r. IsUnread request.now r) }
     {
-        let weight = tree_weight(request.bytes());
-        if weight <= SMALL_TREE {
+        let tree = request.tree();
+        if tree.is_small() {
             return request.read(self.alloc);
         }
-        let Some(tree) = clients.budget.reserve(weight) else {
+        let Some(share) = clients.budget.reserve(tree.bytes()) else {
             return Err(Refusal::Memory);
         };
         let step = request.read(self.alloc);
-        drop(tree);
+        drop(share);
         step
     }
 

@@ -39,6 +39,7 @@ mod telling;
 mod wanting;
 mod watch;
 mod watchers;
+mod weighing;
 
 pub use hint::Hint;
 pub use planned::{NewWatch, PlannedTake, Taken, WatchFault};

@@ -79,7 +79,7 @@ impl OpenWatch {
 
 impl Watchers {
     /// The watch of a slot.
-    fn watch(&self, slot: u8) -> Option<&OpenWatch>
+    pub(crate) fn watch(&self, slot: u8) -> Option<&OpenWatch>
         ensures { option_copied result ≡ watch_in self.now slot }
     {
         match self.slots.get(slot as usize) {
