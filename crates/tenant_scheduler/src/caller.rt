@@ -280,10 +280,14 @@ impl<R: Wait + Clock + Drop, C: TenantCalls> Caller<R, C> {
         let Some(key) = key else {
             return Err(Refusal::NoTenant);
         };
-        let take = Step::Take(watch.slot());
-        let enough = budget.left() as u64;
-        let weight = self.calls.weight(&self.rt, key, &take, enough)?;
+        let weight = self.weight_of_take(key, watch.slot(), budget.left())?;
         Ok(budget.reserve_text(weight))
+    }
+
+    /// What the next take of a slot may take until its text is sent, as exact as so many bytes are enough to know.
+    fn weight_of_take(&self, key: &C::Key, slot: u8, enough: usize) -> Result<u64, Refusal> {
+        self.calls
+            .weight(&self.rt, key, &Step::Take(slot), enough as u64)
     }
 
     /// The current revision of the tenant of that number, if the key is to it.

@@ -6,6 +6,7 @@ use crate::caller::Caller;
 use crate::clients::Clients;
 use crate::pump::take_all;
 use crate::serving::ServingThread;
+use crate::shared::Shared;
 use crate::tenants::ServedTenant;
 use auto_compaction::DueRevision;
 use fair_turns::{Scheduler, Stopwatch, Work};
@@ -44,14 +45,25 @@ pub(crate) fn catch_up<R: Wait + Clock + Copy + Drop, C: TenantCalls>(
         let Some(tenant) = shared.next_turn(&rt, place, &shared.turns.catch_up) else {
             break;
         };
-        if let Some(tenant) = shared.numbered(&rt, tenant) {
-            keep_order(&rt, caller, &shared.scheduler, &tenant);
-            let has_more = move_on(&rt, caller, &tenant);
-            shared.scheduler.finish(&rt, tenant.turns(), Work::CatchUp);
-            if has_more {
-                thread::sleep(&rt, Duration::from_micros(MICROS_A_REST));
-            }
-        }
+        serve_turn(&rt, caller, shared, tenant);
+    }
+}
+
+/// Serves the tenant of a number, whose turn it is, if it is still there.
+fn serve_turn<R: Wait + Clock + Drop, C: TenantCalls>(
+    rt: &R,
+    caller: &mut Caller<R, C>,
+    shared: &Shared<R, C::Key>,
+    number: u64,
+) {
+    let Some(tenant) = shared.numbered(rt, number) else {
+        return;
+    };
+    keep_order(rt, caller, &shared.scheduler, &tenant);
+    let has_more = move_on(rt, caller, &tenant);
+    shared.scheduler.finish(rt, tenant.turns(), Work::CatchUp);
+    if has_more {
+        thread::sleep(rt, Duration::from_micros(MICROS_A_REST));
     }
 }
 

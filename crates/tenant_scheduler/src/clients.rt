@@ -2,8 +2,11 @@
 ghost use Rattle.std.specs.Prelude.{◌≡◌, IfSome, Some};
 
 use crate::clock::Running;
-use auto_compaction::StandingOrder;
+use crate::entrances::Entrance;
+use auto_compaction::{Retention, StandingOrder};
+use etcd_types::Mem;
 use fair_turns::{Budget, Scheduler, ServedWatch, TenantCounts, TenantTurns, Work};
+use std::alloc::Global;
 use std::sync::{Arc, Wait};
 use tenant_calls::TenantKey;
 
@@ -29,6 +32,27 @@ pub(crate) struct Clients<K: TenantKey> {
 }
 
 impl<K: TenantKey> Clients<K> {
+    /// Those of a tenant whose calls go in there, with nothing under way. It has no key: it is not there yet.
+    pub(crate) fn new<R: Wait + Drop>(
+        alloc: Global,
+        entrance: &Entrance<R>,
+        retention: Retention,
+    ) -> Mem<Clients<K>> {
+        let number = entrance.tenant.number();
+        Ok(Clients {
+            key: None,
+            budget: entrance.budget.share()?,
+            counts: Arc::try_clone(&entrance.counts)?,
+            watches: Vec::new(alloc),
+            next_take: 0,
+            running: Running::new(number),
+            standing: StandingOrder::new(alloc, number, retention)?,
+            is_slow: false,
+            takes_left: 0,
+            left_to_workers: 0,
+        })
+    }
+
     /// Has the pump take for the tenant's watches, if there are any.
     pub(crate) fn schedule_takes<R: Wait>(
         &self,

@@ -5,6 +5,7 @@ mod server_clock;
 
 use crate::caller::Caller;
 use crate::serving::ServingThread;
+use crate::shared::Shared;
 use crate::tenants::ServedTenant;
 use crossbeam_channel::RecvTimeoutError;
 use fair_turns::{Scheduler, Turn, Work};
@@ -39,18 +40,27 @@ pub(crate) fn keep_time<R: Wait + Clock + Copy + Drop, C: TenantCalls>(
         let now = clock.read(&rt);
         shared.beats.beat(&rt, place);
         match turn {
-            Ok(Turn::On(tenant)) => {
-                if let Some(tenant) = shared.numbered(&rt, tenant) {
-                    tick(&rt, caller, &shared.scheduler, &tenant, now);
-                    shared.scheduler.finish(&rt, tenant.turns(), Work::Tick);
-                }
-            }
+            Ok(Turn::On(tenant)) => serve_turn(&rt, caller, shared, tenant, now),
             Ok(Turn::Over) | Err(RecvTimeoutError::Disconnected) => break,
             Err(RecvTimeoutError::Timeout) => {
                 shared.schedule_all(&rt, Work::Tick);
                 due = next_due(due, now.since_start());
             }
         }
+    }
+}
+
+/// Serves the tick of the tenant of a number, whose turn it is, if it is still there.
+fn serve_turn<R: Wait + Clock + Drop, C: TenantCalls>(
+    rt: &R,
+    caller: &mut Caller<R, C>,
+    shared: &Shared<R, C::Key>,
+    number: u64,
+    now: ServerMoment,
+) {
+    if let Some(tenant) = shared.numbered(rt, number) {
+        tick(rt, caller, &shared.scheduler, &tenant, now);
+        shared.scheduler.finish(rt, tenant.turns(), Work::Tick);
     }
 }
 

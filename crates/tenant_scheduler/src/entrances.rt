@@ -22,6 +22,24 @@ pub(crate) struct Entrance<R: Wait + Drop> {
     pub(crate) counts: Arc<TenantCounts>,
 }
 
+impl<R: Wait + Drop> Entrance<R> {
+    /// That of a tenant with these turns and so large a budget, of which nothing waits.
+    pub(crate) fn new(
+        alloc: Global,
+        tenant: NamedTenant,
+        turns: TenantTurns,
+        budget: usize,
+    ) -> Mem<Entrance<R>> {
+        Ok(Entrance {
+            tenant: Arc::new(alloc, tenant)?,
+            turns: Arc::new(alloc, turns)?,
+            queue: JobQueue::new(alloc),
+            budget: Budget::new(alloc, budget)?,
+            counts: Arc::new(alloc, TenantCounts::new())?,
+        })
+    }
+}
+
 /// The tenants by their names, and their entrances by their numbers.
 #[derive(Drop)]
 struct Directory<R: Wait + Drop> {

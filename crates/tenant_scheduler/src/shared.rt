@@ -104,19 +104,30 @@ pub fn open<R: Wait + Clock + Drop, K: TenantKey>(
     threads: usize,
     workers: usize,
 ) -> Mem<(Jobs<R>, Arc<Shared<R, K>>)> {
+    let beats = Beats::new(rt, alloc, threads)?;
     let (scheduler, turns) = Scheduler::new(alloc, threads, workers)?;
     let scheduler = Arc::new(alloc, scheduler)?;
-    let entrances = Entrances::new(alloc, Arc::try_clone(&scheduler)?)?;
-    let entrances = Arc::new(alloc, entrances)?;
-    let tenants = Tenants::new(alloc, Arc::try_clone(&entrances)?)?;
-    tenants.admit_all(rt, alloc, keys, terms)?;
-    let tenants = Arc::new(alloc, tenants)?;
-    let jobs = Jobs::new(entrances);
+    let (entrances, tenants) = admitted(rt, alloc, &scheduler, keys, terms)?;
     let shared = Shared {
         scheduler,
         turns,
-        beats: Beats::new(rt, alloc, threads)?,
+        beats,
         tenants,
     };
-    Ok((jobs, Arc::new(alloc, shared)?))
+    Ok((Jobs::new(entrances), Arc::new(alloc, shared)?))
+}
+
+/// Tenants by their keys and terms, and where their calls go in.
+fn admitted<R: Wait + Clock + Drop, K: TenantKey>(
+    rt: &R,
+    alloc: Global,
+    scheduler: &Arc<Scheduler>,
+    keys: Vec<K>,
+    terms: &[TenantTerms],
+) -> Mem<(Arc<Entrances<R>>, Arc<Tenants<R, K>>)> {
+    let entrances = Entrances::new(alloc, Arc::try_clone(scheduler)?)?;
+    let entrances = Arc::new(alloc, entrances)?;
+    let tenants = Tenants::new(alloc, Arc::try_clone(&entrances)?)?;
+    tenants.admit_all(rt, alloc, keys, terms)?;
+    Ok((entrances, Arc::new(alloc, tenants)?))
 }

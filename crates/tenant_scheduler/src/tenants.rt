@@ -7,15 +7,14 @@
 //! A removal ends the tenant in this order: no request finds it by its name; no turn begins, and the last one has ended;
 //! its key is gone, the jobs that wait are answered that it is not there, and its watches end; its number finds nothing.
 use crate::clients::Clients;
-use crate::clock::Running;
 use crate::entrances::{Entrance, Entrances};
-use crate::job_queue::{Job, JobQueue};
+use crate::job_queue::Job;
 use crate::request::NamedTenant;
 use auto_compaction::{Retention, StandingOrder};
 use crossbeam_utils::sync::ShardedLock;
 use etcd_types::Mem;
 use etcd_types::limits::MAX_TENANTS;
-use fair_turns::{Budget, DEFAULT_BUDGET, Scheduler, TenantCounts, TenantTurns, Work};
+use fair_turns::{DEFAULT_BUDGET, Scheduler, TenantCounts, TenantTurns, Work};
 use indexmap::IndexMap;
 use std::alloc::Global;
 use std::rt::Clock;
@@ -62,28 +61,8 @@ impl<R: Wait + Drop, K: TenantKey> ServedTenant<R, K> {
         turns: TenantTurns,
         terms: TenantTerms,
     ) -> Mem<ServedTenant<R, K>> {
-        let number = tenant.number;
-        let budget = Budget::new(alloc, terms.budget)?;
-        let counts = Arc::new(alloc, TenantCounts::new())?;
-        let clients = Clients {
-            key: None,
-            budget: budget.share()?,
-            counts: Arc::try_clone(&counts)?,
-            watches: Vec::new(alloc),
-            next_take: 0,
-            running: Running::new(number),
-            standing: StandingOrder::new(alloc, number, terms.retention)?,
-            is_slow: false,
-            takes_left: 0,
-            left_to_workers: 0,
-        };
-        let entrance = Entrance {
-            tenant: Arc::new(alloc, tenant)?,
-            turns: Arc::new(alloc, turns)?,
-            queue: JobQueue::new(alloc),
-            budget,
-            counts,
-        };
+        let entrance = Entrance::new(alloc, tenant, turns, terms.budget)?;
+        let clients = Clients::new(alloc, &entrance, terms.retention)?;
         Ok(ServedTenant {
             entrance: Arc::new(alloc, entrance)?,
             clients: Mutex::new(clients),
@@ -254,19 +233,18 @@ impl<R: Wait + Drop, K: TenantKey> Tenants<R, K> {
         name: &[u8],
         terms: TenantTerms,
     ) -> Mem<NewTenant<R, K>> {
-        let turns = self.entrances.turns_of(number)?;
+        self.entrances.make_room(rt)?;
+        self.served.write(rt).reserve(1)?;
         let named = NamedTenant {
             name: Vec::from_slice(alloc, name)?,
             number,
         };
+        let turns = self.entrances.turns_of(number)?;
         let tenant = ServedTenant::new(alloc, named, turns, terms)?;
-        let new = NewTenant {
-            name: Vec::from_slice(alloc, name)?,
+        Ok(NewTenant {
             tenant: Arc::new(alloc, tenant)?,
-        };
-        self.entrances.make_room(rt)?;
-        self.served.write(rt).reserve(1)?;
-        Ok(new)
+            name: Vec::from_slice(alloc, name)?,
+        })
     }
 
     /// Serves a new tenant, which has this key; a key of another number opens nothing.

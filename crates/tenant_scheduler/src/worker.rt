@@ -1,5 +1,5 @@
 //! The workers: the calls of clients.
-ghost use Rattle.std.specs.Prelude.{◌≡◌, IfErr, IfOk};
+ghost use Rattle.std.specs.Prelude.{◌≡◌, ◌<◌, length, vec_capacity, IfErr, IfOk};
 ghost use Rattle.tenant_scheduler.specs.Makes.{IsMadeAfterTakes, IsOpened, IsRequestMade};
 ghost use Rattle.tenant_scheduler.specs.Requests.{IsReadAs, IsStepOf, IsUnread};
 
@@ -10,7 +10,7 @@ use crate::pump::{serve_takes, take_all};
 use crate::request::Request;
 use crate::serving::ServingThread;
 use crate::tenants::ServedTenant;
-use etcd_types::{Refusal, Step};
+use etcd_types::{Mem, Refusal, Step};
 use fair_turns::{Scheduler, Stopwatch, WatchEnds, Work};
 use std::alloc::Global;
 use std::rt::Clock;
@@ -246,12 +246,19 @@ impl<R: Wait + Clock + Copy + Drop, C: TenantCalls> WorkerTurn<'_, '_, R, C> {
         ensures made { IsOpened C.Key.number_of C.Key.name_of C.gives unserved.request.value.route.tenant.value step
             result.own.answer clients.old.watches.items clients.new.watches.items (C.made caller.old.calls) (C.made caller.new.calls) }
     {
-        if clients.watches.reserve(1).is_err() {
-            return unserved.refused(self.alloc, Refusal::Memory);
+        match self.make_room(clients) {
+            Ok(ends) => caller.open(self.alloc, clients, unserved, step, ends),
+            Err(_) => unserved.refused(self.alloc, Refusal::Memory),
         }
-        let Ok(ends) = WatchEnds::new(self.rt, self.alloc, self.tenant.turns()) else {
-            return unserved.refused(self.alloc, Refusal::Memory);
-        };
-        caller.open(self.alloc, clients, unserved, step, ends)
+    }
+
+    /// Takes what memory one more watch needs here.
+    fn make_room(&self, clients: &mut Clients<C::Key>) -> Mem<WatchEnds<R>>
+        ensures room { IfOk result (λ _. length clients.new.watches.items < vec_capacity clients.new.watches) }
+        ensures watches { clients.new.watches.items ≡ clients.old.watches.items }
+        ensures key { clients.new.key ≡ clients.old.key }
+    {
+        clients.watches.reserve(1)?;
+        WatchEnds::new(self.rt, self.alloc, self.tenant.turns())
     }
 }
