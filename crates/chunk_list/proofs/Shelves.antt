@@ -5,7 +5,7 @@ use Rattle.std.proofs.lemmas.Bool.{cases_lt}
 use Rattle.std.proofs.lemmas.List.{map-append, length-append, length-map, length-set, length-drop, length-take-le, take-append-drop, drop_more, get_or-map, map-set, set_split, take-map, drop-map, set-get_or}
 use Rattle.std.proofs.lemmas.List.Edits.{length-insert, length-remove}
 use Rattle.chunk_list.specs.Chunks.{chunk_at}
-use Rattle.chunk_list.specs.Shelves.{stretch, written, span_items, chunks_in, bays_of, covers, covered, TakesBay, IsSpan, IsShelf}
+use Rattle.chunk_list.specs.Shelves.{Shelved, stretch, written, span_items, chunks_in, bays_of, covers, covered, TakesBay, IsSpan, IsShelf}
 use Rattle.chunk_list.specs.declared.span.TheConstants.{MOST}
 use Rattle.chunk_list.specs.declared.span.Span.{Span}
 use Rattle.chunk_list.proofs.Stretches.{length_written, written_here, written_below, written_above, stretch_kept}
@@ -133,6 +133,20 @@ module _ {T : Type 0} where
       let here = span_of xs spans i s less is all in
       let items = ap (λ ps. chunk_at ps i) (sym same) ∙ chunk_of xs spans i s less is in
       record { lt = less; is = is; span_is = here; items = items; len = ap length items ∙ span_length xs s here }
+
+  -- the same of a shelf, as its view tells of it
+  pub spans_count : {xs : List T} {spans : List Span} {free : List ℕ} {most a b c : ℕ} {w : Shelved T} → IsShelf xs spans free most a b c → record { chunks = chunks_in xs spans; most = most } ≡ w → length w.chunks ≡ length spans
+  spans_count {xs} {spans} shelf same = omega (arith, ap (λ (w : Shelved T). length w.chunks) same, chunks_count xs spans)
+
+  pub read_of : {xs : List T} {spans : List Span} {free : List ℕ} {most a b c : ℕ} {w : Shelved T} {i : ℕ} {s : Span} → IsShelf xs spans free most a b c → record { chunks = chunks_in xs spans; most = most } ≡ w → i < length w.chunks → s ≡ get_or spans i s → IsRead xs spans i s w.chunks
+  read_of {xs} {spans} {i = i} {s} shelf same lt is = read xs spans i s _ (ap (λ (w : Shelved T). w.chunks) same) lt is shelf.spans_are
+
+  -- there is room in a bay for as many items as it has places, if any bay was made
+  pub within_bay : {xs : List T} {s : Span} → IsSpan xs s → (n : ℕ) → n ≤ MOST → (length xs ≡ 0 → n ≡ 0) → s.first + n ≤ length xs
+  within_bay {xs} {s} is n few none = elim (cases_lt 0 (length xs)) [
+    | inl some ↦ omega (arith, few, is.whole some)
+    | inr le ↦ omega (arith, is.within, none (omega (arith, le)))
+  ]
 
   -- ---- one chunk changed
 

@@ -7,7 +7,7 @@ use Rattle.chunk_list.specs.Shelves.{span_items, chunks_in, IsSpan, HasLeft}
 use Rattle.chunk_list.specs.declared.span.Span.{Span}
 use Rattle.chunk_list.proofs.Chunks.{dense_rest}
 use Rattle.chunk_list.proofs.Walks.{first_some}
-use Rattle.chunk_list.proofs.Shelves.{all_drop, chunks_count}
+use Rattle.chunk_list.proofs.Shelves.{all_at, all_drop, chunks_count}
 
 module _ {T : Type 0} where
   -- some items are at hand, and they are the next of those that were left
@@ -23,6 +23,16 @@ module _ {T : Type 0} where
   some_span places at_hand spans left has some none =
       let first = first_some (chunks_in places spans) left has.dense some (omega (arith, has.enough, none)) in
       (omega (arith, first.0, chunks_count places spans), first.1)
+
+  -- the same of that chunk's span
+  pub record HasNext (places : List T) (spans : List Span) (d : Span) : Type 0 where
+    pub some : 0 < length spans
+    pub span_is : IsSpan places (get_or spans 0 d)
+
+  pub next_span : {places at_hand : List T} {spans : List Span} {left : ℕ} (d : Span) → HasLeft places at_hand spans left → 0 < left → length at_hand ≡ 0 → HasNext places spans d
+  next_span {places} {at_hand} {spans} {left} d has some none =
+      let first = some_span places at_hand spans left has some none in
+      record { some = first.0; span_is = all_at (IsSpan places) spans 0 d first.0 has.spans_are }
 
   -- the items of the next chunk come to hand
   pub hand_next : (places at_hand : List T) (spans : List Span) (left : ℕ) (d : Span) (places' at_hand' : List T) (spans' : List Span) (left' : ℕ) → HasLeft places at_hand spans left → 0 < left → length at_hand ≡ 0 → places' ≡ places → at_hand' ≡ span_items places (get_or spans 0 d) → spans' ≡ drop 1 spans → left' ≡ left → IsAtHand places at_hand spans left places' at_hand' spans' left'

@@ -1,7 +1,7 @@
+use Rattle.chunk_list.proofs.Shelves.{read_of, spans_count, chunks_count, taken, opened_chunks, opened_shelf, filled_chunks}
 use Rattle.std.proofs.Common.{◌≡◌, ◌+◌, ◌<◌, [], length, refl, ap, subst, ◌∙◌, arith}
 use Rattle.std.specs.List.{insert}
 use Rattle.chunk_list.specs.Shelves.{Shelved, chunks_in, TakesBay}
-use Rattle.chunk_list.proofs.Shelves.{chunks_count, taken, opened_chunks, opened_shelf, filled_chunks}
 use Rattle.chunk_list.proofs.shelf.Shelf.open_after.Goals as goal
 
 pub overflow_add-first : goal.overflow_add-first
@@ -52,3 +52,38 @@ returns-clause-chunks g c =
     ap (chunks_in c.fill.new.places.items) c.insert_span.ensures.items
     ∙ opened_chunks c.fill.new.places.items spans (c.args.chunk + 1) (record { first = c.take_bay-first.result; len = 0 }) refl
     ∙ ap (λ ps. insert ps (c.args.chunk + 1) []) (filled_chunks xs c.fill.new.places.items spans c.fill.ensures.kept c.self.invariant.spans_are ∙ same)
+
+pub index-requires : goal.index-requires
+index-requires g c =
+    let count = spans_count c.self.invariant c.self.view_is in
+    omega arith
+
+pub index-item-requires : goal.index-item-requires
+index-item-requires g c =
+    let read = read_of c.self.invariant c.self.view_is c.requires.chunk c.index.ensures in
+    omega arith
+
+pub take_bay-first-requires : goal.take_bay-first-requires
+take_bay-first-requires g c =
+    let count = spans_count c.self.invariant c.self.view_is in
+    omega arith
+
+pub overflow_add-chunk : goal.overflow_add-chunk
+overflow_add-chunk g c =
+    let count = spans_count c.self.invariant c.self.view_is in
+    omega arith
+
+pub insert_span-requires-clause-at : goal.insert_span-requires-clause-at
+insert_span-requires-clause-at g c =
+    let count = spans_count c.self.invariant c.self.view_is in
+    omega arith
+
+pub insert_span-requires-clause-room : goal.insert_span-requires-clause-room
+insert_span-requires-clause-room g c =
+    let count = spans_count c.self.invariant c.self.view_is in
+    let most = ap (λ (w : Shelved g.row.T.Denot). w.most) c.self.view_is in
+    omega arith
+
+pub returns-clause-most : goal.returns-clause-most
+returns-clause-most g c =
+    ap (λ (w : Shelved g.row.T.Denot). w.most) c.self.view_is

@@ -1,10 +1,10 @@
+use Rattle.chunk_list.proofs.Steps.{next_span, IsAtHand, gone_on, hand_next, hand_same, part_whole}
 use Rattle.std.proofs.Common.{◌≡◌, ◌<◌, ◌∙◌, ℕ, Bool, true, false, length, take, drop, ◌-◌, ◌++◌, ◌∷◌, sym, ap, arith}
 use Rattle.std.specs.Prelude.{nat_eq}
 use Rattle.std.proofs.lemmas.Bool.Decides.{nat_tests}
 use Rattle.chunk_list.specs.Chunks.{chunk_items}
 use Rattle.chunk_list.specs.Shelves.{chunks_in}
 use Rattle.chunk_list.proofs.Walks.{rest_whole}
-use Rattle.chunk_list.proofs.Steps.{IsAtHand, gone_on, hand_next, hand_same, part_whole}
 use Rattle.chunk_list.proofs.walk.WalkIterator.next.Goals as goal
 use Rattle.chunk_list.proofs.walk.WalkIterator.next.Goals.{then-is_empty, else-is_empty}
 
@@ -39,3 +39,48 @@ returns-clause-steps g c =
     sym c.self.view_is
     ∙ on.0
     ∙ ap (λ x. x ∷ take (new.left - 1) (take (length new.at_hand.now - 1) (drop 1 new.at_hand.now) ++ chunk_items (chunks_in new.places.now new.spans.now))) c.index-self-0.is
+
+pub bounds-self-inside-0 : goal.bounds-self-inside-0
+bounds-self-inside-0 g c =
+    let none = none_of (length c.self.inside.at_hand.now) c.is_empty.result c.is_empty.ensures c.if-is_empty.true in
+    let next = next_span (record { first = 0; len = 0 }) c.self.invariant (omega arith) none in omega arith
+
+pub overflow_add-self : goal.overflow_add-self
+overflow_add-self g c =
+    let none = none_of (length c.self.inside.at_hand.now) c.is_empty.result c.is_empty.ensures c.if-is_empty.true in
+    let next = next_span (record { first = 0; len = 0 }) c.self.invariant (omega arith) none in omega arith
+
+pub offset_bounds-self-inside-span : goal.offset_bounds-self-inside-span
+offset_bounds-self-inside-span g c =
+    let none = none_of (length c.self.inside.at_hand.now) c.is_empty.result c.is_empty.ensures c.if-is_empty.true in
+    let next = next_span (record { first = 0; len = 0 }) c.self.invariant (omega arith) none in omega arith
+
+pub slice_bounds-self-count : goal.slice_bounds-self-count
+slice_bounds-self-count g c =
+    let none = none_of (length c.self.inside.at_hand.now) c.is_empty.result c.is_empty.ensures c.if-is_empty.true in
+    let next = next_span (record { first = 0; len = 0 }) c.self.invariant (omega arith) none in omega arith
+
+pub slice_bounds-self-start : goal.slice_bounds-self-start
+slice_bounds-self-start g c =
+    let none = none_of (length c.self.inside.at_hand.now) c.is_empty.result c.is_empty.ensures c.if-is_empty.true in
+    let next = next_span (record { first = 0; len = 0 }) c.self.invariant (omega arith) none in omega arith
+
+pub slice_bounds-self-end : goal.slice_bounds-self-end
+slice_bounds-self-end g c =
+    let none = none_of (length c.self.inside.at_hand.now) c.is_empty.result c.is_empty.ensures c.if-is_empty.true in
+    let next = next_span (record { first = 0; len = 0 }) c.self.invariant (omega arith) none in omega arith
+
+pub slice_bounds-self-count-then-is_empty : goal.slice_bounds-self-count-then-is_empty
+slice_bounds-self-count-then-is_empty g c =
+    let none = none_of (length c.self.inside.at_hand.now) c.is_empty.result c.is_empty.ensures c.if-is_empty.true in
+    let next = next_span (record { first = 0; len = 0 }) c.self.invariant (omega arith) none in omega arith
+
+pub slice_bounds-self-start-then-is_empty : goal.slice_bounds-self-start-then-is_empty
+slice_bounds-self-start-then-is_empty g c =
+    let none = none_of (length c.self.inside.at_hand.now) c.is_empty.result c.is_empty.ensures c.if-is_empty.true in
+    let next = next_span (record { first = 0; len = 0 }) c.self.invariant (omega arith) none in omega arith
+
+pub slice_bounds-self-end-then-is_empty : goal.slice_bounds-self-end-then-is_empty
+slice_bounds-self-end-then-is_empty g c =
+    let none = none_of (length c.self.inside.at_hand.now) c.is_empty.result c.is_empty.ensures c.if-is_empty.true in
+    let next = next_span (record { first = 0; len = 0 }) c.self.invariant (omega arith) none in omega arith
