@@ -3,5 +3,6 @@ pub mod ListLemmas
 pub mod NumberLemmas
 pub mod PathLemmas
 pub mod SpellingLemmas
+pub mod StepLemmas
 pub mod TableLemmas
 pub mod TakingLemmas

@@ -29,18 +29,18 @@ fn read_members(alloc: Global, call: Call, value: &Value) -> Result<Step, Refusa
     ensures exact { TakesNone call (view value.now) → result ≡ read_members call (view value.now) }
 {
     match call {
-        Call::Range => Ok(Step::Range(read_range(alloc, value)?)),
-        Call::Put => Ok(Step::Put(read_put(alloc, value)?)),
-        Call::DeleteRange => Ok(Step::Delete(read_delete(alloc, value)?)),
-        Call::Txn => Ok(Step::Txn(read_txn(alloc, value)?)),
+        Call::Range => read_range(alloc, value).map(Step::Range),
+        Call::Put => read_put(alloc, value).map(Step::Put),
+        Call::DeleteRange => read_delete(alloc, value).map(Step::Delete),
+        Call::Txn => read_txn(alloc, value).map(Step::Txn),
         Call::Compaction => read_compaction(value),
-        Call::Watch => Ok(Step::Watch(read_watch(alloc, value)?)),
-        Call::Grant => Ok(Step::Grant(read_grant(value)?)),
-        Call::Revoke => Ok(Step::Revoke(read_id(value)?)),
-        Call::KeepAlive => Ok(Step::KeepAlive(read_id(value)?)),
+        Call::Watch => read_watch(alloc, value).map(Step::Watch),
+        Call::Grant => read_grant(value).map(Step::Grant),
+        Call::Revoke => read_id(value).map(Step::Revoke),
+        Call::KeepAlive => read_id(value).map(Step::KeepAlive),
         Call::TimeToLive => read_time_to_live(value),
         Call::Leases => Ok(Step::Leases),
-        Call::Alarm => Ok(Step::Alarm(read_alarm(value)?)),
+        Call::Alarm => read_alarm(value).map(Step::Alarm),
         Call::Status => Ok(Step::Status),
         Call::Defragment => Ok(Step::Defragment),
     }
