@@ -284,6 +284,11 @@ place_read t s at to o was less read places q within =
     let is : at ≡ place_of t.order s = read ∙ get_or_default t.order.place.items s at 0 (omega (arith, was.order.size, was.size)) in
     places q within ∙ ap (λ i. swapped i to (place_of t.order q)) is
 
+pub place_within : (t : Table) (s at : ℕ) → IsTable t → s < length t.bays.items → at ≡ get_or t.order.place.items s at → at < count_of t.order
+place_within t s at was less read =
+    let is : at ≡ place_of t.order s = read ∙ get_or_default t.order.place.items s at 0 (omega (arith, was.order.size, was.size)) in
+    omega (arith, is, was.order.of s (omega (arith, less, was.size)))
+
 -- a place that moves twice
 moved : (at p m p' ready drawn : ℕ) → at < ready → ready ≤ drawn → p ≢ at → m ≡ swapped at (ready - 1) p → p' ≡ swapped (ready - 1) (drawn - 1) m → (p' < ready - 1 → p < ready) × (ready - 1 ≤ p' → ready ≤ p) × (p' < drawn - 1 → p < drawn) × (drawn - 1 ≤ p' → drawn ≤ p)
 moved at p m p' ready drawn below low apart via to =

@@ -1,5 +1,6 @@
+use Rattle.std.proofs.lemmas.List.{length-set}
+use Rattle.cell_arena.proofs.Tables.{place_within, used_within, used_in, used_drawn, some_used, freed_written, free_kept, free_opened, place_read}
 use Rattle.std.proofs.Common.{sym, arith}
-use Rattle.cell_arena.proofs.Tables.{used_within, used_in, used_drawn, some_used, freed_written, free_kept, free_opened, place_read}
 use Rattle.cell_arena.proofs.Numbers.{share_kept, below_64}
 use Rattle.cell_arena.proofs.table.free_in.Goals as goal
 
@@ -53,3 +54,36 @@ returns-clause-share c =
     let in_use = used_drawn c.args.table.now c.args.number c.args.place c.index_mut-bay.result.now c.requires.table c.requires.small c.requires.used read in
     share_kept c.args.table.now c.args.number c.index_mut-bay.result.now c.free_cell.new.bay c.requires.table less read in_use c.free_cell.ensures.length
     (omega (arith, c.free_cell.ensures.free, c.requires.others _ read, below_64 c.args.table.now c.args.number c.index_mut-bay.result.now c.requires.table less read in_use)) c.free_cell.ensures.number
+
+pub index_mut-bay-requires : goal.index_mut-bay-requires
+index_mut-bay-requires c =
+    let less = used_within c.args.table.now c.args.number c.args.place c.requires.small c.requires.used in
+    omega arith
+
+pub free_cell-requires-clause-listed : goal.free_cell-requires-clause-listed
+free_cell-requires-clause-listed c =
+    let read = sym c.index_mut-bay.ensures.value in
+    let less = used_within c.args.table.now c.args.number c.args.place c.requires.small c.requires.used in
+    (c.requires.table.bays c.args.number c.index_mut-bay.result.now less read).listed
+
+pub index-at-requires : goal.index-at-requires
+index-at-requires c =
+    let less = used_within c.args.table.now c.args.number c.args.place c.requires.small c.requires.used in
+    omega (arith, c.requires.table.order.size, c.requires.table.size)
+
+pub swap-requires-clause-order : goal.swap-requires-clause-order
+swap-requires-clause-order c =
+    c.requires.table.order
+
+pub swap-requires-clause-i : goal.swap-requires-clause-i
+swap-requires-clause-i c =
+    let less = used_within c.args.table.now c.args.number c.args.place c.requires.small c.requires.used in
+    place_within c.args.table.now c.args.number c.index-at.result.now c.requires.table less c.index-at.ensures
+
+pub returns-then-free-eq1-clause-length : goal.returns-then-free-eq1-clause-length
+returns-then-free-eq1-clause-length c =
+    length-set c.args.table.now.bays.items c.args.number c.free_cell.new.bay
+
+pub returns-clause-length : goal.returns-clause-length
+returns-clause-length c =
+    length-set c.args.table.now.bays.items c.args.number c.free_cell.new.bay
