@@ -62,3 +62,25 @@ loop-head-preserved c =
       counting = subst (λ m. IsCounting (cells_of m) look c.next.new.self c.loop-head.count all) same (counting_on _ _ _ _ _ counting _ _ takes _ c.live_of.result _ row there (sym c.if-is_some.false ∙ c.is_some.ensures) (omega arith));
       few = omega (arith, fewer, c.loop-head.invariant.few);
     }
+
+pub overflow_add-count : goal.overflow_add-count
+overflow_add-count c =
+    omega (arith, c.loop-head.invariant.few)
+
+pub loop-head-smaller-then-is_some : goal.loop-head-smaller-then-is_some
+loop-head-smaller-then-is_some c =
+    let same = ap (λ (h : RegionState). h.records) c.new-reader.ensures ∙ ap (λ (l : LogState). l.records) c.self.view_is in
+    let look = λ (key : List ℕ). live key c.args.revision c.args.self.now.changes in
+    let all = rows (is_in c.args.key.now c.args.range_end.now) c.args.revision c.args.self.now.changes in
+    let counting = subst (λ m. IsCounting (cells_of m) look c.loop-head.heads c.loop-head.count all) (sym same) c.loop-head.invariant.counting in
+    let fewer = fewer_left _ _ _ _ _ counting.reading _ _ (c.in-Some.ensures counting.reading.heads counting.reading.spread counting.reading.left_is) in
+    omega (arith, fewer)
+
+pub loop-head-smaller : goal.loop-head-smaller
+loop-head-smaller c =
+    let same = ap (λ (h : RegionState). h.records) c.new-reader.ensures ∙ ap (λ (l : LogState). l.records) c.self.view_is in
+    let look = λ (key : List ℕ). live key c.args.revision c.args.self.now.changes in
+    let all = rows (is_in c.args.key.now c.args.range_end.now) c.args.revision c.args.self.now.changes in
+    let counting = subst (λ m. IsCounting (cells_of m) look c.loop-head.heads c.loop-head.count all) (sym same) c.loop-head.invariant.counting in
+    let fewer = fewer_left _ _ _ _ _ counting.reading _ _ (c.in-Some.ensures counting.reading.heads counting.reading.spread counting.reading.left_is) in
+    omega (arith, fewer)

@@ -1,0 +1,10 @@
+use Rattle.std.proofs.Common.{arith}
+use Rattle.revision_store.proofs.ranging.passing.Goals as goal
+
+pub bounds-cells-cell-index : goal.bounds-cells-cell-index
+bounds-cells-cell-index c =
+    omega arith
+
+pub loop-cell-smaller : goal.loop-cell-smaller
+loop-cell-smaller c =
+    omega arith
