@@ -1,4 +1,4 @@
-//! Which part a program is asked for.
+//! Which part a program is asked for, and how it says what can be asked.
 use anyhow::Result;
 use std::env;
 use std::rt::Env;
@@ -7,5 +7,14 @@ use std::rt::Env;
 pub fn is_asked(rt: &(impl Env + Alloc), part: &str) -> Result<bool> {
     let mut words = env::args(rt)?;
     let _program = words.next();
-    Ok(words.next().is_some_and(|word| word.as_str() == part))
+    match words.next() {
+        Some(word) => Ok(word.as_str() == part),
+        None => Ok(false),
+    }
+}
+
+/// Prints how a program is called: its name and what its argument can be.
+pub fn print_usage(rt: &impl Print, call: &str) -> Result<()> {
+    println!(rt; "usage: {call}")?;
+    Ok(())
 }

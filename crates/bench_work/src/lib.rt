@@ -7,6 +7,6 @@ mod report;
 mod times;
 mod work;
 
-pub use asked::is_asked;
-pub use report::{print_heading, print_times};
+pub use asked::{is_asked, print_usage};
+pub use report::{print_heading, print_times, print_times_among};
 pub use work::Work;

@@ -29,6 +29,20 @@ pub fn print_times<W: Work>(
     print_line(rt, name, times)
 }
 
+/// The same of work among so many items, whose number ends the name.
+pub fn print_times_among<W: Work>(
+    rt: &(impl Print + CpuClock + Alloc<A = Global>),
+    name: &str,
+    count: u32,
+    work: &mut W,
+    turns: u32,
+) -> Result<()>
+    requires { 0 < turns }
+{
+    let name = format!(in rt.alloc(); "{name} {count}")?;
+    print_times(rt, name.as_str(), work, turns)
+}
+
 fn print_line(rt: &impl Print, name: &str, times: Times) -> Result<()> {
     let ratio = times.ratio();
     println!(rt;
