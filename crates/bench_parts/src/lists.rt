@@ -1,11 +1,13 @@
 //! Times a list in chunks, beside a plain vector of the same items: a search, and an insert with its removal.
 mod below;
+mod both;
 mod inserting;
 mod numbers;
 mod searching;
 
 use anyhow::Result;
-use bench_work::{print_heading, print_times};
+use bench_work::{print_heading, print_times_among};
+use both::Both;
 use inserting::Inserting;
 use searching::Searching;
 use std::alloc::Global;
@@ -34,13 +36,11 @@ pub(crate) fn measure_all(rt: &(impl Print + CpuClock + Alloc<A = Global>)) -> R
 }
 
 fn measure_searching(rt: &(impl Print + CpuClock + Alloc<A = Global>), count: u32) -> Result<()> {
-    let name = format!(in rt.alloc(); "{SEARCHING} {count}")?;
-    let mut searching = Searching::new(rt.alloc(), count)?;
-    print_times(rt, &name, &mut searching, TURNS)
+    let mut searching = Searching(Both::new(rt.alloc(), count)?);
+    print_times_among(rt, SEARCHING, count, &mut searching, TURNS)
 }
 
 fn measure_inserting(rt: &(impl Print + CpuClock + Alloc<A = Global>), count: u32) -> Result<()> {
-    let name = format!(in rt.alloc(); "{INSERTING} {count}")?;
-    let mut inserting = Inserting::new(rt.alloc(), count)?;
-    print_times(rt, &name, &mut inserting, TURNS)
+    let mut inserting = Inserting(Both::new(rt.alloc(), count)?);
+    print_times_among(rt, INSERTING, count, &mut inserting, TURNS)
 }

@@ -1,5 +1,5 @@
 //! Reading a record.
-ghost use Rattle.std.specs.Prelude.{IfOk, IsSome};
+ghost use Rattle.std.specs.Prelude.{IsSome};
 ghost use Rattle.std.specs.FinMap as map;
 
 use crate::arena::record::{CELLS, FIELDS, KEY, SEGMENTS, VALUE};
@@ -21,10 +21,21 @@ pub(crate) struct Reading {
 }
 
 impl Reading {
+    /// A region with a record, whose segment is drawn from a stock that is not needed any more.
+    #[tactic(auto, using(cell_arena::proofs::Inserted::some_inserted))]
     pub(crate) fn new(alloc: Global) -> Result<Reading> {
+        let mut stock = Stock::new(alloc, SEGMENTS)?;
+        let mut region = Region::new(alloc, CELLS)?;
+        let cell = region.place(&mut stock, Kind::Put, FIELDS, &KEY, &VALUE);
+        Reading::beside_vectors(alloc, region, cell)
+    }
+
+    /// A region with the record of a cell, and the same bytes in vectors.
+    fn beside_vectors(alloc: Global, region: Region, cell: CellNo) -> Result<Reading>
+        requires { IsSome (map.get region.records cell) }
+    {
         let key = Vec::from_slice(alloc, &KEY)?;
         let value = Vec::from_slice(alloc, &VALUE)?;
-        let (region, cell) = with_record(alloc)?;
         Ok(Reading {
             region,
             cell,
@@ -32,17 +43,6 @@ impl Reading {
             value,
         })
     }
-}
-
-/// A region with a record under a cell.
-#[tactic(auto, using(cell_arena::proofs::Inserted::some_inserted))]
-fn with_record(alloc: Global) -> Result<(Region, CellNo)>
-    ensures { IfOk result (λ it. IsSome (map.get it.0.records it.1)) }
-{
-    let mut stock = Stock::new(alloc, SEGMENTS)?;
-    let mut region = Region::new(alloc, CELLS)?;
-    let cell = region.place(&mut stock, Kind::Put, FIELDS, &KEY, &VALUE);
-    Ok((region, cell))
 }
 
 impl Work for Reading {

@@ -1,6 +1,6 @@
 //! A request's body that is read.
 use crate::gateway::by_values::read;
-use anyhow::{Result, anyhow};
+use anyhow::{Result, bail};
 use bench_work::Work;
 use etcd_types::{Call, Step};
 use gateway_json::read_step;
@@ -17,10 +17,10 @@ impl Work for Reading<'_> {
     type Output = Step;
 
     fn ours(&mut self, alloc: Global) -> Result<Step> {
-        read_step(alloc, self.call, self.body.as_bytes()).map_err(|refusal| anyhow!(
-            "{}",
-            refusal.text()
-        ))
+        match read_step(alloc, self.call, self.body.as_bytes()) {
+            Ok(step) => Ok(step),
+            Err(refusal) => bail!("{}", refusal.text()),
+        }
     }
 
     fn other(&mut self, alloc: Global) -> Result<Step> {

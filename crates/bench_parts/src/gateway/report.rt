@@ -32,14 +32,20 @@ pub(crate) fn measure_all(rt: &(impl Print + CpuClock + Alloc<A = Global>)) -> R
 }
 
 fn measure_reading(rt: &(impl Print + CpuClock + Alloc<A = Global>)) -> Result<()> {
-    let alloc = rt.alloc();
-    let small = bodies::put(alloc, b"foo", b"bar")?;
-    measure_body(rt, SMALL_PUT, Call::Put, small.as_str(), 20000)?;
-    let large = bodies::put(alloc, b"foo", &[b'x'; 1024])?;
-    measure_body(rt, LARGE_PUT, Call::Put, large.as_str(), 20000)?;
+    measure_put(rt, SMALL_PUT, b"bar")?;
+    measure_put(rt, LARGE_PUT, &[b'x'; 1024])?;
     measure_body(rt, RANGE, Call::Range, bodies::RANGE, 10000)?;
-    let txn = bodies::txn(alloc)?;
+    let txn = bodies::txn(rt.alloc())?;
     measure_body(rt, TXN, Call::Txn, txn.as_str(), 500)
+}
+
+fn measure_put(
+    rt: &(impl Print + CpuClock + Alloc<A = Global>),
+    name: &str,
+    value: &[u8],
+) -> Result<()> {
+    let body = bodies::put(rt.alloc(), b"foo", value)?;
+    measure_body(rt, name, Call::Put, body.as_str(), 20000)
 }
 
 fn measure_body(

@@ -1,55 +1,38 @@
 //! Putting a number between the items, and taking it away again. Each begins with a search.
 use crate::lists::below::Below;
-use crate::lists::numbers::{Numbers, listed, vector};
+use crate::lists::both::{Both, place_of};
 use anyhow::{Result, bail};
 use bench_work::Work;
-use chunk_list::ChunkList;
 use std::alloc::Global;
 
-/// A list and a vector of the same items, and what is put into each next.
+/// The insert into a list and into a vector.
 #[derive(Drop)]
-pub(crate) struct Inserting {
-    list: ChunkList<u32>,
-    put: Numbers,
-    items: Vec<u32>,
-    put_into_vector: Numbers,
-}
-
-impl Inserting {
-    pub(crate) fn new(alloc: Global, count: u32) -> Result<Inserting> {
-        Ok(Inserting {
-            list: listed(alloc, count)?,
-            put: Numbers::new(count),
-            items: vector(alloc, count)?,
-            put_into_vector: Numbers::new(count),
-        })
-    }
-}
+pub(crate) struct Inserting(pub(crate) Both);
 
 impl Work for Inserting {
     type Output = u32;
 
     fn ours(&mut self, _alloc: Global) -> Result<u32> {
-        let number = self.put.next().wrapping_add(1);
+        let number = self.0.asked.next().wrapping_add(1);
         let test = Below(number);
-        let place = self.list.search(&test);
-        if self.list.len() == self.list.room() {
+        let place = self.0.list.search(&test);
+        if self.0.list.len() == self.0.list.room() {
             bail!("the list is full");
         }
-        self.list.insert(place, number);
-        let place = self.list.search(&test);
-        if !self.list.has_item(place) || self.list.remove(place) != number {
+        self.0.list.insert(place, number);
+        let place = self.0.list.search(&test);
+        if !self.0.list.has_item(place) || self.0.list.remove(place) != number {
             bail!("the number is gone");
         }
         Ok(number)
     }
 
     fn other(&mut self, _alloc: Global) -> Result<u32> {
-        let number = self.put_into_vector.next().wrapping_add(1);
-        let place = self.items.partition_point(|item| *item < number);
-        self.items.insert(place, number)?;
-        let place = self.items.partition_point(|item| *item < number);
-        if place == self.items.len() || self.items.remove(place) != number {
+        let number = self.0.asked_of_vector.next().wrapping_add(1);
+        let place = place_of(&self.0.items, number);
+        self.0.items.insert(place, number)?;
+        let place = place_of(&self.0.items, number);
+        if place == self.0.items.len() || self.0.items.remove(place) != number {
             bail!("the number is gone");
         }
         Ok(number)

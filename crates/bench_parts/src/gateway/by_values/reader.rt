@@ -9,16 +9,27 @@ use std::alloc::Global;
 /// The step that a body asks for.
 pub(crate) fn read(alloc: Global, call: Call, body: &str) -> Result<Step> {
     let value = Value::from_str(alloc, body)?;
+    step_of(alloc, call, &value)
+}
+
+fn step_of(alloc: Global, call: Call, value: &Value) -> Result<Step> {
     Ok(match call {
-        Call::Put => Step::Put(put(alloc, &value)?),
-        Call::Range => Step::Range(range(alloc, &value)?),
-        Call::Txn => Step::Txn(txn(alloc, &value)?),
+        Call::Put => Step::Put(put(alloc, value)?),
+        Call::Range => Step::Range(range(alloc, value)?),
+        Call::Txn => Step::Txn(txn(alloc, value)?),
         _ => bail!("this call is not measured"),
     })
 }
 
+fn text<'a>(value: &'a Value, name: &str) -> Option<&'a str> {
+    match value.get(name) {
+        Some(Value::String(text)) => Some(text.as_str()),
+        _ => None,
+    }
+}
+
 fn bytes(alloc: Global, value: &Value, name: &str) -> Result<List<u8>> {
-    match value.get(name).and_then(Value::as_str) {
+    match text(value, name) {
         Some(text) => Ok(List::from_vec(STANDARD.decode(alloc, text.as_bytes())?)),
         None => Ok(List::new(alloc)),
     }
@@ -33,11 +44,11 @@ fn number(value: &Value, name: &str) -> Result<i64> {
 }
 
 fn flag(value: &Value, name: &str) -> bool {
-    value.get(name).and_then(Value::as_bool).unwrap_or(false)
+    matches!(value.get(name), Some(Value::Bool(true)))
 }
 
 fn sort_order(value: &Value) -> SortOrder {
-    match value.get("sort_order").and_then(Value::as_str) {
+    match text(value, "sort_order") {
         Some("ASCEND") => SortOrder::Ascend,
         Some("DESCEND") => SortOrder::Descend,
         _ => SortOrder::Unsorted,
@@ -45,7 +56,7 @@ fn sort_order(value: &Value) -> SortOrder {
 }
 
 fn sort_target(value: &Value) -> SortTarget {
-    match value.get("sort_target").and_then(Value::as_str) {
+    match text(value, "sort_target") {
         Some("VERSION") => SortTarget::Version,
         Some("CREATE") => SortTarget::Create,
         Some("MOD") => SortTarget::Mod,
@@ -56,19 +67,17 @@ fn sort_target(value: &Value) -> SortTarget {
 
 fn put(alloc: Global, value: &Value) -> Result<PutReq> {
     Ok(PutReq {
-        key: bytes(alloc, value, "key")?,
-        value: bytes(alloc, value, "value")?,
         lease: number(value, "lease")?,
         prev_kv: flag(value, "prev_kv"),
         ignore_value: flag(value, "ignore_value"),
         ignore_lease: flag(value, "ignore_lease"),
+        key: bytes(alloc, value, "key")?,
+        value: bytes(alloc, value, "value")?,
     })
 }
 
 fn range(alloc: Global, value: &Value) -> Result<RangeReq> {
     Ok(RangeReq {
-        key: bytes(alloc, value, "key")?,
-        range_end: bytes(alloc, value, "range_end")?,
         limit: number(value, "limit")?,
         revision: number(value, "revision")?,
         sort_order: sort_order(value),
@@ -80,6 +89,8 @@ fn range(alloc: Global, value: &Value) -> Result<RangeReq> {
         max_mod_revision: number(value, "max_mod_revision")?,
         min_create_revision: number(value, "min_create_revision")?,
         max_create_revision: number(value, "max_create_revision")?,
+        key: bytes(alloc, value, "key")?,
+        range_end: bytes(alloc, value, "range_end")?,
     })
 }
 
@@ -90,7 +101,7 @@ fn operation(alloc: Global, value: &Value) -> Result<Op> {
 
 fn operations(alloc: Global, value: &Value, name: &str) -> Result<List<Op>> {
     let mut operations = List::new(alloc);
-    if let Some(values) = value.get(name).and_then(Value::as_array) {
+    if let Some(Value::Array(values)) = value.get(name) {
         for value in values.as_slice() {
             operations.push(operation(alloc, value)?)?;
         }
@@ -101,8 +112,8 @@ fn operations(alloc: Global, value: &Value, name: &str) -> Result<List<Op>> {
 /// A transaction with no compares.
 fn txn(alloc: Global, value: &Value) -> Result<TxnReq> {
     Ok(TxnReq {
-        compare: List::new(alloc),
         success: operations(alloc, value, "success")?,
         failure: operations(alloc, value, "failure")?,
+        compare: List::new(alloc),
     })
 }

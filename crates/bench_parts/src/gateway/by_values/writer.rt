@@ -88,11 +88,17 @@ fn range(alloc: Global, header: &Header, count: u64, kvs: &[KeyValue], more: boo
     let mut members = Map::new(alloc);
     insert_unsigned(alloc, &mut members, "count", count)?;
     insert(alloc, &mut members, "header", header_value(alloc, header)?)?;
+    insert_rows(alloc, &mut members, kvs, more)?;
+    Ok(Value::Object(members))
+}
+
+/// The rows, if there are some, and whether there are more.
+fn insert_rows(alloc: Global, members: &mut Members, kvs: &[KeyValue], more: bool) -> Mem<()> {
     if !kvs.is_empty() {
-        insert(alloc, &mut members, "kvs", rows_value(alloc, kvs)?)?;
+        insert(alloc, members, "kvs", rows_value(alloc, kvs)?)?;
     }
     if more {
-        insert(alloc, &mut members, "more", Value::Bool(true))?;
+        insert(alloc, members, "more", Value::Bool(true))?;
     }
-    Ok(Value::Object(members))
+    Ok(())
 }
