@@ -17,15 +17,18 @@ pub(crate) struct Filled {
 }
 
 impl Filled {
-    /// With these keys, which came scattered.
-    pub(crate) fn new(alloc: Global, keys: Keys) -> Result<Filled> {
-        let puts = keys.puts(alloc, keys.count)?;
-        let mut filled = Filled {
-            map: BTreeMap::new(alloc),
+    /// With no keys.
+    pub(crate) fn new(alloc: Global) -> Result<Filled> {
+        Ok(Filled {
             tenant: Tenant::new(alloc)?,
-        };
-        filled.put_all(alloc, &puts)?;
-        Ok(filled)
+            map: BTreeMap::new(alloc),
+        })
+    }
+
+    /// Puts these keys, which come scattered, into both.
+    pub(crate) fn fill(&mut self, alloc: Global, keys: Keys) -> Result<()> {
+        let puts = keys.puts(alloc, keys.count)?;
+        self.put_all(alloc, &puts)
     }
 
     /// Puts all of these into both.

@@ -1,6 +1,7 @@
 //! The keys that a store is filled with, those that come anew, and the requests for them.
 ghost use Rattle.std.specs.Prelude.{◌<◌, ◌*◌};
 
+use crate::requests::{key, put};
 use etcd_types::{List, Mem, PutReq, RangeReq, SortOrder, SortTarget};
 use std::alloc::Global;
 
@@ -66,23 +67,6 @@ impl Keys {
     {
         2 * (u64::from(index) * STEP % u64::from(self.count))
     }
-}
-
-/// A key of 16 bytes.
-fn key(alloc: Global, number: u64) -> Mem<List<u8>> {
-    let text = format!(in alloc; "/services/{number:06}")?;
-    Ok(List::from_vec(text.into_bytes()))
-}
-
-fn put(alloc: Global, number: u64, value_len: usize) -> Mem<PutReq> {
-    Ok(PutReq {
-        key: key(alloc, number)?,
-        value: List::from_vec(vec![in alloc; b'v'; value_len]?),
-        lease: 0,
-        prev_kv: false,
-        ignore_value: false,
-        ignore_lease: false,
-    })
 }
 
 /// The newest rows of an interval, by ascending key.

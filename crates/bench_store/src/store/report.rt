@@ -9,7 +9,7 @@ use crate::store::putting::Putting;
 use crate::store::ranging::Ranging;
 use anyhow::Result;
 use bench_work::{print_heading, print_times};
-use etcd_types::PutReq;
+use etcd_types::{PutReq, RangeReq};
 use std::alloc::Global;
 use std::time::CpuClock;
 
@@ -46,7 +46,7 @@ pub(crate) fn measure_all(rt: &(impl Print + CpuClock + Alloc<A = Global>)) -> R
 
 /// Measures all at one size.
 fn measure_size(rt: &(impl Print + CpuClock + Alloc<A = Global>), keys: Keys) -> Result<()> {
-    let mut filled = Filled::new(rt.alloc(), keys)?;
+    let mut filled = Filled::new(rt.alloc())?;
     measure_filled(rt, keys, &mut filled)
 }
 
@@ -55,37 +55,42 @@ fn measure_filled(
     keys: Keys,
     filled: &mut Filled,
 ) -> Result<()> {
-    measure_reading(rt, keys, filled)?;
+    let alloc = rt.alloc();
+    filled.fill(alloc, keys)?;
+    measure_getting(rt, filled, keys.gets(alloc, keys.count.min(10_000))?)?;
+    measure_ranging(rt, filled, keys.ranges(alloc, 500)?)?;
     let turns = (keys.count / 50).clamp(1, 1_000);
-    let puts = keys.puts(rt.alloc(), 10 * turns)?;
-    measure_putting(rt, OVERWRITE, filled, &puts, turns)?;
-    let puts = keys.new_puts(rt.alloc(), 10 * turns)?;
-    measure_putting(rt, NEW, filled, &puts, turns)?;
+    measure_putting(rt, OVERWRITE, filled, keys.puts(alloc, 10 * turns)?, turns)?;
+    measure_putting(rt, NEW, filled, keys.new_puts(alloc, 10 * turns)?, turns)?;
     measure_compacting(rt, keys, filled)
+}
+
+fn measure_getting(
+    rt: &(impl Print + CpuClock + Alloc<A = Global>),
+    filled: &Filled,
+    gets: Vec<RangeReq>,
+) -> Result<()> {
+    print_times(rt, GET, &mut Getting::new(filled, &gets), 10_000)
+}
+
+fn measure_ranging(
+    rt: &(impl Print + CpuClock + Alloc<A = Global>),
+    filled: &Filled,
+    ranges: Vec<RangeReq>,
+) -> Result<()> {
+    print_times(rt, RANGE, &mut Ranging::new(filled, &ranges), 500)
 }
 
 fn measure_putting(
     rt: &(impl Print + CpuClock + Alloc<A = Global>),
     name: &str,
     filled: &mut Filled,
-    puts: &[PutReq],
+    puts: Vec<PutReq>,
     turns: u32,
 ) -> Result<()>
     requires { 0 < turns }
 {
-    print_times(rt, name, &mut Putting::new(filled, puts), turns)
-}
-
-fn measure_reading(
-    rt: &(impl Print + CpuClock + Alloc<A = Global>),
-    keys: Keys,
-    filled: &Filled,
-) -> Result<()> {
-    let alloc = rt.alloc();
-    let gets = keys.gets(alloc, keys.count.min(10_000))?;
-    print_times(rt, GET, &mut Getting::new(filled, &gets), 10_000)?;
-    let ranges = keys.ranges(alloc, 500)?;
-    print_times(rt, RANGE, &mut Ranging::new(filled, &ranges), 500)
+    print_times(rt, name, &mut Putting::new(filled, &puts), turns)
 }
 
 /// Measures a compaction that drops half as many records as there are keys.

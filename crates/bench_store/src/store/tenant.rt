@@ -27,8 +27,8 @@ pub(crate) struct Tenant {
 impl Tenant {
     pub(crate) fn new(alloc: Global) -> Result<Tenant> {
         Ok(Tenant {
-            store: Store::new(alloc, CELLS, 1)?,
             stock: Stock::new(alloc, SEGMENTS)?,
+            store: Store::new(alloc, CELLS, 1)?,
         })
     }
 
