@@ -1,4 +1,4 @@
-use Rattle.std.proofs.Common.{◌≡◌, ◌+◌, ◌<◌, ◌≤◌, ◌∷◌, ◌∙◌, List, ap, arith, drop, length, sym, subst}
+use Rattle.std.proofs.Common.{arith, ◌≡◌, ◌+◌, ◌<◌, ◌≤◌, ◌∷◌, ◌∙◌, List, ap, drop, length, sym, subst}
 use Rattle.std.proofs.lemmas.List.{drop_all, drop_more, length-take, length_push}
 use Rattle.etcd_types.specs.declared.key_value.KeyValue.{KeyValue}
 use Rattle.revision_store.specs.Recorded.{cells_of}
@@ -58,3 +58,11 @@ returns-clause-fewer c =
     let apart : NoneTies q held = taking_apart (row_at (cells_of c.args.log.now.records)) q c.args.limit held _ c.args.cells.now c.loop-cell.invariant.taking in
     let as_many : length (in_order (row_order q) held) ≡ length held = length-in_order (row_order q) (row_total q.sort_order q.sort_target) held apart in
     omega (arith, ap length c.keep_first.ensures.first, length-take c.args.limit (in_order (row_order q) held), as_many, c.loop-cell.invariant.few)
+
+pub bounds-cells-cell-index : goal.bounds-cells-cell-index
+bounds-cells-cell-index c =
+    omega arith
+
+pub loop-cell-smaller : goal.loop-cell-smaller
+loop-cell-smaller c =
+    omega arith
