@@ -1,4 +1,4 @@
-use Rattle.std.proofs.Common.{◌+◌, sym, ◌∙◌, subst}
+use Rattle.std.proofs.Common.{arith, ◌+◌, sym, ◌∙◌, subst}
 use Rattle.cell_arena.proofs.Starting.{IsCounting, counting_more}
 use Rattle.cell_arena.proofs.order.new.Goals as goal
 
@@ -9,3 +9,7 @@ numbering-preserved c = record {
   room = c.push_reserved.ensures.capacity ∙ c.numbering.invariant.room;
   room_place = c.push_reserved-in-numbering.ensures.capacity ∙ c.numbering.invariant.room_place;
 }
+
+pub numbering-smaller : goal.numbering-smaller
+numbering-smaller c =
+    omega arith

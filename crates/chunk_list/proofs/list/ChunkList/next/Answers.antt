@@ -1,4 +1,4 @@
-use Rattle.std.proofs.Common.{◌+◌, refl, arith}
+use Rattle.std.proofs.Common.{arith, ◌+◌, refl}
 use Rattle.chunk_list.specs.Chunked.{position_of}
 use Rattle.chunk_list.proofs.Chunks.{dense_here}
 use Rattle.chunk_list.proofs.Lists.{seen, here_at}
@@ -25,3 +25,11 @@ returns g c =
     place_from_chunk chunks v c.args.place.chunk (c.args.place.offset + 1) (position_of v.sizes c.args.place + 1) saw at.place_is.chunk_in (omega (arith, at.less))
     (omega (arith, at.place_is.position_is))
     (λ more. elim c.else-place-len.branch [ else-place-len-via-then-place-len+else-place-count w ↦ absurd (omega (arith, more)) | else-place-len-via-else-place-len w ↦ omega (arith, at.less, c.len-len.ensures.len) ])
+
+pub overflow_add-place-then-place-len : goal.overflow_add-place-then-place-len
+overflow_add-place-then-place-len g c =
+    omega arith
+
+pub overflow_add-result : goal.overflow_add-result
+overflow_add-result g c =
+    omega arith

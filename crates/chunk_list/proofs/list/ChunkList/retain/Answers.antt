@@ -1,4 +1,4 @@
-use Rattle.std.proofs.Common.{◌≡◌, true, false, length, get_or, sym, ap, subst, ◌∙◌, arith}
+use Rattle.std.proofs.Common.{arith, ◌≡◌, true, false, length, get_or, sym, ap, subst, ◌∙◌}
 use Rattle.std.proofs.lemmas.List.{length-set}
 use Rattle.std.proofs.lemmas.List.Filters.{FiltersInPlace-more_no}
 use Rattle.chunk_list.specs.Chunked.{position_of, HasItem}
@@ -42,3 +42,7 @@ keeping-preserved g c =
             write_is = c.keeping.invariant.write_is;
           })
     ]
+
+pub keeping-smaller : goal.keeping-smaller
+keeping-smaller g c =
+    omega arith
