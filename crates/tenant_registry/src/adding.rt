@@ -1,14 +1,15 @@
 //! The tenants that a registry is made of: what speaks against them, and how each is taken in.
-ghost use Rattle.std.specs.Prelude.{◌≡◌, ◌+◌, ◌++◌, ◌∷◌, [], map, None, Some, true};
+ghost use Rattle.std.specs.Prelude.{◌≡◌, ◌≤◌, ◌+◌, ◌++◌, ◌∷◌, [], map, None, Some, true};
 ghost use Rattle.std.specs.Prelude.{IfErr, IfOk, OnErr, OnOk};
 ghost use Rattle.cell_arena.specs.Loan.{segments_for};
+ghost use Rattle.tenant_audit.specs.Audits.{IsAllowed};
 ghost use Rattle.tenant_rules.specs.Rules.{within_limits};
 ghost use Rattle.tenant_registry.specs.Adding.{config_fault, fault_beside, is_one_of, name_of, new_fault};
 ghost use Rattle.tenant_registry.specs.Adding.{opened, opening_for};
 ghost use Rattle.tenant_registry.specs.Registries.{names_in, tenants_of};
 
 use crate::kept::Kept;
-use crate::tenant::Tenant;
+use crate::tenant::{Lock, Tenant};
 use etcd_types::Mem;
 use etcd_types::limits::{MAX_AUDIT, MAX_SEGMENTS, MAX_TENANTS};
 use indexmap::IndexMap;
@@ -142,16 +143,27 @@ pub(crate) fn admit(
     let opening = config.opening(number);
     let name = Vec::from_slice(alloc, config.name.as_slice())?;
     tenants.reserve(1)?;
-    let mut kept = Arc::new(alloc, Mutex::new(None))?;
-    let Some(lock) = Arc::get_mut(&mut kept) else {
-        // Nobody else has it.
-        return Err(AllocError);
-    };
     // The segments are moved last: a tenant that is dropped would take its own with it.
-    let opened = Kept::open(alloc, opening, free)?;
-    *lock.get_mut() = Some(opened);
+    let kept = lock_on(alloc, opening, free)?;
     let Ok(_) = tenants.insert(name, Tenant { opening, kept }) else {
         unreachable!()
     };
     Ok(())
+}
+
+/// A lock on a tenant at its opening, with the segments that its quota takes. If it finds no memory, none was moved.
+fn lock_on(alloc: Global, opening: Opening, free: &mut Stock) -> Mem<Arc<Lock>>
+    requires allowed { IsAllowed opening }
+    requires enough { segments_for opening.quota ≤ free.old.held }
+    ensures moved { OnOk result (free.new.held + segments_for opening.quota ≡ free.old.held) }
+    ensures err { OnErr result (free.new ≡ free.old) }
+{
+    let mut lock = Arc::new(alloc, Mutex::new(None))?;
+    let Some(place) = Arc::get_mut(&mut lock) else {
+        // Nobody else has it.
+        return Err(AllocError);
+    };
+    let opened = Kept::open(alloc, opening, free)?;
+    *place.get_mut() = Some(opened);
+    Ok(lock)
 }

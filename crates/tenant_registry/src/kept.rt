@@ -1,4 +1,5 @@
 //! What lies under a tenant's lock, how a step is served there, and another quota.
+mod ended;
 mod prepared;
 mod resized;
 
@@ -22,6 +23,7 @@ ghost use Rattle.tenant_registry.specs.Using.{HasSegments, IsUsageIn};
 
 use crate::replies::{is_cancel, refusal_of, slot_of, told_revision};
 use crate::usage::Usage;
+pub use ended::Ended;
 use etcd_types::{Mem, Refusal, Reply, Step};
 use gateway_text::write_reply;
 use prepared::prepared;
@@ -52,13 +54,14 @@ impl Drop for Receipt {
             number: _,
             seat: _,
             turn: _,
-            step: _,
+            step,
             status: _,
             body: _,
             slot: _,
             canceled: _,
             refusal: _,
         } = self;
+        drop(step);
     }
 }
 
@@ -124,13 +127,14 @@ impl Receipt {
             number: _,
             seat: _,
             turn: _,
-            step: _,
+            step,
             status: _,
             body,
             slot: _,
             canceled: _,
             refusal: _,
         } = self;
+        drop(step);
         body
     }
 
@@ -166,7 +170,10 @@ impl Receipt {
     ) -> Mem<Receipt>
         ensures { IfOk result (λ receipt. receipt ≡ slip_of number seat turn step reply.now) }
     {
-        let (status, body) = write_reply(alloc, reply)?;
+        let Ok((status, body)) = write_reply(alloc, reply) else {
+            drop(step);
+            return Err(AllocError);
+        };
         Ok(Receipt {
             number,
             seat,
@@ -246,37 +253,14 @@ fn keep_entry(seat: &mut Seat, tenant: &[u8], turn: Option<u32>, entry: Entry)
 {
     match turn {
         Some(turn) => seat.record(tenant, turn, entry),
-        None => seat.miss(tenant),
-    }
-}
-
-/// A tenant was ended. Only `Kept::end` makes one, and nobody can change its audit.
-pub struct Ended {
-    audit: Audit,
-    /// How many segments went to the free ones.
-    segments: u32,
-}
-
-impl Drop for Ended {
-    fn drop(self) {
-        let Ended {
-            audit: _,
-            segments: _,
-        } = self;
-    }
-}
-
-impl Ended {
-    /// The tenant's audit, as it was under its lock.
-    pub fn audit(&self) -> &Audit
-        ensures { result.now ≡ self.now.audit }
-    {
-        &self.audit
+        None => {
+            drop(entry);
+            seat.miss(tenant);
+        }
     }
 }
 
 /// One tenant, as its lock keeps it: its machine, its audit, and the segments that it may draw and has not.
-#[derive(Drop)]
 pub struct Kept {
     machine: Machine,
     audit: Audit,
@@ -284,6 +268,19 @@ pub struct Kept {
     /// How many segments are reserved, drawn ones among them.
     reserved: u32,
     alloc: Global,
+}
+
+impl Drop for Kept {
+    fn drop(self) {
+        let Kept {
+            machine,
+            audit: _,
+            left: _,
+            reserved: _,
+            alloc: _,
+        } = self;
+        drop(machine);
+    }
 }
 
 impl Model for Kept {
@@ -351,9 +348,15 @@ impl Kept {
         ensures ok { IfOk result (λ served. Serves self.old seat step served self.new) }
         ensures err { OnErr result (self.new ≡ self.old) }
     {
-        let planned = self.machine.plan(self.alloc, &step)?;
+        let Ok(planned) = self.machine.plan(self.alloc, &step) else {
+            drop(step);
+            return Err(AllocError);
+        };
         let told = planned.reply();
-        let ready = prepared(self.alloc, &self.audit, seat, step, told)?;
+        let Ok(ready) = prepared(self.alloc, &self.audit, seat, step, told) else {
+            drop(planned);
+            return Err(AllocError);
+        };
         let (kept, served) = ready;
         let reply = self.machine.commit(&mut self.left, planned);
         self.audit.keep(seat, kept, reply);
@@ -483,12 +486,13 @@ impl Kept {
         ensures lawful { IsLawful result }
     {
         let Kept {
-            machine: _,
+            machine,
             audit,
             left: _,
             reserved: _,
             alloc: _,
         } = self;
+        drop(machine);
         audit
     }
 }

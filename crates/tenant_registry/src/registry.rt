@@ -328,6 +328,7 @@ impl Registry {
         ensures nobody { has_tenant self.now tenant.now ≡ false → seat.new ≡ seat.old }
     {
         let Some(held) = self.tenants.get(tenant) else {
+            drop(step);
             return Err(Refusal::NoTenant);
         };
         match serve(rt, seat, gate, &held.kept, held.opening, tenant, step) {
@@ -388,6 +389,7 @@ pub(crate) fn serve<R: Wait + Clock, G: Gate>(
     ensures err { OnErr result (KeepsLists seat.old seat.new) }
 {
     if seat.prepare(tenant).is_err() {
+        drop(step);
         return Err(Refusal::Memory);
     }
     let by = seat.number();
@@ -426,6 +428,7 @@ fn serve_there(
     ensures err { OnErr result (kept.new ≡ kept.old) }
 {
     let Some(kept) = kept else {
+        drop(step);
         return Err(Refusal::NoTenant);
     };
     if kept.is_of(opening) {
@@ -434,6 +437,7 @@ fn serve_there(
             Err(_) => Err(Refusal::Memory),
         }
     } else {
+        drop(step);
         Err(Refusal::NoTenant)
     }
 }

@@ -80,7 +80,9 @@ impl Usage {
         ensures takes { OnOk result (TakesOver machine.now step self.old self.new) }
         ensures segments { HasSegments self.old.reserved self.old.drawn self.new }
     {
-        self.ask_for(alloc, machine, &step)
+        let asked = self.ask_for(alloc, machine, &step);
+        drop(step);
+        asked
     }
 
     /// The same of a step that is lent.
@@ -90,6 +92,7 @@ impl Usage {
     {
         let planned = machine.plan(alloc, step)?;
         self.take_over(planned.reply());
+        drop(planned);
         Ok(())
     }
 

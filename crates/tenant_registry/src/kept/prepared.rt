@@ -5,7 +5,7 @@ ghost use Rattle.tenant_audit.specs.Receipts.{slip_of};
 
 use super::Served;
 use etcd_types::{Mem, Reply, Step};
-use std::alloc::Global;
+use std::alloc::{AllocError, Global};
 use tenant_audit::Audit;
 
 /// A copy of a seat's step for the audit, and what the seat's call is given of the reply.
@@ -23,7 +23,13 @@ pub(super) fn prepared(
 {
     let number = audit.number();
     let turn = audit.next_turn();
-    let kept = audit.copy_of_step(alloc, &step)?;
-    let served = Served::of(alloc, number, seat, turn, step, told)?;
+    let Ok(kept) = audit.copy_of_step(alloc, &step) else {
+        drop(step);
+        return Err(AllocError);
+    };
+    let Ok(served) = Served::of(alloc, number, seat, turn, step, told) else {
+        drop(kept);
+        return Err(AllocError);
+    };
     Ok((kept, served))
 }

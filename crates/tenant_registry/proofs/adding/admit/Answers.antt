@@ -20,6 +20,6 @@ returns-clause-adds c =
     tenants_push es c.insert.new.self.entries c.in_ok-name.name v name entries key
     ∙ ap (λ (o : Opening). tenants_of es ++ (name, o) ∷ []) c.opening-opening.ensures
 
-pub open-requires-clause-allowed : goal.open-requires-clause-allowed
-open-requires-clause-allowed c =
+pub lock_on-requires-clause-allowed : goal.lock_on-requires-clause-allowed
+lock_on-requires-clause-allowed c =
     allowed c.args.number c.args.config.now c.opening-opening.result c.opening-opening.ensures (neither _ _ (no_faults _ _ _ _ c.requires).1.0).0
