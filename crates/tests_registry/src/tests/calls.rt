@@ -5,15 +5,14 @@ mod removed;
 mod threads;
 
 use etcd_types::limits::MAX_SEATS;
-use etcd_types::{List, Mem, PutReq, Step};
+use etcd_types::{List, Mem, PutReq, Refusal, Step};
 use std::alloc::Global;
 use std::process::Abort;
 use std::rt::Clock;
 use std::sync::Wait;
 use tenant_registry::{
-    CloseFault, Closed, OpenGate, Receipt, Registry, Seat, SeatFault, TenantConfig,
+    CloseFault, Closed, Gate, OpenGate, Receipt, Registry, Seat, SeatFault, TenantConfig,
 };
-use tenant_rules::OperatorFault;
 
 /// The status and body of the first put of a tenant of cluster 7.
 const FIRST_PUT: &str =
@@ -44,20 +43,48 @@ fn config(alloc: Global, name: &str, cluster: u64, quota: u64, audit: u32) -> Me
     })
 }
 
-/// Two tenants: one of cluster 7 and 1,024 cells, two of cluster 8 and 2,048.
-fn two_configs(alloc: Global, audit: u32) -> Mem<Vec<TenantConfig>> {
+/// A tenant's name, cluster and quota.
+type Tenant = (&'static str, u64, u64);
+
+const TWO: [Tenant; 2] = [("one", 7, 1024), ("two", 8, 2048)];
+
+fn configs_of(alloc: Global, tenants: &[Tenant], audit: u32) -> Mem<Vec<TenantConfig>> {
     let mut configs = Vec::new(alloc);
-    configs.push(config(alloc, "one", 7, 1024, audit)?)?;
-    configs.push(config(alloc, "two", 8, 2048, audit)?)?;
+    for (name, cluster, quota) in tenants {
+        configs.push(config(alloc, name, *cluster, *quota, audit)?)?;
+    }
     Ok(configs)
 }
 
-/// A registry of these two.
-fn two_tenants(alloc: Global, audit: u32) -> Result<Registry, OperatorFault> {
-    match two_configs(alloc, audit) {
-        Ok(configs) => Registry::new(alloc, configs, 64),
-        Err(_) => Err(OperatorFault::Memory),
-    }
+/// A registry of these tenants, in 64 segments.
+fn registry_of(rt: &impl Abort, alloc: Global, tenants: &[Tenant], audit: u32) -> Registry {
+    let configs = configs_of(alloc, tenants, audit).expect(rt, "memory");
+    Registry::new(alloc, configs, 64).expect(rt, "the tenants are taken")
+}
+
+/// Two tenants: one of cluster 7 and 1,024 cells, two of cluster 8 and 2,048.
+fn two_tenants(rt: &impl Abort, alloc: Global, audit: u32) -> Registry {
+    registry_of(rt, alloc, &TWO, audit)
+}
+
+fn seat_of(rt: &impl Abort, registry: &mut Registry) -> Seat {
+    registry.seat().expect(rt, "a seat")
+}
+
+fn close(rt: &impl Abort, registry: Registry, seats: Vec<Seat>) -> Closed {
+    registry.close(seats).expect(rt, "the audits close")
+}
+
+/// What a seat is told. It stands by itself, since what a call promises is long.
+fn told_to<R: Wait + Clock, G: Gate>(
+    rt: &R,
+    registry: &Registry,
+    seat: &mut Seat,
+    gate: &G,
+    tenant: &[u8],
+    step: Step,
+) -> Result<Receipt, Refusal> {
+    registry.call(rt, seat, gate, tenant, step)
 }
 
 /// A put on a tenant, which has a receipt.
@@ -69,9 +96,7 @@ fn call<R: Wait + Clock + Abort>(
     tenant: &[u8],
 ) -> Receipt {
     let step = put(alloc).expect(rt, "memory");
-    registry
-        .call(rt, seat, &OpenGate, tenant, step)
-        .expect(rt, "the tenant is there")
+    told_to(rt, registry, seat, &OpenGate, tenant, step).expect(rt, "the tenant is there")
 }
 
 /// The seats of a caller who is alone.
@@ -111,11 +136,11 @@ fn fill_audit<R: Wait + Clock + Abort>(
 
 #[test]
 fn a_full_audit_serves_on(rt: HostRuntime) {
-    let mut registry = two_tenants(rt.alloc(), 2).expect(&rt, "two tenants");
-    let mut seat = registry.seat().expect(&rt, "a seat");
+    let mut registry = two_tenants(&rt, rt.alloc(), 2);
+    let mut seat = seat_of(&rt, &mut registry);
     fill_audit(&rt, rt.alloc(), &registry, &mut seat);
     let seats = alone(&rt, rt.alloc(), seat);
-    let Closed { audits } = registry.close(seats).expect(&rt, "the audits close");
+    let Closed { audits } = close(&rt, registry, seats);
     assert_eq!(rt; audits.len(), 2);
     assert_eq!(rt; audits[0].1.entries().len(), 2);
     assert_eq!(rt; (audits[1].1.cluster(), audits[1].1.quota()), (8, 2048));
@@ -129,22 +154,22 @@ fn assert_nobody<R: Wait + Clock + Abort>(
     seat: &mut Seat,
 ) {
     let step = put(alloc).expect(rt, "memory");
-    let refused = registry.call(rt, seat, &OpenGate, b"three", step);
-    assert!(rt; matches!(&refused, Err(etcd_types::Refusal::NoTenant)));
+    let refused = told_to(rt, registry, seat, &OpenGate, b"three", step);
+    assert!(rt; matches!(&refused, Err(Refusal::NoTenant)));
     assert_eq!(rt; seat.missed(b"three"), 0);
 }
 
 #[test]
 fn who_is_there(rt: HostRuntime) {
-    let mut registry = two_tenants(rt.alloc(), 0).expect(&rt, "two tenants");
+    let mut registry = two_tenants(&rt, rt.alloc(), 0);
     assert!(rt; registry.has(b"two") && !registry.has(b"three"));
-    let mut seat = registry.seat().expect(&rt, "a seat");
+    let mut seat = seat_of(&rt, &mut registry);
     assert_nobody(&rt, rt.alloc(), &registry, &mut seat);
 }
 
 #[test]
 fn seats_are_64(rt: HostRuntime) {
-    let mut registry = two_tenants(rt.alloc(), 0).expect(&rt, "two tenants");
+    let mut registry = two_tenants(&rt, rt.alloc(), 0);
     for _ in 0..MAX_SEATS {
         assert!(rt; registry.seat().is_ok());
     }
@@ -153,14 +178,14 @@ fn seats_are_64(rt: HostRuntime) {
 
 /// A seat of a registry of its own.
 fn seat_of_another(rt: &impl Abort, alloc: Global) -> Seat {
-    let mut other = two_tenants(alloc, 8).expect(rt, "two tenants");
-    other.seat().expect(rt, "a seat")
+    let mut other = two_tenants(rt, alloc, 8);
+    seat_of(rt, &mut other)
 }
 
 #[test]
 fn seats_of_two_registries(rt: HostRuntime) {
-    let mut registry = two_tenants(rt.alloc(), 8).expect(&rt, "two tenants");
-    let seat = registry.seat().expect(&rt, "a seat");
+    let mut registry = two_tenants(&rt, rt.alloc(), 8);
+    let seat = seat_of(&rt, &mut registry);
     let mut seats = alone(&rt, rt.alloc(), seat);
     let other = seat_of_another(&rt, rt.alloc());
     seats.push(other).expect(&rt, "memory");
@@ -178,6 +203,6 @@ fn is_lent(rt: &impl Abort, alloc: Global, registry: Registry) -> bool {
 
 #[test]
 fn a_registry_with_a_key_out_is_not_closed(rt: HostRuntime) {
-    let registry = two_tenants(rt.alloc(), 0).expect(&rt, "two tenants");
+    let registry = two_tenants(&rt, rt.alloc(), 0);
     assert!(rt; is_lent(&rt, rt.alloc(), registry));
 }

@@ -1,5 +1,5 @@
 //! What may lack memory, with enough of it.
-use super::{alone, put, two_tenants};
+use super::{alone, put, seat_of, two_tenants};
 use etcd_types::Step;
 use std::alloc::Global;
 use std::process::Abort;
@@ -12,6 +12,11 @@ fn assert_key<R: Wait + Clock + Abort>(rt: &R, alloc: Global, key: &Key, seat: &
     assert_eq!(rt; key.revision(rt).ok(), Some(1));
     let step = put(alloc).expect(rt, "memory");
     assert!(rt; key.weight(rt, &step, 1).is_ok());
+    assert_told(rt, key, seat);
+}
+
+/// A call by a key, and what its tenant uses then.
+fn assert_told<R: Wait + Clock + Abort>(rt: &R, key: &Key, seat: &mut Seat) {
     let told = key.call(rt, seat, &OpenGate, Step::Defragment);
     assert_eq!(rt; told.expect(rt, "memory").status(), 200);
     let usage = key.usage(rt).expect(rt, "memory");
@@ -48,10 +53,10 @@ fn assert_calls(rt: &impl Abort, alloc: Global, seat: Seat) -> Vec<Seat> {
 #[test]
 fn memory_is_there(rt: HostRuntime) {
     let alloc = rt.alloc();
-    let mut registry = two_tenants(alloc, 8).expect(&rt, "two tenants");
+    let mut registry = two_tenants(&rt, alloc, 8);
     assert!(rt; registry.add_segments(1).is_ok());
     assert_eq!(rt; registry.segments(), 65);
-    let mut seat = registry.seat().expect(&rt, "a seat");
+    let mut seat = seat_of(&rt, &mut registry);
     assert_keys(&rt, alloc, &registry, &mut seat);
     let seats = assert_calls(&rt, alloc, seat);
     assert!(rt; registry.close(seats).is_ok());

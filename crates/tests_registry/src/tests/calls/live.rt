@@ -1,5 +1,5 @@
 //! Quotas that a tenant is given between its calls. What else an operator does is asked in `registry`.
-use super::{alone, call, two_tenants};
+use super::{alone, call, close, seat_of, two_tenants};
 use etcd_types::{Mem, Reply};
 use gateway_text::write_reply;
 use std::alloc::Global;
@@ -80,11 +80,11 @@ fn assert_status<R: Wait + Clock + Abort>(
 
 /// The first tenant's audit, after these calls on a registry whose audits take so many entries.
 fn audit_of_resizes<R: Wait + Clock + Abort>(rt: &R, alloc: Global, cap: u32) -> Audit {
-    let mut registry = two_tenants(alloc, cap).expect(rt, "two tenants");
-    let mut seat = registry.seat().expect(rt, "a seat");
+    let mut registry = two_tenants(rt, alloc, cap);
+    let mut seat = seat_of(rt, &mut registry);
     put_and_resize(rt, alloc, &registry, &mut seat);
     let seats = alone(rt, alloc, seat);
-    let Closed { audits } = registry.close(seats).expect(rt, "the audits close");
+    let Closed { audits } = close(rt, registry, seats);
     let (_, audit) = audits.into_iter().next().expect(rt, "an audit");
     audit
 }

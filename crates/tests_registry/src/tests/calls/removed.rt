@@ -1,15 +1,16 @@
 //! What becomes of the second of three tenants after calls on all, and what the other two keep.
 use super::live::is_text;
-use super::{alone, config, put};
+use super::{Tenant, alone, close, put, registry_of, seat_of, told_to};
 use etcd_types::{CopyOf, List, Mem, RangeReq, SortOrder, SortTarget, Step};
 use std::alloc::Global;
 use std::mem;
 use std::process::Abort;
 use std::rt::Clock;
 use std::sync::Wait;
-use tenant_registry::{
-    Audit, Closed, Entry, OpenGate, Receipt, Registry, Seat, TenantConfig, Usage,
-};
+use tenant_registry::{Audit, Closed, Entry, OpenGate, Receipt, Registry, Seat, Usage};
+
+/// Of the registry's 64 segments these take one, two and one. Their audits take all calls.
+const THREE: [Tenant; 3] = [("one", 7, 64), ("two", 8, 128), ("three", 9, 64)];
 
 /// A call that was made, and its receipt.
 #[derive(Drop)]
@@ -36,9 +37,9 @@ struct Has {
 
 impl Caller {
     fn new(rt: &impl Abort, alloc: Global) -> Caller {
-        let mut registry = three_tenants(rt, alloc);
-        let next = registry.seat().expect(rt, "a seat");
-        let other = registry.seat().expect(rt, "a seat");
+        let mut registry = registry_of(rt, alloc, &THREE, 100);
+        let next = seat_of(rt, &mut registry);
+        let other = seat_of(rt, &mut registry);
         Caller {
             registry,
             next,
@@ -66,7 +67,15 @@ impl Caller {
         step: Step,
     ) -> Vec<u8> {
         let asked = step.copy_of(alloc).expect(rt, "memory");
-        let receipt = told_to(rt, &self.registry, &mut self.next, name, step);
+        let told = told_to(
+            rt,
+            &self.registry,
+            &mut self.next,
+            &OpenGate,
+            name.as_bytes(),
+            step,
+        );
+        let receipt = told.expect(rt, "the tenant is there");
         mem::swap(&mut self.next, &mut self.other);
         let text = Vec::from_slice(alloc, receipt.body()).expect(rt, "memory");
         let made = Made {
@@ -94,27 +103,13 @@ impl Caller {
         } = self;
         let mut seats = alone(rt, alloc, next);
         seats.push(other).expect(rt, "memory");
-        let Closed { audits } = registry.close(seats).expect(rt, "the audits close");
+        let Closed { audits } = close(rt, registry, seats);
         assert_eq!(rt; audits.len(), 2);
         for (_, audit) in &audits {
             assert_audit(rt, alloc, audit, made.as_slice());
             assert!(rt; audit.quotas().is_empty());
         }
     }
-}
-
-/// Of 64 segments the tenants take one, two and one. Their audits take all calls.
-fn three_tenants(rt: &impl Abort, alloc: Global) -> Registry {
-    let configs = three_configs(alloc).expect(rt, "memory");
-    Registry::new(alloc, configs, 64).expect(rt, "three tenants")
-}
-
-fn three_configs(alloc: Global) -> Mem<Vec<TenantConfig>> {
-    let mut configs = Vec::new(alloc);
-    configs.push(config(alloc, "one", 7, 64, 100)?)?;
-    configs.push(config(alloc, "two", 8, 128, 100)?)?;
-    configs.push(config(alloc, "three", 9, 64, 100)?)?;
-    Ok(configs)
 }
 
 /// Asks for all rows.
@@ -134,19 +129,6 @@ fn rows(alloc: Global) -> Mem<Step> {
         min_create_revision: 0,
         max_create_revision: 0,
     }))
-}
-
-/// What a seat is told of a tenant that is there. It stands by itself, since what a call promises is long.
-fn told_to<R: Wait + Clock + Abort>(
-    rt: &R,
-    registry: &Registry,
-    seat: &mut Seat,
-    name: &str,
-    step: Step,
-) -> Receipt {
-    registry
-        .call(rt, seat, &OpenGate, name.as_bytes(), step)
-        .expect(rt, "the tenant is there")
 }
 
 fn usage_of<R: Wait + Abort>(rt: &R, alloc: Global, registry: &Registry, name: &str) -> Usage {

@@ -1,6 +1,6 @@
 //! Several threads call one registry.
 use super::live::{is_replayed, is_text};
-use super::{call, put, two_tenants};
+use super::{call, close, put, seat_of, told_to, two_tenants};
 use etcd_types::Mem;
 use std::alloc::Global;
 use std::process::Abort;
@@ -38,8 +38,7 @@ fn make_calls<R: Wait + Clock + Abort>(
 fn four_seats(rt: &impl Abort, alloc: Global, registry: &mut Registry) -> Vec<Seat> {
     let mut seats = Vec::new(alloc);
     for _ in 0..4 {
-        let seat = registry.seat().expect(rt, "a seat");
-        seats.push(seat).expect(rt, "memory");
+        seats.push(seat_of(rt, registry)).expect(rt, "memory");
     }
     seats
 }
@@ -54,8 +53,16 @@ fn work_of<R: Threads + Wait + Clock + Abort + Sync>(
     thread::map_vec(rt, seats, &|seat| make_calls(rt, alloc, registry, seat)).expect(rt, "memory")
 }
 
+/// A registry that seats have called, with their receipts.
+#[derive(Drop)]
+struct Called {
+    registry: Registry,
+    seats: Vec<Seat>,
+    receipts: Vec<Vec<Receipt>>,
+}
+
 /// The seats and the receipts of such work, apart.
-fn parted(rt: &impl Abort, alloc: Global, work: Vec<Work>) -> (Vec<Seat>, Vec<Vec<Receipt>>) {
+fn parted(rt: &impl Abort, alloc: Global, registry: Registry, work: Vec<Work>) -> Called {
     let mut seats = Vec::new(alloc);
     let mut all = Vec::new(alloc);
     for Work { seat, receipts } in work {
@@ -63,7 +70,19 @@ fn parted(rt: &impl Abort, alloc: Global, work: Vec<Work>) -> (Vec<Seat>, Vec<Ve
         seats.push(seat).expect(rt, "memory");
         all.push(receipts).expect(rt, "memory");
     }
-    (seats, all)
+    Called {
+        registry,
+        seats,
+        receipts: all,
+    }
+}
+
+/// A registry of two tenants that four threads have called.
+fn called_by_four<R: Threads + Wait + Clock + Abort + Sync>(rt: &R, alloc: Global) -> Called {
+    let mut registry = two_tenants(rt, alloc, 1000);
+    let seats = four_seats(rt, alloc, &mut registry);
+    let work = work_of(rt, alloc, &registry, seats);
+    parted(rt, alloc, registry, work)
 }
 
 /// The entry at a receipt's turn, in its tenant's audit.
@@ -128,11 +147,12 @@ fn assert_told(rt: &impl Abort, alloc: Global, closed: &Closed, receipts: &[Vec<
 
 #[test]
 fn four_threads_close(rt: HostRuntime) {
-    let mut registry = two_tenants(rt.alloc(), 1000).expect(&rt, "two tenants");
-    let seats = four_seats(&rt, rt.alloc(), &mut registry);
-    let work = work_of(&rt, rt.alloc(), &registry, seats);
-    let (seats, receipts) = parted(&rt, rt.alloc(), work);
-    let closed = registry.close(seats).expect(&rt, "the audits close");
+    let Called {
+        registry,
+        seats,
+        receipts,
+    } = called_by_four(&rt, rt.alloc());
+    let closed = close(&rt, registry, seats);
     assert_lawful(&rt, rt.alloc(), &closed);
     assert_told(&rt, rt.alloc(), &closed, receipts.as_slice());
 }
@@ -153,10 +173,11 @@ fn is_mismatch(told: &Result<Closed, CloseFault>, name: &[u8], entries: u32, cal
 
 #[test]
 fn a_seat_that_is_kept_back_is_missed(rt: HostRuntime) {
-    let mut registry = two_tenants(rt.alloc(), 1000).expect(&rt, "two tenants");
-    let seats = four_seats(&rt, rt.alloc(), &mut registry);
-    let work = work_of(&rt, rt.alloc(), &registry, seats);
-    let (mut seats, _) = parted(&rt, rt.alloc(), work);
+    let Called {
+        registry,
+        mut seats,
+        receipts: _,
+    } = called_by_four(&rt, rt.alloc());
     let _kept_back = seats.pop();
     assert!(rt; is_mismatch(&registry.close(seats), b"one", 200, 150));
 }
@@ -202,7 +223,7 @@ fn held_call<R: Wait + Clock + Abort>(
     tenant: &[u8],
 ) -> bool {
     let step = put(alloc).expect(rt, "memory");
-    registry.call(rt, &mut seat, gate, tenant, step).is_ok()
+    told_to(rt, registry, &mut seat, gate, tenant, step).is_ok()
 }
 
 /// Two calls on two tenants: the first is held under its lock until the second, which begins later, was
@@ -238,9 +259,9 @@ fn overlap<R: Threads + Wait + Clock + Abort + Sync>(
 
 #[test]
 fn two_tenants_overlap(rt: HostRuntime) {
-    let mut registry = two_tenants(rt.alloc(), 1).expect(&rt, "two tenants");
-    let one = registry.seat().expect(&rt, "a seat");
-    let two = registry.seat().expect(&rt, "a seat");
+    let mut registry = two_tenants(&rt, rt.alloc(), 1);
+    let one = seat_of(&rt, &mut registry);
+    let two = seat_of(&rt, &mut registry);
     assert!(rt; overlap(&rt, rt.alloc(), &registry, one, two));
 }
 
@@ -271,13 +292,25 @@ fn work_beside_resizes<R: Threads + Wait + Clock + Abort + Sync>(
     work
 }
 
+/// A registry of two tenants that four threads have called, while another one resized the first.
+fn called_beside_resizes<R: Threads + Wait + Clock + Abort + Sync>(
+    rt: &R,
+    alloc: Global,
+) -> Called {
+    let mut registry = two_tenants(rt, alloc, 1000);
+    let seats = four_seats(rt, alloc, &mut registry);
+    let work = work_beside_resizes(rt, alloc, &registry, seats);
+    parted(rt, alloc, registry, work)
+}
+
 #[test]
 fn four_threads_close_beside_resizes(rt: HostRuntime) {
-    let mut registry = two_tenants(rt.alloc(), 1000).expect(&rt, "two tenants");
-    let seats = four_seats(&rt, rt.alloc(), &mut registry);
-    let work = work_beside_resizes(&rt, rt.alloc(), &registry, seats);
-    let (seats, _) = parted(&rt, rt.alloc(), work);
-    let closed = registry.close(seats).expect(&rt, "the audits close");
+    let Called {
+        registry,
+        seats,
+        receipts: _,
+    } = called_beside_resizes(&rt, rt.alloc());
+    let closed = close(&rt, registry, seats);
     assert_replayed(&rt, rt.alloc(), &closed);
 }
 
