@@ -7,6 +7,10 @@ use Rattle.tenant_registry.specs.Adding.{with_tenant}
 use Rattle.tenant_registry.specs.Registries.{RegistryState}
 use Rattle.host_config.specs.Telling.{IsTenant}
 
+-- the tenant that a body tells
+abbrev pub IsTold : List ℕ → TenantConfig → Type 0
+IsTold body c = (d : Data) × (read body ≡ Some d) × IsTenant d c
+
 -- it has one tenant more, the one that a body tells
 abbrev pub HasAdded : List ℕ → RegistryState → RegistryState → Type 0
 HasAdded body old new =

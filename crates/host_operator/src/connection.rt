@@ -5,6 +5,7 @@ ghost use Rattle.hyper.specs.ServerDispatch.{Runs};
 
 use crate::requests::{OperatorExchange, OperatorGateway};
 use bytes::Bytes;
+use connection_table::Patience;
 use futures::Future;
 use futures::task::{Context, Poll};
 use http_body_util::Full;
@@ -13,9 +14,41 @@ use hyper::body::{Body, Incoming};
 use hyper::rt::TokioTimer;
 use hyper::server::conn::http1;
 use hyper::service::Service;
+use std::alloc::Global;
+use std::hash::RandomState;
+use std::io;
+use std::random::RandomSource;
 use std::rt::Clock;
 use tokio::io::{AsyncRead, AsyncWrite};
 use tokio::net::TcpStream;
+use tokio::runtime::LocalRuntime;
+
+/// How heads are read and answers are written.
+pub(crate) struct OperatorHttp<R: Clock + Copy + Drop> {
+    builder: http1::Builder<TokioTimer<R>>,
+}
+
+impl<R: Clock + Copy + Drop> Drop for OperatorHttp<R> {
+    fn drop(self) {
+        let OperatorHttp { builder: _ } = self;
+    }
+}
+
+impl<R: Clock + RandomSource + Copy + Drop> OperatorHttp<R> {
+    /// For the connections of a runtime, whose peers have so much patience.
+    pub(crate) fn new(
+        rt: R,
+        alloc: Global,
+        runtime: &LocalRuntime,
+        patience: Patience,
+    ) -> io::Result<OperatorHttp<R>> {
+        let keys = RandomState::new(&rt)?;
+        let timers = runtime.handle().time().clone()?;
+        let mut builder = http1::Builder::new(alloc, keys).timer(TokioTimer::new(rt, timers));
+        builder.header_read_timeout(Some(patience.for_head()));
+        Ok(OperatorHttp { builder })
+    }
+}
 
 /// A connection of the operator. It is ready once it has ended.
 pub(crate) struct OperatorConnection<R: Clock + Eprint + Copy + Drop> {
@@ -31,14 +64,14 @@ impl<R: Clock + Eprint + Copy + Drop> Drop for OperatorConnection<R> {
 impl<R: Clock + Eprint + Copy + Drop> OperatorConnection<R> {
     /// It takes no memory until it is polled.
     pub(crate) fn new(
-        http: &http1::Builder<TokioTimer<R>>,
+        http: &OperatorHttp<R>,
         stream: TcpStream,
         gateway: OperatorGateway<R>,
     ) -> OperatorConnection<R>
         ensures { ⟦<OperatorConnection<R> as Future>⟧.can_poll result }
     {
         OperatorConnection {
-            connection: http.serve_connection(stream, gateway),
+            connection: http.builder.serve_connection(stream, gateway),
         }
     }
 }

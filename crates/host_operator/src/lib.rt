@@ -4,11 +4,12 @@
 //!    has the registry to itself (`serving`).
 //! 2. On a connection (`connection`) a request is read, its token is compared, and it is handed in (`requests`). Its method and its path say which call
 //!    it is, and each refusal has a status and a text (`calls`).
-//! 3. The `Operator` does the call (`operator`). What a dashboard is told is in `metrics`, and what memory the process has
-//!    in `memory`.
+//! 3. The `Operator` does the call (`operator`). What it tells is JSON (`answer`, `values`), a tenant as in `shown`. What a
+//!    dashboard is told is in `metrics`, and what memory the process has in `memory`.
 //! 4. `Stopping` of `connection_table` says whether connections of clients are accepted, and tells the server to end.
 #![tactic(auto)]
 
+mod answer;
 mod calls;
 mod connection;
 mod memory;
@@ -16,6 +17,8 @@ mod metrics;
 mod operator;
 mod requests;
 mod serving;
+mod shown;
+mod values;
 
 pub use operator::Operator;
 pub use serving::{OperatorSocket, serve_operator};

@@ -149,37 +149,14 @@ const NANOS: u64 = 1_000_000_000;
 
 /// The whole text.
 pub(crate) fn metrics(alloc: Global, host: HostSample, samples: &[Sample]) -> Mem<Vec<u8>> {
-    let mut text = Text {
-        alloc,
-        written: Vec::new(alloc),
-    };
+    let mut text = Text::new(alloc);
     text.host_gauges(host)?;
     text.host_counters(host)?;
-    for gauge in GAUGES {
-        text.head(gauge.name(), gauge.help(), "gauge")?;
-        for sample in samples {
-            text.of_tenant(gauge.name(), sample.name.as_str(), gauge.of(sample))?;
-        }
-    }
+    text.gauges(samples)?;
     text.calls(samples)?;
     text.bytes(samples)?;
-    text.head(
-        WAITS,
-        "How long calls waited in their tenant's queue.",
-        "histogram",
-    )?;
-    for sample in samples {
-        text.histogram(WAITS, sample.name.as_str(), sample.counts.waits())?;
-    }
-    text.head(
-        TURNS,
-        "How long turns took in which calls were served.",
-        "histogram",
-    )?;
-    for sample in samples {
-        text.histogram(TURNS, sample.name.as_str(), sample.counts.turns())?;
-    }
-    Ok(text.written)
+    text.durations(samples)?;
+    Ok(text.into_bytes())
 }
 
 const ANSWERED: &str = "bikazery_calls_total";
@@ -195,27 +172,99 @@ const WAITS: &str = "bikazery_wait_seconds";
 const TURNS: &str = "bikazery_turn_seconds";
 
 /// A text that grows.
-#[derive(Drop)]
 struct Text {
     alloc: Global,
     written: Vec<u8>,
 }
 
+impl Drop for Text {
+    fn drop(self) {
+        let Text {
+            alloc: _,
+            written: _,
+        } = self;
+    }
+}
+
 impl Text {
-    fn push(&mut self, line: String) -> Mem<()> {
-        self.written.extend_from_slice(line.as_bytes())
+    /// Nothing is written.
+    fn new(alloc: Global) -> Text {
+        Text {
+            alloc,
+            written: Vec::new(alloc),
+        }
+    }
+
+    fn into_bytes(self) -> Vec<u8> {
+        let Text { alloc: _, written } = self;
+        written
+    }
+
+    fn push(&mut self, text: &str) -> Mem<()> {
+        self.written.extend_from_slice(text.as_bytes())
+    }
+
+    fn push_number(&mut self, number: u64) -> Mem<()> {
+        let number = format!(in self.alloc; "{number}")?;
+        self.push(number.as_str())
+    }
+
+    /// A line that tells something of a number.
+    fn comment(&mut self, word: &str, name: &str, told: &str) -> Mem<()> {
+        self.push(word)?;
+        self.push(name)?;
+        self.push(" ")?;
+        self.push(told)?;
+        self.push("\n")
     }
 
     fn head(&mut self, name: &str, help: &str, kind: &str) -> Mem<()> {
-        let line = format!(in self.alloc; "# HELP {name} {help}\n# TYPE {name} {kind}\n")?;
-        self.push(line)
+        self.comment("# HELP ", name, help)?;
+        self.comment("# TYPE ", name, kind)
+    }
+
+    /// The name of a number of a tenant, and its first label. A histogram's numbers have an ending.
+    fn begin(&mut self, name: &str, ending: &str, tenant: &str) -> Mem<()> {
+        self.push(name)?;
+        self.push(ending)?;
+        self.push("{tenant=\"")?;
+        self.push(tenant)?;
+        self.push("\"")
+    }
+
+    /// One more label, up to its value.
+    fn begin_label(&mut self, label: &str) -> Mem<()> {
+        self.push(",")?;
+        self.push(label)?;
+        self.push("=\"")
+    }
+
+    fn label(&mut self, label: &str, value: &str) -> Mem<()> {
+        self.begin_label(label)?;
+        self.push(value)?;
+        self.push("\"")
+    }
+
+    fn number_label(&mut self, label: &str, value: u64) -> Mem<()> {
+        self.begin_label(label)?;
+        self.push_number(value)?;
+        self.push("\"")
+    }
+
+    /// The number behind its labels.
+    fn end(&mut self, value: u64) -> Mem<()> {
+        self.push("} ")?;
+        self.push_number(value)?;
+        self.push("\n")
     }
 
     /// A number of the host.
     fn host(&mut self, name: &str, help: &str, kind: &str, value: u64) -> Mem<()> {
         self.head(name, help, kind)?;
-        let line = format!(in self.alloc; "{name} {value}\n")?;
-        self.push(line)
+        self.push(name)?;
+        self.push(" ")?;
+        self.push_number(value)?;
+        self.push("\n")
     }
 
     fn host_gauges(&mut self, host: HostSample) -> Mem<()> {
@@ -258,8 +307,25 @@ impl Text {
 
     /// A number of a tenant.
     fn of_tenant(&mut self, name: &str, tenant: &str, value: u64) -> Mem<()> {
-        let line = format!(in self.alloc; "{name}{{tenant=\"{tenant}\"}} {value}\n")?;
-        self.push(line)
+        self.begin(name, "", tenant)?;
+        self.end(value)
+    }
+
+    /// The numbers of the tenants that go up and down.
+    fn gauges(&mut self, samples: &[Sample]) -> Mem<()> {
+        for gauge in GAUGES {
+            self.gauge(gauge, samples)?;
+        }
+        Ok(())
+    }
+
+    fn gauge(&mut self, gauge: Gauge, samples: &[Sample]) -> Mem<()> {
+        let name = gauge.name();
+        self.head(name, gauge.help(), "gauge")?;
+        for sample in samples {
+            self.of_tenant(name, sample.name.as_str(), gauge.of(sample))?;
+        }
+        Ok(())
     }
 
     /// The calls of the tenants, and those that were refused, by number.
@@ -294,43 +360,82 @@ impl Text {
         Ok(())
     }
 
+    /// How long calls and turns took.
+    fn durations(&mut self, samples: &[Sample]) -> Mem<()> {
+        let help = "How long calls waited in their tenant's queue.";
+        self.head(WAITS, help, "histogram")?;
+        for sample in samples {
+            self.histogram(WAITS, sample.name.as_str(), sample.counts.waits())?;
+        }
+        let help = "How long turns took in which calls were served.";
+        self.head(TURNS, help, "histogram")?;
+        for sample in samples {
+            self.histogram(TURNS, sample.name.as_str(), sample.counts.turns())?;
+        }
+        Ok(())
+    }
+
     /// Durations by their parts, each with those before it.
     fn histogram(&mut self, name: &str, tenant: &str, durations: &Durations) -> Mem<()> {
         let mut count = 0u64;
         for (place, end) in ENDS.iter().enumerate() {
             count = count.saturating_add(durations.part(place).unwrap_or(0));
-            let end = seconds(self.alloc, end.saturating_mul(1_000))?;
-            self.bucket(name, tenant, end.as_str(), count)?;
+            self.bucket(name, tenant, end.saturating_mul(1_000), count)?;
         }
         count = count.saturating_add(durations.part(ENDS.len()).unwrap_or(0));
-        self.bucket(name, tenant, "+Inf", count)?;
-        let sum = seconds(self.alloc, durations.nanos())?;
-        let line = format!(in self.alloc;
-            "{name}_sum{{tenant=\"{tenant}\"}} {sum}\n{name}_count{{tenant=\"{tenant}\"}} {count}\n"
-        )?;
-        self.push(line)
+        self.last_bucket(name, tenant, count)?;
+        self.sum(name, tenant, durations.nanos())?;
+        self.begin(name, "_count", tenant)?;
+        self.end(count)
     }
 
-    fn bucket(&mut self, name: &str, tenant: &str, end: &str, count: u64) -> Mem<()> {
-        let line = format!(in self.alloc;
-            "{name}_bucket{{tenant=\"{tenant}\",le=\"{end}\"}} {count}\n"
-        )?;
-        self.push(line)
+    /// How many took no longer than so many nanoseconds.
+    fn bucket(&mut self, name: &str, tenant: &str, nanos: u64, count: u64) -> Mem<()> {
+        self.begin(name, "_bucket", tenant)?;
+        self.begin_label("le")?;
+        self.push_seconds(nanos)?;
+        self.push("\"")?;
+        self.end(count)
+    }
+
+    /// How many there are.
+    fn last_bucket(&mut self, name: &str, tenant: &str, count: u64) -> Mem<()> {
+        self.begin(name, "_bucket", tenant)?;
+        self.label("le", "+Inf")?;
+        self.end(count)
+    }
+
+    /// How many nanoseconds they took in all.
+    fn sum(&mut self, name: &str, tenant: &str, nanos: u64) -> Mem<()> {
+        self.begin(name, "_sum", tenant)?;
+        self.push("} ")?;
+        self.push_seconds(nanos)?;
+        self.push("\n")
+    }
+
+    /// So many nanoseconds as seconds.
+    fn push_seconds(&mut self, nanos: u64) -> Mem<()> {
+        let whole = nanos / NANOS;
+        let rest = nanos % NANOS;
+        let seconds = format!(in self.alloc; "{whole}.{rest:09}")?;
+        self.push(seconds.as_str())
     }
 
     /// The calls of a tenant that were refused; numbers with none are left out.
     fn refused(&mut self, sample: &Sample) -> Mem<()> {
-        let tenant = sample.name.as_str();
         for number in 1..=LAST_REFUSAL {
             let count = sample.counts.answered().refused(number);
             if count > 0 {
-                let line = format!(in self.alloc;
-                    "{REFUSED}{{tenant=\"{tenant}\",number=\"{number}\"}} {count}\n"
-                )?;
-                self.push(line)?;
+                self.refusal(sample.name.as_str(), number, count)?;
             }
         }
         Ok(())
+    }
+
+    fn refusal(&mut self, tenant: &str, number: u8, count: u64) -> Mem<()> {
+        self.begin(REFUSED, "", tenant)?;
+        self.number_label("number", number.into())?;
+        self.end(count)
     }
 
     /// The calls of a tenant that were answered; those of which there is none are left out.
@@ -347,17 +452,9 @@ impl Text {
     }
 
     fn call(&mut self, tenant: &str, call: Call, status: u16, count: u64) -> Mem<()> {
-        let call = label(call);
-        let line = format!(in self.alloc;
-            "{ANSWERED}{{tenant=\"{tenant}\",call=\"{call}\",status=\"{status}\"}} {count}\n"
-        )?;
-        self.push(line)
+        self.begin(ANSWERED, "", tenant)?;
+        self.label("call", label(call))?;
+        self.number_label("status", status.into())?;
+        self.end(count)
     }
-}
-
-/// So many nanoseconds as seconds.
-fn seconds(alloc: Global, nanos: u64) -> Mem<String> {
-    let whole = nanos / NANOS;
-    let rest = nanos % NANOS;
-    format!(in alloc; "{whole}.{rest:09}")
 }

@@ -2,19 +2,16 @@
 ghost use Rattle.std.specs.Prelude.{IfOk, IfSome};
 
 use crate::calls::OperatorCall;
-use crate::connection::OperatorConnection;
+use crate::connection::{OperatorConnection, OperatorHttp};
 use crate::operator::Operator;
-use crate::requests::{OperatorEntrance, OperatorGateway, OperatorRequest};
+use crate::requests::{OperatorEntrance, OperatorGateway, OperatorOutcome, OperatorRequest};
 use connection_table::Patience;
 use etcd_types::Mem;
 use futures::executor::TaskSet;
 use futures::task::{Context, Poll};
 use futures::{Future, ready};
 use host_config::OperatorConfig;
-use hyper::rt::TokioTimer;
-use hyper::server::conn::http1;
 use std::alloc::{AllocGlobal, Global};
-use std::hash::RandomState;
 use std::net::{Net, SocketAddr};
 use std::random::RandomSource;
 use std::rt::Files;
@@ -24,7 +21,7 @@ use std::time::{Clock, Duration};
 use std::{io, net, thread};
 use tokio::net::{TcpListener, TcpStream};
 use tokio::runtime::LocalRuntime;
-use tokio::sync::mpsc::{UnboundedReceiver, unbounded_channel};
+use tokio::sync::mpsc::UnboundedReceiver;
 
 /// How many milliseconds no connection is accepted after one could not be.
 const PAUSE: u64 = 50;
@@ -32,6 +29,11 @@ const PAUSE: u64 = 50;
 /// Where the operator's connections come in.
 pub struct OperatorSocket {
     runtime: LocalRuntime,
+    door: Door,
+}
+
+/// Where he is listened to, and what he has to bring.
+struct Door {
     /// The thread that serves the operator makes it one of its event loop.
     listener: net::TcpListener,
     token: Option<Vec<u8>>,
@@ -42,10 +44,44 @@ impl Drop for OperatorSocket {
     fn drop(self) {
         let OperatorSocket {
             runtime: _,
+            door: _,
+        } = self;
+    }
+}
+
+impl Drop for Door {
+    fn drop(self) {
+        let Door {
             listener: _,
             token: _,
             patience: _,
         } = self;
+    }
+}
+
+impl Door {
+    /// Listens where the configuration says.
+    fn of<R: Net>(
+        rt: &R,
+        config: &OperatorConfig,
+        token: Option<Vec<u8>>,
+        patience: Patience,
+    ) -> io::Result<Door> {
+        let listener = mio::net::TcpListener::bind(rt, config.listen)?;
+        Ok(Door {
+            listener: net::TcpListener::from(listener),
+            token,
+            patience,
+        })
+    }
+
+    fn into_parts(self) -> (net::TcpListener, Option<Vec<u8>>, Patience) {
+        let Door {
+            listener,
+            token,
+            patience,
+        } = self;
+        (listener, token, patience)
     }
 }
 
@@ -63,28 +99,21 @@ impl OperatorSocket {
             Some(token) => Some(Vec::from_slice(rt.alloc(), token.as_slice())?),
             None => None,
         };
-        let listener = mio::net::TcpListener::bind(rt, config.listen)?;
+        let door = Door::of(rt, config, token, patience)?;
         Ok(OperatorSocket {
             runtime: LocalRuntime::new(rt)?,
-            listener: net::TcpListener::from(listener),
-            token,
-            patience,
+            door,
         })
     }
 
     /// The address that the operator connects to.
     pub fn address(&self) -> io::Result<SocketAddr> {
-        self.listener.local_addr()
+        self.door.listener.local_addr()
     }
 
-    fn into_parts(self) -> (LocalRuntime, net::TcpListener, Option<Vec<u8>>, Patience) {
-        let OperatorSocket {
-            runtime,
-            listener,
-            token,
-            patience,
-        } = self;
-        (runtime, listener, token, patience)
+    fn into_parts(self) -> (LocalRuntime, Door) {
+        let OperatorSocket { runtime, door } = self;
+        (runtime, door)
     }
 }
 
@@ -148,18 +177,82 @@ impl<C: Future<Output = hyper::Result<()>>> Future for Served<C> {
     }
 }
 
+/// Makes connections of the operator tasks.
+struct Receiving<R: Clock + Copy + Drop> {
+    rt: R,
+    alloc: Global,
+    http: OperatorHttp<R>,
+    entrance: Arc<OperatorEntrance>,
+    /// How many connections are open.
+    open: Arc<AtomicUsize>,
+}
+
+impl<R: Clock + Copy + Drop> Drop for Receiving<R> {
+    fn drop(self) {
+        let Receiving {
+            rt: _,
+            alloc: _,
+            http: _,
+            entrance: _,
+            open: _,
+        } = self;
+    }
+}
+
+impl<R: Clock + RandomSource + Copy + Drop> Receiving<R> {
+    /// On a runtime, for peers with so much patience, whose requests are handed in at an entrance.
+    fn new(
+        rt: R,
+        alloc: Global,
+        runtime: &LocalRuntime,
+        patience: Patience,
+        entrance: OperatorEntrance,
+    ) -> io::Result<Receiving<R>> {
+        Ok(Receiving {
+            rt,
+            alloc,
+            http: OperatorHttp::new(rt, alloc, runtime, patience)?,
+            entrance: Arc::new(alloc, entrance)?,
+            open: Arc::new(alloc, AtomicUsize::new(0))?,
+        })
+    }
+}
+
+impl<R: Clock + Eprint + Copy + Drop> Receiving<R> {
+    /// A connection that was accepted.
+    fn receive(&self, stream: TcpStream) -> Mem<Served<OperatorConnection<R>>>
+        ensures { IfOk result (λ served. IfSome served.connection
+            (λ connection. ⟦<OperatorConnection<R> as Future>⟧.can_poll connection.value)) }
+    {
+        let gateway = OperatorGateway {
+            rt: self.rt,
+            alloc: self.alloc,
+            entrance: OperatorEntrance::share(&self.entrance),
+        };
+        let connection = OperatorConnection::new(&self.http, stream, gateway);
+        Served::of(self.alloc, connection, Counted::of(&self.open))
+    }
+}
+
 /// Accepts the operator's connections, each as a task of a set. Ready once the server has ended.
-#[derive(Drop)]
 struct Accepting<'a, 'x, R: Wait + Drop, F, T: Future> {
     rt: R,
     operator: &'a mut Operator<'x, R>,
-    requests: UnboundedReceiver<OperatorRequest>,
-    listener: TcpListener,
-    ended: UnboundedReceiver<()>,
+    arriving: Arriving,
     tasks: &'a TaskSet<T>,
-    /// How many connections are open.
-    open: Arc<AtomicUsize>,
     make: F,
+}
+
+impl<R: Wait + Drop, F: Drop, T: Future> Drop for Accepting<'_, '_, R, F, T> {
+    fn drop(self) {
+        let Accepting {
+            rt: _,
+            operator: _,
+            arriving: _,
+            tasks: _,
+            make: _,
+        } = self;
+    }
 }
 
 impl<R, F, T> Future for Accepting<'_, '_, R, F, T>
@@ -174,18 +267,18 @@ where
         × ((stream : _) (made : _) → F.post a.make stream made → IfOk made T.can_poll) };
 
     fn poll(&mut self, cx: &mut Context<'_>) -> Poll<()> {
-        if self.ended.poll_recv(cx).is_ready() {
+        if self.arriving.ended.poll_recv(cx).is_ready() {
             return Poll::Ready(());
         }
-        if let Poll::Ready(Some(request)) = self.requests.poll_recv(cx) {
+        if let Poll::Ready(Some(request)) = self.arriving.requests.poll_recv(cx) {
             serve(self.operator, request);
             return cx.yield_now();
         }
-        match ready!(self.listener.poll_accept(cx)) {
+        match ready!(self.arriving.listener.poll_accept(cx)) {
             Ok((stream, _)) => {
                 let make = &self.make;
                 // One too many is closed.
-                if self.open.load(Ordering::SeqCst) < MOST
+                if self.arriving.open.load(Ordering::SeqCst) < MOST
                     && let Ok(served) = make(stream)
                 {
                     drop(self.tasks.spawn(served));
@@ -202,17 +295,19 @@ fn serve<R>(operator: &mut Operator<'_, R>, request: OperatorRequest)
 where
     R: Wait + Clock + Files + AllocGlobal + Copy + Drop,
 {
-    let OperatorRequest {
-        method,
-        path,
-        body,
-        reply,
-    } = request;
-    let outcome = match OperatorCall::of(method.as_str(), path.as_str()) {
-        Ok(call) => operator.answer(call, body.as_slice()),
+    let outcome = outcome_of(operator, &request);
+    request.reply(outcome);
+}
+
+/// What a request comes to.
+fn outcome_of<R>(operator: &mut Operator<'_, R>, request: &OperatorRequest) -> OperatorOutcome
+where
+    R: Wait + Clock + Files + AllocGlobal + Copy + Drop,
+{
+    match OperatorCall::of(request.method.as_str(), request.path.as_str()) {
+        Ok(call) => operator.answer(call, request.body.as_slice()),
         Err(refusal) => Err(refusal),
-    };
-    drop(reply.send(outcome));
+    }
 }
 
 /// Serves the operator until the server has ended: until the other end of a channel is let go.
@@ -226,45 +321,58 @@ pub fn serve_operator<R>(
 where
     R: Wait + Clock + RandomSource + AllocGlobal + Files + Eprint + Copy + Drop,
 {
-    let (mut runtime, listener, token, patience) = socket.into_parts();
-    let listener = TcpListener::from_std(listener, runtime.handle().reactor())?;
-    let (sender, requests) = unbounded_channel(alloc)?;
-    let entrance = OperatorEntrance {
-        requests: sender,
-        token,
-    };
-    let entrance = Arc::new(alloc, entrance)?;
-    let keys = RandomState::new(&rt)?;
-    let timers = runtime.handle().time().clone()?;
-    let mut http = http1::Builder::new(alloc, keys).timer(TokioTimer::new(rt, timers));
-    http.header_read_timeout(Some(patience.for_head()));
-    let open = Arc::new(alloc, AtomicUsize::new(0))?;
-    let counted = Arc::try_clone(&open)?;
-    let make = move |stream| {
-        let gateway = OperatorGateway {
-            rt,
-            alloc,
-            entrance: OperatorEntrance::share(&entrance),
-        };
-        let connection = OperatorConnection::new(&http, stream, gateway);
-        Served::of(alloc, connection, Counted::of(&counted))
-    };
+    let (mut runtime, door) = socket.into_parts();
+    serve_at(rt, alloc, &mut runtime, &mut operator, door, ended)
+}
+
+/// The same at a door, on the event loop of a runtime.
+fn serve_at<R>(
+    rt: R,
+    alloc: Global,
+    runtime: &mut LocalRuntime,
+    operator: &mut Operator<'_, R>,
+    door: Door,
+    ended: UnboundedReceiver<()>,
+) -> io::Result<()>
+where
+    R: Wait + Clock + RandomSource + AllocGlobal + Files + Eprint + Copy + Drop,
+{
+    let (listener, token, patience) = door.into_parts();
+    let (entrance, requests) = OperatorEntrance::open(alloc, token)?;
+    let receiving = Receiving::new(rt, alloc, &*runtime, patience, entrance)?;
     let arriving = Arriving {
-        listener,
-        open,
+        listener: TcpListener::from_std(listener, runtime.handle().reactor())?,
+        open: Arc::try_clone(&receiving.open)?,
         requests,
         ended,
     };
-    run_tasks(rt, &mut runtime, &mut operator, arriving, make)
+    run_tasks(
+        rt,
+        runtime,
+        operator,
+        arriving,
+        move |stream| receiving.receive(stream),
+    )
 }
 
 /// What the operator's connections come by.
-#[derive(Drop)]
 struct Arriving {
     listener: TcpListener,
+    /// How many connections are open.
     open: Arc<AtomicUsize>,
     requests: UnboundedReceiver<OperatorRequest>,
     ended: UnboundedReceiver<()>,
+}
+
+impl Drop for Arriving {
+    fn drop(self) {
+        let Arriving {
+            listener: _,
+            open: _,
+            requests: _,
+            ended: _,
+        } = self;
+    }
 }
 
 /// Runs the operator's connections as tasks that a function makes.
@@ -282,21 +390,12 @@ where
     requires callable { F.IsAlwaysCallable make }
     requires pollable { (stream : _) (made : _) → F.post make stream made → IfOk made T.can_poll }
 {
-    let Arriving {
-        listener,
-        open,
-        requests,
-        ended,
-    } = arriving;
     let tasks = runtime.task_set(&rt)?;
     let accepting = Accepting {
         rt,
         operator,
-        requests,
-        listener,
-        ended,
+        arriving,
         tasks: &tasks,
-        open,
         make,
     };
     runtime.block_on_with(&rt, &tasks, accepting)

@@ -1,6 +1,5 @@
-use Rattle.serde_json.specs.View.{view}
 use Rattle.host_operator.proofs.operator.Operator.add.Goals as goal
 
 pub returns-clause-adds : goal.returns-clause-adds
 returns-clause-adds g c =
-    (view c.in_ok-object.object, c.in_ok-config.config, c.in_ok-object.ensures.read, c.in_ok-config.ensures, c.in_ok-add.ensures.adds)
+    (c.in_ok-wanted.ensures.0, c.in_ok-wanted.wanted.config, c.in_ok-wanted.ensures.1, c.in_ok-wanted.ensures.2, c.in_ok-add_wanted.ensures)
