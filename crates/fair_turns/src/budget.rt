@@ -124,7 +124,7 @@ impl Budget {
     }
 
     /// Whether so much is left as the tree of a body needs, which may be nothing.
-    pub fn has_room_for(&self, tree: TreeWeight) -> bool {
+    fn has_room_for(&self, tree: TreeWeight) -> bool {
         tree.is_small() || tree.bytes() <= self.left() as u64
     }
 
@@ -246,6 +246,14 @@ impl BodyShare {
                 (BodyShare::Held(Share { budget, bytes }), Poll::Ready(true))
             }
             Poll::Ready(Err(_)) => (BodyShare::None, Poll::Ready(false)),
+        }
+    }
+
+    /// Whether its budget has room for the tree of the body, as far as that has come.
+    pub fn has_room_for(&self, tree: TreeWeight) -> bool {
+        match self {
+            BodyShare::Held(share) => share.budget.has_room_for(tree),
+            BodyShare::None | BodyShare::Awaited(_) => true,
         }
     }
 

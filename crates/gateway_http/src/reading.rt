@@ -39,12 +39,15 @@ const MAX_PASSED: u32 = 4096;
 /// A request whose body is being read.
 #[derive(Drop)]
 pub(crate) struct Reading<I, R: Wait + Drop> {
+    alloc: Global,
     unanswered: Unanswered,
     route: Result<Route, Refusal>,
     body: Limited<Incoming<I>>,
     read: Vec<u8>,
     /// What reading the values of a long body may take.
     tree: TreeWeight,
+    /// That is more than its tenant's budget has room for: the body rests before it is read on and thrown away.
+    is_costly: bool,
     terms: BodyTerms<R>,
     /// Much of it was read: the next piece is left for a later turn of its loop.
     rests: bool,
@@ -118,11 +121,13 @@ impl<I: Drop, R: Wait + Clock + Copy + Drop> Reading<I, R> {
         ensures read { result.read.items ≡ [] }
     {
         Reading {
+            alloc,
             unanswered,
             route,
             body: Limited::new(body, MAX_BODY),
             read: Vec::new(alloc),
             tree: TreeWeight::EMPTY,
+            is_costly: false,
             terms,
             rests: false,
             lost,
@@ -158,7 +163,7 @@ impl<I: Drop, R: Wait + Clock + Copy + Drop> Reading<I, R> {
                     return Poll::Ready(Ok(WholeBody { sealed: () }));
                 }
             }
-            if bytes >= BYTES_A_POLL {
+            if bytes >= BYTES_A_POLL || self.is_costly {
                 self.rests = true;
                 return cx.yield_now();
             }
@@ -210,6 +215,9 @@ impl<I: Drop, R: Wait + Clock + Copy + Drop> Reading<I, R> {
         ensures registered { OnPending result (IsArmed cx.new) }
         ensures kept { Keeps cx.old cx.new }
     {
+        if self.is_costly {
+            return self.poll_rest(cx);
+        }
         let BodyShare::Awaited(_) = &self.terms.share else {
             return Poll::Ready(());
         };
@@ -231,12 +239,25 @@ impl<I: Drop, R: Wait + Clock + Copy + Drop> Reading<I, R> {
         Poll::Ready(())
     }
 
+    /// Ready once a body that is too costly has rested: else its client would send the next one at once.
+    fn poll_rest(&mut self, cx: &mut Context<'_>) -> Poll<()>
+        ensures kept_all { IsKept self.old [] self.new }
+        ensures registered { OnPending result (IsArmed cx.new) }
+        ensures kept { Keeps cx.old cx.new }
+    {
+        ready!(self.terms.stall.poll_rest(cx));
+        self.is_costly = false;
+        self.terms.stall.relent();
+        Poll::Ready(())
+    }
+
     /// There is no memory for the body: it is read on and thrown away.
     fn lose(&mut self)
         ensures { IsLost self.old self.new }
     {
         self.lost = Some(Loss::NoMemory);
         self.terms.share = BodyShare::None;
+        self.read = Vec::new(self.alloc);
     }
 
     /// Keeps a piece of the body of a request that is not refused yet.
@@ -247,11 +268,26 @@ impl<I: Drop, R: Wait + Clock + Copy + Drop> Reading<I, R> {
         if self.route.is_err() || self.lost.is_some() {
             return;
         }
-        if self.read.extend_from_slice(piece).is_err() {
+        if self.read.extend_from_slice(piece).is_err() || self.is_too_costly(piece) {
             self.lose();
-        } else if self.terms.bound > SHORT {
-            self.tree.add(piece);
         }
+    }
+
+    /// With this piece, reading a long body may take more than its tenant's budget has room for.
+    fn is_too_costly(&mut self, piece: &[u8]) -> bool
+        ensures route { self.new.route ≡ self.old.route }
+        ensures body { self.new.body ≡ self.old.body }
+        ensures lost { self.new.lost ≡ self.old.lost }
+        ensures read { self.new.read ≡ self.old.read }
+    {
+        if self.terms.bound > SHORT {
+            self.tree.add(piece);
+            self.is_costly = !self.terms.share.has_room_for(self.tree);
+        }
+        if self.is_costly {
+            self.terms.stall.rest();
+        }
+        self.is_costly
     }
 
     /// Begins the call of a request that was read, or refuses it.
@@ -265,11 +301,13 @@ impl<I: Drop, R: Wait + Clock + Copy + Drop> Reading<I, R> {
         ensures { IsTakenUp self.route self.lost self.read.items result }
     {
         let Reading {
+            alloc: _,
             unanswered,
             route,
             body: _,
             read,
             tree,
+            is_costly: _,
             terms,
             rests: _,
             lost,

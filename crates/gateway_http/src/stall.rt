@@ -8,6 +8,10 @@ use std::rt::Clock;
 use std::time::{Duration, Instant};
 use tokio::time::{Handle, Sleep};
 
+/// How many milliseconds a body rests that is too costly to read: its client sends no more than four a second then. One that has gone is seen
+/// behind it.
+const MILLIS_A_REST: u64 = 250;
+
 /// What a connection's bodies are timed by.
 #[derive(Drop)]
 pub(crate) struct BodyTimer {
@@ -35,14 +39,28 @@ impl<R: Clock + Drop> Stall<R> {
 
     /// A piece came, and the next one has its time anew.
     pub(crate) fn relent(&mut self) {
-        let (Some(sleep), Some(timer)) = (&mut self.sleep, &self.timer) else {
+        if let Some(timer) = &self.timer {
+            let patience = timer.patience;
+            self.wait_for(patience);
+        }
+    }
+
+    /// So much time is waited for from now on, if a timer runs.
+    fn wait_for(&mut self, time: Duration) {
+        let Some(sleep) = &mut self.sleep else {
             return;
         };
         if let Ok(now) = Instant::now(&self.rt)
-            && let Some(deadline) = now.checked_add(timer.patience)
+            && let Some(deadline) = now.checked_add(time)
         {
             sleep.reset(deadline);
         }
+    }
+
+    /// The next piece is left where it is for a while.
+    pub(crate) fn rest(&mut self) {
+        self.begin();
+        self.wait_for(Duration::from_millis(MILLIS_A_REST));
     }
 
     /// No piece is there: ready once the time for it is over.
@@ -51,13 +69,28 @@ impl<R: Clock + Drop> Stall<R> {
         ensures registered { OnPending result (IsArmed cx.new) }
         ensures kept { Keeps cx.old cx.new }
     {
-        if let (None, Some(timer)) = (&self.sleep, &self.timer) {
-            // Where there is no memory for a timer, it is tried again with the next piece.
-            self.sleep = timer.timers.sleep(&self.rt, timer.patience).ok();
-        }
+        self.begin();
         match &mut self.sleep {
             Some(sleep) => sleep.poll(cx).map(|_| ()),
             None => Poll::Pending,
+        }
+    }
+
+    /// Ready once a rest is over; at once where there is no timer.
+    pub(crate) fn poll_rest(&mut self, cx: &mut Context<'_>) -> Poll<()>
+        ensures registered { OnPending result (IsArmed cx.new) }
+        ensures kept { Keeps cx.old cx.new }
+    {
+        match &mut self.sleep {
+            Some(sleep) => sleep.poll(cx).map(|_| ()),
+            None => Poll::Ready(()),
+        }
+    }
+
+    /// The time begins, unless it has. Where there is no memory for a timer, it is tried again with the next piece.
+    fn begin(&mut self) {
+        if let (None, Some(timer)) = (&self.sleep, &self.timer) {
+            self.sleep = timer.timers.sleep(&self.rt, timer.patience).ok();
         }
     }
 }

@@ -1,6 +1,5 @@
 //! How a call begins, once its body was read.
 ghost use Rattle.tenant_scheduler.specs.Begins.{IsBegun};
-ghost use Rattle.tenant_scheduler.specs.Requests.{IsUnread};
 
 use crate::caller::{PendingCall, Told, Unanswered, Unserved};
 use crate::job_queue::BriefRequest;
@@ -44,41 +43,15 @@ impl<R: Wait + Clock + Drop> Begun<R> {
 /// Reads the step of a short body, and hands the request on.
 fn hand_in<R: Wait + Clock + Drop>(rt: &R, alloc: Global, jobs: &Jobs<R>, unserved: Unserved<R>) {
     if unserved.request().len() > SHORT {
-        return hand_in_long(rt, alloc, jobs, unserved);
+        return jobs.queue(rt, alloc, unserved, None);
     }
     match unserved.request().read(alloc) {
         Ok(step) if step.is_brief() => jobs.hand(rt, alloc, BriefRequest { unserved, step }),
         Ok(step) => jobs.queue(rt, alloc, unserved, Some(step)),
-        Err(refusal) => refuse(rt, alloc, jobs, unserved, refusal),
+        Err(refusal) => {
+            let answer = unserved.unread(alloc, refusal);
+            jobs.count(rt, &answer);
+            answer.send();
+        }
     }
-}
-
-/// Leaves a request with a long body to a worker, which reads it. Where its tenant's budget has no room for that now, no other
-/// tenant's call waits for a worker to see it.
-fn hand_in_long<R: Wait + Clock + Drop>(
-    rt: &R,
-    alloc: Global,
-    jobs: &Jobs<R>,
-    unserved: Unserved<R>,
-) {
-    if jobs.have_room_for(rt, unserved.request()) {
-        jobs.queue(rt, alloc, unserved, None);
-    } else {
-        refuse(rt, alloc, jobs, unserved, Refusal::Memory);
-    }
-}
-
-/// Tells a request why its body is not read as a step.
-fn refuse<R: Wait + Drop>(
-    rt: &R,
-    alloc: Global,
-    jobs: &Jobs<R>,
-    unserved: Unserved<R>,
-    refusal: Refusal,
-)
-    requires { IsUnread unserved.request.value refusal }
-{
-    let answer = unserved.unread(alloc, refusal);
-    jobs.count(rt, &answer);
-    answer.send();
 }

@@ -12,8 +12,6 @@ use auto_compaction::DueRevision;
 use fair_turns::{Scheduler, Stopwatch, Work};
 use std::rt::Clock;
 use std::sync::Wait;
-use std::thread;
-use std::time::Duration;
 use tenant_calls::{TakeHint, TenantCalls};
 
 /// How many kept changes one step looks at.
@@ -24,10 +22,6 @@ const STEPS_A_TURN: u32 = 1024;
 
 /// After how many milliseconds a turn ends, once the step at hand is done.
 const MILLIS_A_TURN: u64 = 1;
-
-/// How many microseconds the thread rests behind such a turn. It may go on for seconds, and a thread that is woken on its processor
-/// would wait until the system takes that away from it.
-const MICROS_A_REST: u64 = 100;
 
 /// Steps CatchUp on each tenant where that is due, and compacts it where its standing order says so, until there are no
 /// more turns.
@@ -60,11 +54,8 @@ fn serve_turn<R: Wait + Clock + Drop, C: TenantCalls>(
         return;
     };
     keep_order(rt, caller, &shared.scheduler, &tenant);
-    let has_more = move_on(rt, caller, &tenant);
+    move_on(rt, caller, &tenant);
     shared.scheduler.finish(rt, tenant.turns(), Work::CatchUp);
-    if has_more {
-        thread::sleep(rt, Duration::from_micros(MICROS_A_REST));
-    }
 }
 
 /// Compacts a tenant where its standing order says so, and has the pump tell its watches.
@@ -121,12 +112,12 @@ fn due_revision<R: Wait + Clock + Drop, C: TenantCalls>(
     clients.standing.look(moment, revision)
 }
 
-/// Steps a tenant's CatchUp, and goes on for a while as long as a watch is far behind. Whether one still is then is told.
+/// Steps a tenant's CatchUp, and goes on for a while as long as a watch is far behind.
 fn move_on<R: Wait + Clock + Drop, C: TenantCalls>(
     rt: &R,
     caller: &mut Caller<R, C>,
     tenant: &ServedTenant<R, C::Key>,
-) -> bool {
+) {
     let clients = tenant.clients.lock(rt);
     let stopwatch = Stopwatch::start(rt);
     for _ in 0..STEPS_A_TURN {
@@ -134,15 +125,13 @@ fn move_on<R: Wait + Clock + Drop, C: TenantCalls>(
         if caller
             .catch_up(&clients.key, tenant.number(), BUDGET)
             .is_err()
-            || !is_far_behind(caller, &*clients)
         {
-            return false;
+            return;
         }
-        if stopwatch.is_past(rt, MILLIS_A_TURN) {
-            break;
+        if !is_far_behind(caller, &*clients) || stopwatch.is_past(rt, MILLIS_A_TURN) {
+            return;
         }
     }
-    true
 }
 
 /// A watch of the tenant is far behind.

@@ -6,7 +6,7 @@ ghost use Rattle.tenant_scheduler.specs.Requests.{IsReadAs};
 use crate::caller::{JobAnswer, Told, Unanswered, Unserved};
 use crate::entrances::{Entrance, Entrances};
 use crate::job_queue::{BriefRequest, Job};
-use crate::request::{NamedTenant, Request, Route};
+use crate::request::{NamedTenant, Route};
 use etcd_types::{Mem, Refusal, Step};
 use fair_turns::{Answer, BodyShare, SHORT, Stopwatch};
 use std::alloc::Global;
@@ -92,15 +92,6 @@ impl<R: Wait + Drop> Jobs<R> {
         match entrance.budget.promise(bytes) {
             Some(awaited) => BodyShare::Awaited(awaited),
             None => BodyShare::None,
-        }
-    }
-
-    /// The tenant's budget has room for what reading a long body may take; who reads it sees to that again. A tenant that was
-    /// removed is told so where the request goes in.
-    pub(crate) fn have_room_for(&self, rt: &R, request: &Request) -> bool {
-        match self.entrance(rt, request.tenant()) {
-            Some(entrance) => entrance.budget.has_room_for(request.tree()),
-            None => true,
         }
     }
 

@@ -16,8 +16,8 @@ use etcd_types::CellNo;
 use etcd_types::limits::{RESPONSE_REVISIONS, RING_ENTRIES};
 use revision_store::{Changes, Store};
 
-/// From how many revisions on a watch is far behind.
-const FAR_BEHIND: u64 = 1024;
+/// From how many changes on a watch is far behind.
+const FAR_BEHIND: usize = 1024;
 
 /// The first revision after that of the first of some cells, or after the current one.
 fn reached(store: &Store, changes: &Changes<'_>) -> u64
@@ -52,7 +52,8 @@ impl OpenWatch {
     /// Whether a take would look at many changes behind the ring, over which catch-ups bring it in small steps. It
     /// promises nothing.
     pub fn is_far_behind(&self, store: &Store) -> bool {
-        store.current().saturating_sub(self.position()) >= FAR_BEHIND
+        self.position() <= store.current()
+            && store.since(self.position()).len() >= FAR_BEHIND
             && self.ring_len() <= RESPONSE_REVISIONS
             && self.is_whole(store)
             && self.has_room_for_next(store)
