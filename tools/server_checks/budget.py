@@ -247,6 +247,8 @@ def a_text_is_made_where_the_budget_has_room_for_it(program):
     with budgeted(program, LEAST_BUDGET) as server, server.connect() as other:
         fill(other, "two", VALUES)
         with server.watch("two", create, WINDOW):
+            # The system takes in the first ones.
+            time.sleep(1)
             want_soon(other, "kv/range", f'{{{ALL},"limit":"16"}}', 503)
             with server.watch("two", create) as reading:
                 reading.told()
