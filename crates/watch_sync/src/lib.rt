@@ -23,7 +23,8 @@
 //! | revision 305, and a compaction at 305 | - | 306 | 304 | the change of 304 may be gone |
 //! | a take | | | | a cancel, which frees the slot |
 //!
-//! `plan_create` and `plan_take` take all memory. No other call but `new` takes any, and none of them fails.
+//! `plan_create` and `plan_take` take all memory, and `weight` takes some to look ahead. No other call but `new` takes any, and
+//! none of them fails.
 #![tactic(auto)]
 
 mod following;
