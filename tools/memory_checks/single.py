@@ -19,6 +19,8 @@ SMALL = 65_536
 # have run out has 24, and a segment's bay 48.
 CELL_ROOMS = 164
 ROWS = 1_000
+# A long value, in bytes: about half of the longest body.
+LONG = 1_000_000
 
 # What a call takes beside rows and lists: the tree of its short body, what is planned of it, and a text without rows.
 FRONT = 2_048
@@ -124,18 +126,46 @@ def transactions():
     yield Single(f"a range behind {MAX_OPS - 1} pending puts", line, answer, most, 2 * len(line))
 
 
+def compares():
+    """A transaction that compares as many versions as one may, and does nothing."""
+    compare = {"key": text(key_of(0)), "target": "VERSION", "result": "GREATER", "version": "0"}
+    line = call("kv/txn", {"compare": [compare] * MAX_OPS})
+    yield Single(f"{MAX_OPS} compares", line, '200 {"header"', FRONT + MAX_OPS * OPERATION_READ)
+
+
 def short_calls():
     """Calls whose answers have at most a row."""
     watch = {"create_request": {"key": text(b"a"), "range_end": text(b"z")}}
     interval = 2 * block(1)
     yield Single("a grant", call("lease/grant", {"TTL": "100", "ID": "5"}), '200 {"ID":"5"', FRONT)
     yield Single("a put that takes a lease", call("kv/put", put_of(7, lease="5")), '200 {"header"', FRONT)
+    yield Single("a keepalive", call("lease/keepalive", {"ID": "5"}), '200 {"result":{"ID":"5"', FRONT)
+    yield Single("all leases", call("lease/leases", {}), '200 {"header"', FRONT)
     yield Single("a lease and its key", call("lease/timetolive", {"ID": "5", "keys": True}), '200 {"ID":"5"', FRONT)
     yield Single("a watch", call("watch", watch), '200 {"result":{"created":true', FRONT + RING, block(RING) + interval)
     yield Single("a put that is watched", call("kv/put", put_of(8)), '200 {"header"', FRONT)
+    yield Single("a catch-up", "catchup one 1000\n", "204", 0)
     yield Single("a take", "take one 0\n", '200 {"result":{"events"', FRONT + ONE_ROW)
+    yield Single("a quiet take", "take one 0\n", "204", 0)
+    yield Single("the end of a watch", "drop one 0\n", "204", 0, -block(RING))
+    yield Single("a tick", "tick one 1\n", "204", 0)
+    yield Single("a status", call("maintenance/status", {}), '200 {"dbSize"', FRONT)
+    yield Single("the alarms", call("maintenance/alarm", {}), '200 {"header"', FRONT)
     yield Single("the end of a lease", call("lease/revoke", {"ID": "5"}), '200 {"header"', FRONT)
     yield Single("a compaction", call("kv/compaction", {"revision": str(KEYS // MAX_OPS)}), '200 {"header"', FRONT)
+
+
+def long_calls():
+    """Puts of a long value. Its text is held twice while the body is read, and is gone before the put is planned."""
+    key, before = key_of(9), {"prev_kv": True}
+    put = {"key": text(key), "value": text(bytes(LONG))}
+    line, again = call("kv/put", put), call("kv/put", {**put, **before})
+    held = 2 * len(put["value"])
+    answer = '200 {"header"'
+    # The program keeps room for the longest line, which doubles.
+    yield Single("the first long put", again, answer, FRONT + DOUBLED * len(again) + held, 2 * len(again))
+    yield Single("a long put", line, answer, FRONT + held)
+    yield Single("a long put with the row before", again, answer, FRONT + 2 * LONG + row(len(key), LONG))
 
 
 def large_calls():
@@ -147,6 +177,7 @@ def large_calls():
     room = SMALL // SEGMENT_CELLS * SEGMENT_MOST
     yield Single(f"a resize by {SMALL:,} cells", f"resize two {2 * SMALL}\n", "ok", room, room)
     yield Single("a resize back", f"resize two {SMALL}\n", "ok", 0)
+    yield Single("the end of a tenant", "remove three\n", "ok", 0)
     deleted = listed(CELL_NUMBER) + listed(CHANGE)
     yield Single("a delete of all keys", call("kv/deleterange", all_keys()), '200 {"deleted":"2', FRONT + deleted)
 
@@ -166,6 +197,6 @@ def results(path):
             told = program.ask_line(line.encode())
             want(told.startswith((b"ok", b"200")), f"{line[:100]} is answered {told[:200]!r}")
         want(program.held()[0] > KEYS, "the allocator counts nothing")
-        for kind in [ranges, transactions, short_calls, large_calls]:
+        for kind in [ranges, transactions, compares, short_calls, long_calls, large_calls]:
             for single in kind():
                 yield single.name, fault_of(check, program, single)

@@ -1,5 +1,5 @@
 //! Rooms for more segments, and the end of a table.
-ghost use Rattle.std.specs.Prelude.{ℕ, ◌≡◌, ◌+◌, ◌<◌, ◌≤◌, ◌^◌, length, vec_capacity, OnOk, OnErr};
+ghost use Rattle.std.specs.Prelude.{ℕ, ◌≡◌, ◌+◌, ◌<◌, ◌≤◌, ◌^◌, length, vec_capacity, OnOk, OnErr, IsOk};
 ghost use Rattle.cell_arena.specs.Loan.{IsLent, Settles, KeepsShare, with_rooms, returned};
 ghost use Rattle.cell_arena.specs.Table.{IsTable, IsTableIn, OpensBay, SameCells, share_of, table_at};
 
@@ -34,6 +34,7 @@ pub(crate) fn grow(table: &mut Table, bays: u32) -> Mem<()>
     ensures used { table.new.used ≡ table.old.used }
     ensures ok { OnOk result (share_of table.new ≡ with_rooms bays (share_of table.old)) }
     ensures err { OnErr result (share_of table.new ≡ share_of table.old) }
+    ensures sure { bays ≤ (share_of table.old).rooms → IsOk result }
 {
     let more = bays.saturating_sub(table.bays.len() as u32);
     if more == 0 {

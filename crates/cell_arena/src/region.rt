@@ -1,6 +1,6 @@
 //! A store of records.
 ghost use Rattle.std.specs.Prelude.{◌≡◌, ◌+◌, ◌*◌, ◌/◌, ◌%◌, ◌≤◌, ◌^◌, ◌++◌, [], length, take};
-ghost use Rattle.std.specs.Prelude.{OnOk, OnErr, IfOk};
+ghost use Rattle.std.specs.Prelude.{OnOk, OnErr, IfOk, IsOk};
 ghost use Rattle.std.specs.Ordering.{nat_cmp};
 ghost use Rattle.std.specs.Cmp.Lexicographic.{slice_cmp};
 ghost use Rattle.cell_arena.specs.declared.cell.Kind.{Kind};
@@ -25,9 +25,14 @@ use std::marker::Model;
 /// calls that draw them and give them back.
 ///
 /// A call that names a cell asks that it is the first of a record.
-#[derive(Drop)]
 pub struct Region {
     table: Table,
+}
+
+impl Drop for Region {
+    fn drop(self) {
+        let Region { table: _ } = self;
+    }
 }
 
 impl Model for Region {
@@ -143,6 +148,7 @@ impl Region {
         requires few { cells ≤ 2 ^ 20 }
         ensures ok { OnOk result (self.new ≡ roomier (cells / 64) self.old) }
         ensures err { OnErr result (self.new ≡ self.old) }
+        ensures sure { cells / 64 ≤ self.old.share.rooms → IsOk result }
     {
         growing::grow(&mut self.table, cells / 64)
     }
@@ -162,7 +168,8 @@ impl Region {
         requires lent { IsLent self.share (S.loan segments.old) }
         ensures settles { Settles self.share (S.loan segments.old) (returned self.share) (S.loan segments.new) }
     {
-        growing::give_up(self.table, segments);
+        let Region { table } = self;
+        growing::give_up(table, segments);
     }
 
     /// Whether a record begins at the cell.

@@ -6,7 +6,7 @@ use crate::list::List;
 use std::alloc::Global;
 
 /// A key with its value, as it stands at a revision.
-#[derive(PartialEq, Eq, Drop)]
+#[derive(PartialEq, Eq)]
 pub struct KeyValue {
     pub key: List<u8>,
     /// The revision of the first put since the key was last deleted.
@@ -20,12 +20,40 @@ pub struct KeyValue {
     pub lease: i64,
 }
 
+impl Drop for KeyValue {
+    fn drop(self) {
+        let KeyValue {
+            key: _,
+            create_revision: _,
+            mod_revision: _,
+            version: _,
+            value: _,
+            lease: _,
+        } = self;
+    }
+}
+
 impl KeyValue {
     /// The two are one value.
     pub fn same_as(&self, other: &KeyValue) -> bool
         ensures { IsTrue result ↔ (self.now ≡ other.now) }
     {
         self == other
+    }
+
+    /// The key and the value.
+    pub fn into_pair(self) -> (List<u8>, List<u8>)
+        ensures { result ≡ (self.key, self.value) }
+    {
+        let KeyValue {
+            key,
+            create_revision: _,
+            mod_revision: _,
+            version: _,
+            value,
+            lease: _,
+        } = self;
+        (key, value)
     }
 }
 
@@ -50,13 +78,23 @@ pub enum EventKind {
 }
 
 /// One change, as a watch tells of it.
-#[derive(PartialEq, Eq, Drop)]
+#[derive(PartialEq, Eq)]
 pub struct Event {
     pub kind: EventKind,
     /// The row of a put; of a delete the key and its revision alone.
     pub kv: KeyValue,
     /// The row before the change, where the watch asked for it and it is not compacted.
     pub prev_kv: Option<KeyValue>,
+}
+
+impl Drop for Event {
+    fn drop(self) {
+        let Event {
+            kind: _,
+            kv: _,
+            prev_kv: _,
+        } = self;
+    }
 }
 
 impl CopyOf for Event {

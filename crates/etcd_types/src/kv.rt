@@ -23,7 +23,7 @@ pub enum SortTarget {
 }
 
 /// A read of an interval of keys.
-#[derive(PartialEq, Eq, Drop)]
+#[derive(PartialEq, Eq)]
 pub struct RangeReq {
     /// The first key of the interval.
     pub key: List<u8>,
@@ -44,6 +44,26 @@ pub struct RangeReq {
     pub max_mod_revision: i64,
     pub min_create_revision: i64,
     pub max_create_revision: i64,
+}
+
+impl Drop for RangeReq {
+    fn drop(self) {
+        let RangeReq {
+            key: _,
+            range_end: _,
+            limit: _,
+            revision: _,
+            sort_order: _,
+            sort_target: _,
+            serializable: _,
+            keys_only: _,
+            count_only: _,
+            min_mod_revision: _,
+            max_mod_revision: _,
+            min_create_revision: _,
+            max_create_revision: _,
+        } = self;
+    }
 }
 
 impl CopyOf for RangeReq {
@@ -67,7 +87,7 @@ impl CopyOf for RangeReq {
 }
 
 /// A write of one key.
-#[derive(PartialEq, Eq, Drop)]
+#[derive(PartialEq, Eq)]
 pub struct PutReq {
     pub key: List<u8>,
     pub value: List<u8>,
@@ -79,6 +99,19 @@ pub struct PutReq {
     pub ignore_value: bool,
     /// Keeps the present lease.
     pub ignore_lease: bool,
+}
+
+impl Drop for PutReq {
+    fn drop(self) {
+        let PutReq {
+            key: _,
+            value: _,
+            lease: _,
+            prev_kv: _,
+            ignore_value: _,
+            ignore_lease: _,
+        } = self;
+    }
 }
 
 impl CopyOf for PutReq {
@@ -95,12 +128,22 @@ impl CopyOf for PutReq {
 }
 
 /// A delete of an interval of keys.
-#[derive(PartialEq, Eq, Drop)]
+#[derive(PartialEq, Eq)]
 pub struct DeleteReq {
     pub key: List<u8>,
     pub range_end: List<u8>,
     /// Asks for the rows that are deleted.
     pub prev_kv: bool,
+}
+
+impl Drop for DeleteReq {
+    fn drop(self) {
+        let DeleteReq {
+            key: _,
+            range_end: _,
+            prev_kv: _,
+        } = self;
+    }
 }
 
 impl CopyOf for DeleteReq {

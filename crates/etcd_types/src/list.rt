@@ -7,9 +7,14 @@ use std::alloc::Global;
 use std::marker::Model;
 
 /// Owned items in order. Two lists with equal items are equal, whatever room each has.
-#[derive(Drop)]
 pub struct List<T> {
     items: Vec<T>,
+}
+
+impl<T: Drop> Drop for List<T> {
+    fn drop(self) {
+        let List { items: _ } = self;
+    }
 }
 
 impl<T> Model for List<T> {
@@ -41,7 +46,8 @@ impl<T> List<T> {
     pub fn into_vec(self) -> Vec<T>
         ensures { result.items ≡ self }
     {
-        self.items
+        let List { items } = self;
+        items
     }
 
     /// The items as a slice.

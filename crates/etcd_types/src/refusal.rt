@@ -25,7 +25,7 @@ pub enum Refusal {
     NotPost,
     TooManyWatches,
     UsedUp,
-    /// A growth was refused. Nothing changed.
+    /// A growth was refused, a bound of the server is reached, or no type rules it out. Nothing changed.
     Memory,
 }
 

@@ -68,7 +68,7 @@ impl CopyOf for OpReply {
 }
 
 /// The answer to a step.
-#[derive(PartialEq, Eq, Drop)]
+#[derive(PartialEq, Eq)]
 pub enum Reply {
     Range {
         header: Header,
@@ -153,6 +153,78 @@ pub enum Reply {
     /// Nothing to say.
     Quiet,
     Refused(Refusal),
+}
+
+impl Drop for Reply {
+    fn drop(self) {
+        match self {
+            Reply::Range {
+                header: _,
+                count: _,
+                kvs,
+                more: _,
+            } => drop(kvs),
+            Reply::Put { header: _, prev_kv } => drop(prev_kv),
+            Reply::Delete {
+                header: _,
+                deleted: _,
+                prev_kvs,
+            } => drop(prev_kvs),
+            Reply::Txn {
+                header: _,
+                succeeded: _,
+                responses,
+            } => drop(responses),
+            Reply::Events {
+                header: _,
+                watch_id: _,
+                events,
+            } => drop(events),
+            Reply::TimeToLive {
+                header: _,
+                id: _,
+                ttl: _,
+                granted_ttl: _,
+                keys,
+            } => drop(keys),
+            Reply::Leases { header: _, ids } => drop(ids),
+            Reply::Compacted(_) | Reply::Revoked(_) | Reply::Defragmented(_) => {}
+            Reply::Created {
+                header: _,
+                watch_id: _,
+                slot: _,
+            } => {}
+            Reply::Progress {
+                header: _,
+                watch_id: _,
+            } => {}
+            Reply::Canceled {
+                header: _,
+                watch_id: _,
+                compact_revision: _,
+            } => {}
+            Reply::Granted {
+                header: _,
+                id: _,
+                ttl: _,
+            } => {}
+            Reply::KeptAlive {
+                header: _,
+                id: _,
+                ttl: _,
+            } => {}
+            Reply::Alarms {
+                header: _,
+                no_space: _,
+            } => {}
+            Reply::Status {
+                header: _,
+                size: _,
+                in_use: _,
+            } => {}
+            Reply::Quiet | Reply::Refused(_) => {}
+        }
+    }
 }
 
 impl Reply {

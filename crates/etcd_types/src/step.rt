@@ -11,7 +11,7 @@ use crate::watch::WatchReq;
 use std::alloc::Global;
 
 /// One step of a tenant's machine.
-#[derive(PartialEq, Eq, Drop)]
+#[derive(PartialEq, Eq)]
 pub enum Step {
     Range(RangeReq),
     Put(PutReq),
@@ -37,6 +37,23 @@ pub enum Step {
     Tick(u64),
     /// Prepares watch responses, looking at no more than this many changes.
     CatchUp(u32),
+}
+
+impl Drop for Step {
+    fn drop(self) {
+        match self {
+            Step::Range(request) => drop(request),
+            Step::Put(request) => drop(request),
+            Step::Delete(request) => drop(request),
+            Step::Txn(request) => drop(request),
+            Step::Watch(request) => drop(request),
+            Step::Take(_) | Step::DropWatch(_) => {}
+            Step::Compact(_) | Step::Revoke(_) | Step::KeepAlive(_) => {}
+            Step::TimeToLive { id: _, keys: _ } | Step::Leases | Step::Grant(_) => {}
+            Step::Alarm(_) | Step::Status | Step::Defragment => {}
+            Step::Tick(_) | Step::CatchUp(_) => {}
+        }
+    }
 }
 
 impl Step {

@@ -27,13 +27,22 @@ pub enum CompareTarget {
 }
 
 /// The target of a compare, with what it is compared with.
-#[derive(PartialEq, Eq, Drop)]
+#[derive(PartialEq, Eq)]
 pub enum Operand {
     Version(i64),
     Create(i64),
     Mod(i64),
     Value(List<u8>),
     Lease(i64),
+}
+
+impl Drop for Operand {
+    fn drop(self) {
+        match self {
+            Operand::Value(value) => drop(value),
+            Operand::Version(_) | Operand::Create(_) | Operand::Mod(_) | Operand::Lease(_) => {}
+        }
+    }
 }
 
 impl CopyOf for Operand {
@@ -49,12 +58,23 @@ impl CopyOf for Operand {
 }
 
 /// A condition on every live row of an interval.
-#[derive(PartialEq, Eq, Drop)]
+#[derive(PartialEq, Eq)]
 pub struct Compare {
     pub key: List<u8>,
     pub range_end: List<u8>,
     pub result: CompareResult,
     pub operand: Operand,
+}
+
+impl Drop for Compare {
+    fn drop(self) {
+        let Compare {
+            key: _,
+            range_end: _,
+            result: _,
+            operand: _,
+        } = self;
+    }
 }
 
 impl CopyOf for Compare {
@@ -69,13 +89,24 @@ impl CopyOf for Compare {
 }
 
 /// One operation of a branch.
-#[derive(PartialEq, Eq, Drop)]
+#[derive(PartialEq, Eq)]
 pub enum Op {
     Range(RangeReq),
     Put(PutReq),
     Delete(DeleteReq),
     /// A transaction inside one, which is not offered. What it holds is not looked at.
     Nested,
+}
+
+impl Drop for Op {
+    fn drop(self) {
+        match self {
+            Op::Range(request) => drop(request),
+            Op::Put(request) => drop(request),
+            Op::Delete(request) => drop(request),
+            Op::Nested => {}
+        }
+    }
 }
 
 impl Op {
@@ -107,11 +138,21 @@ impl CopyOf for Op {
 }
 
 /// Compares, and the operations to run where all of them hold, or where one does not.
-#[derive(PartialEq, Eq, Drop)]
+#[derive(PartialEq, Eq)]
 pub struct TxnReq {
     pub compare: List<Compare>,
     pub success: List<Op>,
     pub failure: List<Op>,
+}
+
+impl Drop for TxnReq {
+    fn drop(self) {
+        let TxnReq {
+            compare: _,
+            success: _,
+            failure: _,
+        } = self;
+    }
 }
 
 impl CopyOf for TxnReq {

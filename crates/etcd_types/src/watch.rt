@@ -11,7 +11,7 @@ pub struct Filters {
 }
 
 /// A new watch of an interval of keys.
-#[derive(PartialEq, Eq, Drop)]
+#[derive(PartialEq, Eq)]
 pub struct WatchReq {
     /// The first key. An empty one counts as the single byte 0.
     pub key: List<u8>,
@@ -25,6 +25,20 @@ pub struct WatchReq {
     pub watch_id: i64,
     /// Asks for a response now and then where there is no event.
     pub progress_notify: bool,
+}
+
+impl Drop for WatchReq {
+    fn drop(self) {
+        let WatchReq {
+            key: _,
+            range_end: _,
+            start_revision: _,
+            filters: _,
+            prev_kv: _,
+            watch_id: _,
+            progress_notify: _,
+        } = self;
+    }
 }
 
 impl CopyOf for WatchReq {

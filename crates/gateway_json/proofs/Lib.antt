@@ -2,7 +2,6 @@ pub mod BodyLemmas
 pub mod ListLemmas
 pub mod NumberLemmas
 pub mod PathLemmas
-pub mod SpellingLemmas
 pub mod StepLemmas
 pub mod TableLemmas
 pub mod TakingLemmas

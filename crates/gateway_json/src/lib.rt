@@ -11,11 +11,10 @@ mod maintenance;
 mod member;
 mod names;
 mod paths;
-mod spelling;
 mod txn;
 mod watch;
 
+pub use base64_text::bytes_of_text;
 pub use call::{read_call, read_posted, read_step};
 pub use member::read_unsigned;
 pub use paths::{Target, call_of, target_of};
-pub use spelling::bytes_of_text;

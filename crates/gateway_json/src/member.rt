@@ -9,7 +9,7 @@ ghost use Rattle.etcd_model.specs.Members.{read_signed, read_unsigned, signed_te
 ghost use Rattle.gateway_json.specs.Taking.{HasNoSymbol, IfThere};
 
 use crate::names::spelled;
-use crate::spelling::bytes_of_text;
+use base64_text::bytes_of_text;
 use etcd_types::{List, MemberName, Refusal};
 use serde_json::Value;
 use std::alloc::Global;

@@ -37,7 +37,6 @@ pub struct Booked {
 }
 
 /// One tenant's leases, and their keys.
-#[derive(Drop)]
 pub struct LeaseBook {
     /// By ascending ID.
     list: ChunkList<Booked>,
@@ -51,6 +50,19 @@ pub struct LeaseBook {
     due: Vec<Lease>,
     /// How many of those have been taken.
     taken: usize,
+}
+
+impl Drop for LeaseBook {
+    fn drop(self) {
+        let LeaseBook {
+            list: _,
+            attachments: _,
+            counter: _,
+            soonest: _,
+            due: _,
+            taken: _,
+        } = self;
+    }
 }
 
 impl Model for LeaseBook {

@@ -81,7 +81,17 @@ fn has_deleted(ops: &[Op]) -> bool
 fn puts_key(ops: &[Op], key: &[u8]) -> bool
     ensures { result ≡ any_put (λ p. bytes_eq p.key key.now) ops.now }
 {
-    ops.iter().any(|op| matches!(op, Op::Put(put) if put.key.as_slice() == key))
+    ops.iter().any(|op| matches!(op, Op::Put(put) if is_same(put.key.as_slice(), key)))
+}
+
+/// Whether two keys are one. Those of a branch often begin alike, so their last bytes are looked at first.
+fn is_same(one: &[u8], other: &[u8]) -> bool
+    ensures { result ≡ bytes_eq one.now other.now }
+{
+    match (one, other) {
+        ([.., last], [.., end]) if last != end => false,
+        _ => one == other,
+    }
 }
 
 fn deletes_key(ops: &[Op], key: &[u8]) -> bool

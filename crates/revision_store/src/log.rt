@@ -7,7 +7,7 @@ ghost use Rattle.std.specs.Prelude.{◌≡◌, ℕ, ◌+◌, ◌*◌, ◌%◌, �
 ghost use Rattle.std.specs.Iterator.{AlwaysYields, IsFinite};
 ghost use Rattle.std.specs.List.{AllByRecursion};
 ghost use Rattle.std.specs.FinMap as finite;
-ghost use Rattle.cell_arena.specs.Loan.{IsLent, Settles, DrawsFor, DrawsNone, IsBusy};
+ghost use Rattle.cell_arena.specs.Loan.{IsLent, Settles, DrawsFor, DrawsNone, IsBusy, returned};
 ghost use Rattle.etcd_model.specs.Changes.{OwnRow, Rises, kept};
 ghost use Rattle.etcd_model.specs.Store.{record_cells};
 ghost use Rattle.key_index.specs.Compaction.{IsCompacted};
@@ -29,7 +29,6 @@ use std::alloc::Global;
 use std::marker::Model;
 
 /// The kept changes in cells, in order and by their keys, and the leases.
-#[derive(Drop)]
 pub(crate) struct Log {
     pub(crate) region: Region,
     pub(crate) index: KeyIndex,
@@ -39,6 +38,18 @@ pub(crate) struct Log {
     pub(crate) recent: ChunkList<CellNo>,
     /// How many cells have a lease.
     leases: u32,
+}
+
+impl Drop for Log {
+    fn drop(self) {
+        let Log {
+            region: _,
+            index: _,
+            settled: _,
+            recent: _,
+            leases: _,
+        } = self;
+    }
 }
 
 impl Model for Log {
@@ -68,6 +79,21 @@ impl Log {
             recent: ChunkList::new(alloc, cells as usize)?,
             leases: 0,
         })
+    }
+
+    /// Gives all segments back.
+    pub(crate) fn give_up<S: Segments>(self, segments: &mut S)
+        requires lent { IsLent self.share (S.loan segments.old) }
+        ensures settles { Settles self.share (S.loan segments.old) (returned self.share) (S.loan segments.new) }
+    {
+        let Log {
+            region,
+            index: _,
+            settled: _,
+            recent: _,
+            leases: _,
+        } = self;
+        region.give_up(segments);
     }
 
     /// Records a change, which is not before any other, and after those of its key.

@@ -1,12 +1,11 @@
-//! Rooms for more cells, another number of reserved cells, and the end of a store.
-ghost use Rattle.std.specs.Prelude.{◌≡◌, ◌/◌, ◌%◌, ◌≤◌, ◌^◌, OnOk, OnErr};
-ghost use Rattle.cell_arena.specs.Loan.{CanReserve, IsLent, Settles, returned};
+//! Rooms for more cells, and another number of reserved cells.
+ghost use Rattle.std.specs.Prelude.{◌≡◌, ◌/◌, ◌%◌, ◌≤◌, ◌^◌, ◌*◌, OnOk, OnErr, IsOk};
+ghost use Rattle.cell_arena.specs.Loan.{CanReserve};
 ghost use Rattle.revision_store.specs.Logged.{log_roomier, log_with, used_in};
 ghost use Rattle.revision_store.specs.Stored.{roomier, filled_cells, with_cells};
 
 use crate::log::Log;
 use crate::store::Store;
-use cell_arena::Segments;
 use etcd_types::Mem;
 
 impl Log {
@@ -15,6 +14,7 @@ impl Log {
         requires few { cells ≤ 2 ^ 20 }
         ensures ok { OnOk result (self.new ≡ log_roomier (cells / 64) self.old) }
         ensures err { OnErr result (self.new ≡ self.old) }
+        ensures sure { cells ≤ 64 * self.old.share.rooms → IsOk result }
     {
         self.index.grow_rooms(cells)?;
         self.settled.grow_room(cells as usize)?;
@@ -31,14 +31,6 @@ impl Log {
     {
         self.region.set_cells(cells);
     }
-
-    /// Gives all segments back.
-    fn give_up<S: Segments>(self, segments: &mut S)
-        requires lent { IsLent self.share (S.loan segments.old) }
-        ensures settles { Settles self.share (S.loan segments.old) (returned self.share) (S.loan segments.new) }
-    {
-        self.region.give_up(segments);
-    }
 }
 
 impl Store {
@@ -50,12 +42,13 @@ impl Store {
         self.log.region.drawn()
     }
 
-    /// Makes rooms for so many cells, which are 64 for each segment. What is kept stays as it is. Where no
-    /// memory is found, nothing has changed.
+    /// Makes rooms for so many cells, which are 64 for each segment. What is kept stays as it is. Where there are as
+    /// many, no memory is taken, and where it finds none, nothing has changed.
     pub fn grow_rooms(&mut self, cells: u32) -> Mem<()>
         requires few { cells ≤ 2 ^ 20 }
         ensures ok { OnOk result (self.new ≡ roomier (cells / 64) self.old) }
         ensures err { OnErr result (self.new ≡ self.old) }
+        ensures sure { cells ≤ 64 * self.old.share.rooms → IsOk result }
     {
         self.log.grow_rooms(cells)
     }
@@ -69,13 +62,5 @@ impl Store {
         ensures fits { filled_cells self.old ≤ cells }
     {
         self.log.set_cells(cells);
-    }
-
-    /// Gives all segments back, with whatever they hold. It takes no memory and cannot fail.
-    pub fn give_up<S: Segments>(self, segments: &mut S)
-        requires lent { IsLent self.share (S.loan segments.old) }
-        ensures settles { Settles self.share (S.loan segments.old) (returned self.share) (S.loan segments.new) }
-    {
-        self.log.give_up(segments);
     }
 }

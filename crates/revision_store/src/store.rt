@@ -3,7 +3,7 @@ ghost use Rattle.std.specs.Prelude.{length, ◌≡◌, ◌+◌, ◌%◌, ◌/◌
 ghost use Rattle.std.specs.Prelude.{List, None, is_none};
 ghost use Rattle.std.specs.Iterator.{AlwaysYields, IsFinite};
 ghost use Rattle.std.specs.FinMap as map;
-ghost use Rattle.cell_arena.specs.Loan.{IsLent, Settles, DrawsNone};
+ghost use Rattle.cell_arena.specs.Loan.{IsLent, Settles, DrawsNone, returned};
 ghost use Rattle.etcd_model.specs.Store.{compact, record_cells};
 ghost use Rattle.etcd_model.specs.Stepping.{compact_refusal};
 ghost use Rattle.key_index.specs.Compaction.{IsCompacted};
@@ -20,11 +20,20 @@ use std::alloc::Global;
 use std::marker::Model;
 
 /// The keys of one tenant with their versions, as far back as the last compaction, in cells.
-#[derive(Drop)]
 pub struct Store {
     pub(crate) log: Log,
     current: u64,
     compacted: u64,
+}
+
+impl Drop for Store {
+    fn drop(self) {
+        let Store {
+            log: _,
+            current: _,
+            compacted: _,
+        } = self;
+    }
 }
 
 impl Model for Store {
@@ -52,6 +61,19 @@ impl Store {
             current: first,
             compacted: 0,
         })
+    }
+
+    /// Gives all segments back, with whatever they hold. It takes no memory and cannot fail.
+    pub fn give_up<S: Segments>(self, segments: &mut S)
+        requires lent { IsLent self.share (S.loan segments.old) }
+        ensures settles { Settles self.share (S.loan segments.old) (returned self.share) (S.loan segments.new) }
+    {
+        let Store {
+            log,
+            current: _,
+            compacted: _,
+        } = self;
+        log.give_up(segments);
     }
 
     /// What always holds of a store. Nothing is done: a caller knows it from here on.

@@ -2,7 +2,9 @@
 ghost use Rattle.std.specs.Prelude.{◌≡◌, length, IfOk, OnErr, OnOk};
 ghost use Rattle.tenant_audit.specs.Audits.{KeepsStep, entry, entry_at, opened_log, step_at, turn_of};
 ghost use Rattle.tenant_audit.specs.Audits.{with_change_at};
+ghost use Rattle.tenant_audit.specs.Seats.{call};
 
+use crate::tally::MadeCall;
 use etcd_types::{CopyOf, Mem, Reply, Step};
 use std::alloc::Global;
 use std::marker::Model;
@@ -23,12 +25,21 @@ pub struct Opening {
 }
 
 /// One step that was served: who asked it, what was asked, and what was answered.
-#[derive(Drop)]
 pub struct Entry {
     /// The number of the caller's seat.
     pub seat: u8,
     pub step: Step,
     pub reply: Reply,
+}
+
+impl Drop for Entry {
+    fn drop(self) {
+        let Entry {
+            seat: _,
+            step: _,
+            reply: _,
+        } = self;
+    }
 }
 
 impl Entry {
@@ -55,6 +66,18 @@ impl Entry {
         let step = step.copy_of(alloc)?;
         let reply = reply.copy_of(alloc)?;
         Ok(Entry { seat, step, reply })
+    }
+
+    /// What it is on its seat's list: a call that has this turn.
+    pub(crate) fn into_call(self, turn: u32) -> MadeCall
+        ensures { result ≡ call turn self.step self.reply }
+    {
+        let Entry {
+            seat: _,
+            step,
+            reply,
+        } = self;
+        MadeCall { turn, step, reply }
     }
 }
 

@@ -131,7 +131,7 @@ impl Seat {
         ensures { AddsCall tenant.now (call turn entry.step entry.reply) self.old self.new }
     {
         match self.tallies.get_mut(tenant) {
-            Some(tally) => tally.record(MadeCall::of(turn, entry)),
+            Some(tally) => tally.record(entry.into_call(turn)),
             None => unreachable!(),
         }
     }

@@ -1,31 +1,25 @@
 //! A seat's list of its calls on one tenant.
 ghost use Rattle.std.specs.Prelude.{◌≡◌, ◌+◌, ◌-◌, ◌^◌, ◌++◌, ◌∷◌, [], length, min, OnOk};
-ghost use Rattle.tenant_audit.specs.Seats.{HasRoom, call};
+ghost use Rattle.tenant_audit.specs.Seats.{HasRoom};
 
-use crate::audit::Entry;
 use etcd_types::{Mem, Reply, Step};
 use std::alloc::{AllocError, Global};
 use std::marker::Model;
 
 /// A call that has a turn: its place in the audit, what was asked, and what was answered.
-#[derive(Drop)]
 pub struct MadeCall {
     pub turn: u32,
     pub step: Step,
     pub reply: Reply,
 }
 
-impl MadeCall {
-    /// A call whose entry has this turn.
-    pub(crate) fn of(turn: u32, entry: Entry) -> MadeCall
-        ensures { result ≡ call turn entry.step entry.reply }
-    {
-        let Entry {
-            seat: _,
-            step,
-            reply,
-        } = entry;
-        MadeCall { turn, step, reply }
+impl Drop for MadeCall {
+    fn drop(self) {
+        let MadeCall {
+            turn: _,
+            step: _,
+            reply: _,
+        } = self;
     }
 }
 

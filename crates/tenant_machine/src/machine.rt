@@ -3,7 +3,7 @@ ghost use Rattle.std.specs.Prelude.{◌≡◌, ◌≢◌, ◌+◌, ◌-◌, ◌�
 ghost use Rattle.etcd_types.specs.Limits.{last_revision, max_quota, min_quota};
 ghost use Rattle.etcd_types.specs.declared.reply.Reply.TheVariants.{Refused};
 ghost use Rattle.etcd_types.specs.declared.refusal.Refusal.TheVariants.{Memory};
-ghost use Rattle.cell_arena.specs.Loan.{segments_for, undrawn};
+ghost use Rattle.cell_arena.specs.Loan.{Settles, returned, segments_for, undrawn};
 ghost use Rattle.etcd_model.specs.Machine.{opening};
 ghost use Rattle.etcd_model.specs.Held.{Holds};
 ghost use Rattle.etcd_model.specs.Store.{kept_store, reserved_cells};
@@ -27,7 +27,6 @@ use std::marker::Model;
 use watch_sync::Watchers;
 
 /// One tenant's cluster.
-#[derive(Drop)]
 pub struct Machine {
     cluster: u64,
     pub(crate) store: Store,
@@ -37,6 +36,19 @@ pub struct Machine {
     pub(crate) moment: u64,
     /// The cells of what the store keeps, room for a delete of each live key, and one a lease are in use.
     pub(crate) quota: Quota,
+}
+
+impl Drop for Machine {
+    fn drop(self) {
+        let Machine {
+            cluster: _,
+            store: _,
+            leases: _,
+            watchers: _,
+            moment: _,
+            quota: _,
+        } = self;
+    }
 }
 
 impl Model for Machine {
@@ -79,6 +91,23 @@ impl Machine {
             moment: 0,
             quota: Quota::new(quota),
         })
+    }
+
+    /// Gives all segments back, with whatever they hold. It takes no memory and cannot fail.
+    pub fn give_up<S: Segments>(self, segments: &mut S)
+        requires lent { IsLentTo self (S.loan segments.old) }
+        ensures settles { Settles self.store.share (S.loan segments.old)
+            (returned self.store.share) (S.loan segments.new) }
+    {
+        let Machine {
+            cluster: _,
+            store,
+            leases: _,
+            watchers: _,
+            moment: _,
+            quota: _,
+        } = self;
+        store.give_up(segments);
     }
 
     /// Makes what was planned, of the machine as it was then. It is lent the segments that the

@@ -1,12 +1,10 @@
-//! Another quota, and the end of a machine.
-ghost use Rattle.std.specs.Prelude.{max, ◌≡◌, ◌≤◌, OnOk, OnErr};
+//! Another quota.
+ghost use Rattle.std.specs.Prelude.{max, ◌≡◌, ◌≤◌, OnOk, OnErr, IsOk};
 ghost use Rattle.etcd_types.specs.Limits.{max_quota};
-ghost use Rattle.cell_arena.specs.Loan.{Settles, returned, segments_for};
+ghost use Rattle.cell_arena.specs.Loan.{segments_for};
 ghost use Rattle.tenant_machine.specs.Reserving.{reservation, roomier, with_quota};
-ghost use Rattle.tenant_machine.specs.Tenants.{IsLentTo};
 
 use crate::machine::{Machine, segments_for};
-use cell_arena::Segments;
 use etcd_types::Mem;
 use etcd_types::limits::SEGMENT_CELLS;
 
@@ -22,12 +20,13 @@ impl Machine {
         segments_for(quota).max(in_use).max(self.store.drawn())
     }
 
-    /// Makes the rooms that a quota of so many cells wants. What the tenant has stays as it is; where no
-    /// memory is found, nothing has changed.
+    /// Makes the rooms that a quota of so many cells wants. What the tenant has stays as it is. Where there are as
+    /// many, no memory is taken, and where it finds none, nothing has changed.
     pub fn grow_rooms(&mut self, quota: u32) -> Mem<()>
         requires quota { quota ≤ max_quota }
         ensures ok { OnOk result (self.new ≡ roomier (segments_for quota) self.old) }
         ensures err { OnErr result (self.new ≡ self.old) }
+        ensures sure { segments_for quota ≤ self.old.store.share.rooms → IsOk result }
     {
         let cells = segments_for(quota) * SEGMENT_CELLS;
         self.leases.grow_rooms(cells)?;
@@ -44,14 +43,5 @@ impl Machine {
         let cells = self.reservation(quota) * SEGMENT_CELLS;
         self.store.set_cells(cells);
         self.quota.cells = quota;
-    }
-
-    /// Gives all segments back, with whatever they hold. It takes no memory and cannot fail.
-    pub fn give_up<S: Segments>(self, segments: &mut S)
-        requires lent { IsLentTo self (S.loan segments.old) }
-        ensures settles { Settles self.store.share (S.loan segments.old)
-            (returned self.store.share) (S.loan segments.new) }
-    {
-        self.store.give_up(segments);
     }
 }

@@ -1,11 +1,12 @@
 //! Plans of watches, and what their commits do.
-ghost use Rattle.std.specs.Prelude.{◌≡◌, ℕ, None, true, is_some, slice_set, IfOk, IsOk};
+ghost use Rattle.std.specs.Prelude.{◌≡◌, ◌≤◌, ℕ, None, true, is_some, slice_set, IfOk, IsOk};
 ghost use Rattle.etcd_types.specs.declared.step.Step.TheVariants.{CatchUp, DropWatch, Take, Watch};
 ghost use Rattle.etcd_model.specs.Stepping.{look_up};
 ghost use Rattle.etcd_model.specs.Store.{kept_store};
 ghost use Rattle.tenant_machine.specs.Deciding.{Does, holds_nothing, opened, past_early};
 ghost use Rattle.tenant_machine.specs.Tenants.{tenant};
 ghost use Rattle.tenant_machine.specs.Plans.{Fits, FitsWatch, with_slots, with_watch};
+ghost use Rattle.watch_sync.specs.Catching.{passed_all};
 ghost use Rattle.watch_sync.specs.Hints.{is_hinted};
 ghost use Rattle.watch_sync.specs.Slots.{FitsTake, hinted, slots_after, watch_in, watches};
 
@@ -127,10 +128,11 @@ impl Machine {
         self.watchers.drop_watch(slot);
     }
 
-    /// Goes on with watches that are behind.
+    /// Goes on with watches that are behind, over so many kept changes at most.
     pub(crate) fn catch_up(&mut self, budget: u32)
         ensures tenant { tenant self.new ≡ tenant self.old }
         ensures store { self.new.store ≡ self.old.store }
+        ensures budget { passed_all self.old.store.kept self.old.watchers self.new.watchers ≤ budget }
     {
         self.watchers.catch_up(&self.store, budget);
     }

@@ -13,6 +13,6 @@ pub enum OperatorFault {
     NoTenant,
     /// Fewer segments are unreserved than the quota takes, or takes more.
     Short,
-    /// A growth was refused.
+    /// A growth was refused, or it is what no type rules out.
     Memory,
 }

@@ -201,7 +201,7 @@ impl<R: Wait + Clock + Copy + Drop, C: TenantCalls> WorkerTurn<'_, '_, R, C> {
         ensures made { IsMadeAfterTakes C.Key.number_of C.Key.name_of C.gives clients.old.key
             unserved.request.value.route.tenant.value step result.own.answer (C.made caller.old.calls) (C.made caller.new.calls) }
     {
-        match step {
+        match &step {
             Step::Watch(_) => self.open(caller, clients, unserved, step),
             Step::Compact(_) => {
                 // A watch with nothing to tell moves on by being taken; else it would be cancelled for what it

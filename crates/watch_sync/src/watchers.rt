@@ -22,9 +22,14 @@ use std::alloc::Global;
 use std::marker::Model;
 
 /// Slots, each free or with a watch.
-#[derive(Drop)]
 pub struct Watchers {
     pub(crate) slots: Vec<Option<OpenWatch>>,
+}
+
+impl Drop for Watchers {
+    fn drop(self) {
+        let Watchers { slots: _ } = self;
+    }
 }
 
 impl Model for Watchers {

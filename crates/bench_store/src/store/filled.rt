@@ -53,7 +53,8 @@ impl Filled {
 
 /// A row of the store, as the map has it.
 pub(crate) fn row_of(row: KeyValue) -> Row {
-    (row.key.into_vec(), row.value.into_vec())
+    let (key, value) = row.into_pair();
+    (key.into_vec(), value.into_vec())
 }
 
 /// A row of the map, copied.

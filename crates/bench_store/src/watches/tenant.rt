@@ -111,7 +111,7 @@ impl Tenant {
             .watchers
             .plan_take(alloc, &self.store, header, 0, slot)?;
         self.watchers.take(&self.store, taken);
-        Ok(match reply {
+        Ok(match &reply {
             Reply::Events { events, .. } => events.as_slice().len(),
             _ => 0,
         })

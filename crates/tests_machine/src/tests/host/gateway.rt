@@ -38,8 +38,8 @@ fn letters_are_numbers(rt: HostRuntime) -> Result<(), Fail> {
 
 /// The lease that a call revokes, or why it is refused.
 fn revoked(read: Result<Step, Refusal>) -> Result<Option<i64>, Refusal> {
-    match read? {
-        Step::Revoke(id) => Ok(Some(id)),
+    match &read? {
+        Step::Revoke(id) => Ok(Some(*id)),
         _ => Ok(None),
     }
 }

@@ -1,5 +1,5 @@
 //! What may lack memory, with enough of it.
-use super::{alone, put, seat_of, two_tenants};
+use super::{alone, config, put, seat_of, two_tenants};
 use etcd_types::Step;
 use std::alloc::Global;
 use std::process::Abort;
@@ -38,6 +38,13 @@ fn assert_keys<R: Wait + Clock + Abort>(
     }
 }
 
+/// One tenant more, while the others are there.
+fn assert_adds(rt: &impl Abort, alloc: Global, registry: &mut Registry) {
+    let three = config(alloc, "three", 9, 1024, 8).expect(rt, "memory");
+    assert!(rt; registry.add(&three).is_ok());
+    assert!(rt; registry.has(b"three"));
+}
+
 /// The seats of some callers come back as they were given.
 fn assert_calls(rt: &impl Abort, alloc: Global, seat: Seat) -> Vec<Seat> {
     let seats = alone(rt, alloc, seat);
@@ -58,6 +65,7 @@ fn memory_is_there(rt: HostRuntime) {
     assert_eq!(rt; registry.segments(), 65);
     let mut seat = seat_of(&rt, &mut registry);
     assert_keys(&rt, alloc, &registry, &mut seat);
+    assert_adds(&rt, alloc, &mut registry);
     let seats = assert_calls(&rt, alloc, seat);
     assert!(rt; registry.close(seats).is_ok());
 }

@@ -16,6 +16,6 @@ unreachable-requires c =
 
 pub returns : goal.returns
 returns c =
-    same_call _ c.of.result _ _ _ c.of.ensures
-    (call_set c.self.inside.number c.args.tenant.now c.self.inside.tallies.entries c.args.self.now _ c.in-Some.tally.now c.record.new.self c.of.result c.self.view_is c.in-Some.ensures.value
+    same_call _ c.into_call.result _ _ _ c.into_call.ensures
+    (call_set c.self.inside.number c.args.tenant.now c.self.inside.tallies.entries c.args.self.now _ c.in-Some.tally.now c.record.new.self c.into_call.result c.self.view_is c.in-Some.ensures.value
     (c.get_mut.follows.holds c.record.new.self).0 c.record.ensures.calls c.record.ensures.missed)

@@ -1,6 +1,6 @@
 use Rattle.std.proofs.Common.{◌∙◌, ap, arith, sym, Ok}
-use Rattle.gateway_json.proofs.SpellingLemmas.{empty_spelled, spelled_bytes_iff}
-use Rattle.gateway_json.proofs.spelling.bytes_of_text.Goals as goal
+use Rattle.base64_text.proofs.SpellingLemmas.{empty_spelled, spelled_bytes_iff}
+use Rattle.base64_text.proofs.spelling.bytes_of_text.Goals as goal
 
 pub returns-then-is_empty-clause-value : goal.returns-then-is_empty-clause-value
 returns-then-is_empty-clause-value c =
