@@ -80,12 +80,15 @@ impl<R: Wait + Clock + Copy + Drop, C: TenantCalls> InlineCalls<R, C> {
         } = &mut self.thread;
         let tenants = shared.tenants();
         let number = brief.unserved.request().tenant().number;
-        let left = match tenants.numbered(rt, self.own.shard, number) {
+        // The tenant is looked at where it stands: to share it would disturb the other loops.
+        let served = tenants.by_number(rt, self.own.shard);
+        let left = match served.get(&number) {
             Some(tenant) if Scheduler::try_begin(tenant.turns()) => {
-                take_turn(rt, self.alloc, caller, &shared.scheduler, &tenant, brief)
+                take_turn(rt, self.alloc, caller, &shared.scheduler, tenant, brief)
             }
             _ => Some(brief),
         };
+        drop(served);
         if let Some(brief) = left {
             tenants.queue(rt, self.alloc, self.own.shard, brief.into_job(rt));
         }

@@ -14,10 +14,13 @@ use std::rt::Clock;
 use std::sync::{Arc, Wait};
 use tokio::sync::mpsc::{UnboundedReceiver, UnboundedSender, unbounded_channel};
 
-/// An event loop, for its connections.
+/// Where the calls of one thread's connections go in. Each event loop has one of its own, so that loops don't disturb each
+/// other by sharing it with a request.
 #[derive(Drop)]
-pub(crate) struct LoopEntrance<R: Wait + Drop> {
-    calls: UnboundedSender<BriefRequest<R>>,
+struct ThreadEntrance<R: Wait + Drop> {
+    entrances: Arc<Entrances<R>>,
+    /// Where connections hand their event loop brief calls; none where there is no loop.
+    inline: Option<UnboundedSender<BriefRequest<R>>>,
     /// The part of the directory that is read here.
     shard: usize,
 }
@@ -37,48 +40,48 @@ impl<R: Wait + Drop> Drop for LoopCalls<R> {
 
 /// Where calls go in, which connections share.
 pub struct Jobs<R: Wait + Drop> {
-    entrances: Arc<Entrances<R>>,
-    /// Where the connections of an event loop hand it brief calls.
-    inline: Option<Arc<LoopEntrance<R>>>,
+    own: Arc<ThreadEntrance<R>>,
 }
 
 impl<R: Wait + Drop> Drop for Jobs<R> {
     fn drop(self) {
-        let Jobs {
-            entrances: _,
-            inline: _,
-        } = self;
+        let Jobs { own: _ } = self;
     }
 }
 
 impl<R: Wait + Drop> Jobs<R> {
-    pub(crate) fn new(entrances: Arc<Entrances<R>>) -> Jobs<R> {
-        Jobs {
-            entrances,
-            inline: None,
-        }
+    /// For connections without an event loop.
+    pub(crate) fn new(alloc: Global, entrances: Arc<Entrances<R>>) -> Mem<Jobs<R>> {
+        Jobs::of(alloc, entrances, None, 0)
     }
 
-    /// The part of the directory that is read here.
-    fn shard(&self) -> usize {
-        match &self.inline {
-            Some(inline) => inline.shard,
-            None => 0,
-        }
+    fn of(
+        alloc: Global,
+        entrances: Arc<Entrances<R>>,
+        inline: Option<UnboundedSender<BriefRequest<R>>>,
+        shard: usize,
+    ) -> Mem<Jobs<R>> {
+        let own = ThreadEntrance {
+            entrances,
+            inline,
+            shard,
+        };
+        Ok(Jobs {
+            own: Arc::new(alloc, own)?,
+        })
     }
 
     /// The tenant of that name.
     pub fn tenant(&self, rt: &R, name: &[u8]) -> Mem<Option<Arc<NamedTenant>>>
         ensures { IfOk result (λ found. IfSome found (λ tenant. tenant.value.name.items ≡ name.now)) }
     {
-        self.entrances.named(rt, self.shard(), name)
+        self.own.entrances.named(rt, self.own.shard, name)
     }
 
     /// The entrance of a tenant; none if it was removed, or where there is no memory to share it.
     fn entrance(&self, rt: &R, tenant: &NamedTenant) -> Option<Arc<Entrance<R>>> {
-        self.entrances
-            .numbered(rt, self.shard(), tenant.number)
-            .ok()?
+        let own = &*self.own;
+        own.entrances.numbered(rt, own.shard, tenant.number).ok()?
     }
 
     /// The share of a tenant's budget for a body of so many bytes at the most.
@@ -126,31 +129,15 @@ impl<R: Wait + Drop> Jobs<R> {
 
     /// The same for another connection; none where there is no memory.
     pub fn share(&self) -> Option<Jobs<R>> {
-        self.shared().ok()
-    }
-
-    fn shared(&self) -> Mem<Jobs<R>> {
-        let inline = match &self.inline {
-            Some(inline) => Some(Arc::try_clone(inline)?),
-            None => None,
-        };
-        Ok(Jobs {
-            entrances: Arc::try_clone(&self.entrances)?,
-            inline,
-        })
+        let own = Arc::try_clone(&self.own).ok()?;
+        Some(Jobs { own })
     }
 
     /// The same for the connections of the event loop of that number, and where it receives their brief calls.
     pub fn with_inline_calls(&self, alloc: Global, number: usize) -> Mem<(Jobs<R>, LoopCalls<R>)> {
         let (sender, calls) = unbounded_channel(alloc)?;
-        let inline = LoopEntrance {
-            calls: sender,
-            shard: number,
-        };
-        let jobs = Jobs {
-            entrances: Arc::try_clone(&self.entrances)?,
-            inline: Some(Arc::new(alloc, inline)?),
-        };
+        let entrances = Arc::try_clone(&self.own.entrances)?;
+        let jobs = Jobs::of(alloc, entrances, Some(sender), number)?;
         let calls = LoopCalls {
             calls,
             shard: number,
@@ -169,19 +156,19 @@ impl<R: Wait + Clock + Drop> Jobs<R> {
             step,
             waiting: Stopwatch::start(rt),
         };
-        self.entrances.queue(rt, alloc, self.shard(), job);
+        self.own.entrances.queue(rt, alloc, self.own.shard, job);
     }
 
     /// Hands a brief request to the event loop of its connection, or leaves it in its tenant's queue where there is no loop.
     pub(crate) fn hand(&self, rt: &R, alloc: Global, brief: BriefRequest<R>) {
-        let left = match &self.inline {
-            Some(inline) => match inline.calls.send(brief) {
+        let own = &*self.own;
+        let left = match &own.inline {
+            Some(calls) => match calls.send(brief) {
                 Ok(()) => return,
                 Err(error) => error.into_inner(),
             },
             None => brief,
         };
-        let job = left.into_job(rt);
-        self.entrances.queue(rt, alloc, self.shard(), job);
+        own.entrances.queue(rt, alloc, own.shard, left.into_job(rt));
     }
 }

@@ -11,7 +11,7 @@ use crate::entrances::{Entrance, Entrances};
 use crate::job_queue::Job;
 use crate::request::NamedTenant;
 use auto_compaction::{Retention, StandingOrder};
-use crossbeam_utils::sync::ShardedLock;
+use crossbeam_utils::sync::{ShardedLock, ShardedLockReadGuard};
 use etcd_types::Mem;
 use etcd_types::limits::MAX_TENANTS;
 use fair_turns::{DEFAULT_BUDGET, Scheduler, TenantCounts, TenantTurns, Work};
@@ -111,7 +111,7 @@ impl<R: Wait + Drop, K: TenantKey> ServedTenant<R, K> {
 }
 
 /// The tenants by their numbers.
-type Served<R, K> = IndexMap<u64, Arc<ServedTenant<R, K>>>;
+pub(crate) type Served<R, K> = IndexMap<u64, Arc<ServedTenant<R, K>>>;
 
 /// All tenants that are served. They are read by every turn, and written where a tenant comes or goes.
 pub struct Tenants<R: Wait + Drop, K: TenantKey> {
@@ -192,6 +192,11 @@ impl<R: Wait + Drop, K: TenantKey> Tenants<R, K> {
     ) -> Option<Arc<ServedTenant<R, K>>> {
         let served = self.served.read(rt, shard);
         Arc::try_clone(served.get(&number)?).ok()
+    }
+
+    /// The tenants by their numbers. None comes or goes as long as they are looked at.
+    pub(crate) fn by_number(&self, rt: &R, shard: usize) -> ShardedLockReadGuard<'_, Served<R, K>> {
+        self.served.read(rt, shard)
     }
 
     /// Leaves a job in its tenant's queue.
