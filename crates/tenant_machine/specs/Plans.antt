@@ -28,6 +28,7 @@ use Rattle.tenant_machine.specs.declared.planned.Effect.{Effect}
 use Rattle.tenant_machine.specs.declared.planned.Effect.TheVariants as effect
 use Rattle.tenant_machine.specs.Tenants.{MachineState, cells_used, tenant}
 use Rattle.watch_sync.specs.Agreeing.{Agrees}
+use Rattle.watch_sync.specs.Catching.{passed_all}
 use Rattle.watch_sync.specs.Slots.{FitsTake, Opening, slots_after, watches}
 
 -- what a commit does, and what it answers
@@ -127,6 +128,11 @@ Fits m p = FitsEffect m p.effect
 -- records have, is left open.
 abbrev pub IsAfter : MachineState → Plan → MachineState → Type 0
 IsAfter m p n = tenant n ≡ after_effect m p.effect
+
+-- a commit of a catch-up moves rings over so many changes at most
+abbrev pub KeepsBudget : MachineState → Effect → MachineState → Type 0
+KeepsBudget m (effect.CatchUp budget) n = passed_all m.store.kept m.watchers n.watchers ≤ budget
+KeepsBudget m e n = Unit {0}
 
 -- ---- what is promised of a plan and of a step
 

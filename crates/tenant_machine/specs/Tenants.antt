@@ -13,7 +13,9 @@ use Rattle.revision_store.specs.Stored.{StoreState, store_code}
 use Rattle.tenant_machine.specs.Keyed.{KeepsLeases}
 use Rattle.watch_sync.specs.Agreeing.{WatchState}
 use Rattle.watch_sync.specs.Codes.{watchers_code}
-use Rattle.watch_sync.specs.Slots.{watches}
+use Rattle.watch_sync.specs.Hints.{is_hinted}
+use Rattle.watch_sync.specs.Slots.{hinted, watch_in, watches}
+use Rattle.watch_sync.specs.declared.hint.Hint.{Hint}
 
 -- the cluster, the cells that it may use, its store, its leases, its watches with their rings, the moment of
 -- its clock, and whether the alarm is on
@@ -50,6 +52,10 @@ IsLentTo m loan = IsLent m.store.share loan
 -- what it leaves of them
 abbrev pub SettlesWith : MachineState → Loan → MachineState → Loan → Type 0
 SettlesWith old from new to = Settles old.store.share from new.store.share to
+
+-- a hint is that of the machine: the bit of each slot tells whether its take may not be quiet
+abbrev pub IsHintOf : MachineState → Hint → Type 0
+IsHintOf m hint = (slot : ℕ) → is_hinted hint slot ≡ hinted m.store m.moment (watch_in m.watchers slot)
 
 -- a book as it is told: for how many leases it has room and memory is left out
 abbrev pub told_book : Book → Book

@@ -10,7 +10,7 @@ ghost use Rattle.etcd_model.specs.Store.{kept_store, reserved_cells};
 ghost use Rattle.etcd_model.specs.Tenant.{used};
 ghost use Rattle.tenant_machine.specs.Deciding.{is_sure};
 ghost use Rattle.tenant_machine.specs.Tenants.{IsLentTo, SettlesWith, tenant};
-ghost use Rattle.tenant_machine.specs.Plans.{Fits, FitsCompaction, FitsGrant, FitsWrite, IsAfter, Steps};
+ghost use Rattle.tenant_machine.specs.Plans.{Fits, FitsCompaction, FitsGrant, FitsWrite, IsAfter, KeepsBudget, Steps};
 ghost use Rattle.tenant_machine.specs.Plans.{with_lease, with_new_end, written};
 ghost use Rattle.etcd_model.specs.Operations.{has_lease};
 
@@ -117,6 +117,7 @@ impl Machine {
         requires lent { IsLentTo self.old (S.loan segments.old) }
         ensures reply { result ≡ planned.reply }
         ensures after { IsAfter self.old planned self.new }
+        ensures budget { KeepsBudget self.old planned.effect self.new }
         ensures settles { SettlesWith self.old (S.loan segments.old) self.new (S.loan segments.new) }
     {
         let Planned { effect, reply } = planned;

@@ -1,14 +1,13 @@
 //! Plans of watches, and what their commits do.
-ghost use Rattle.std.specs.Prelude.{◌≡◌, ◌≤◌, ℕ, None, true, is_some, slice_set, IfOk, IsOk};
+ghost use Rattle.std.specs.Prelude.{◌≡◌, ◌≤◌, None, true, is_some, slice_set, IfOk, IsOk};
 ghost use Rattle.etcd_types.specs.declared.step.Step.TheVariants.{CatchUp, DropWatch, Take, Watch};
 ghost use Rattle.etcd_model.specs.Stepping.{look_up};
 ghost use Rattle.etcd_model.specs.Store.{kept_store};
 ghost use Rattle.tenant_machine.specs.Deciding.{Does, holds_nothing, opened, past_early};
-ghost use Rattle.tenant_machine.specs.Tenants.{tenant};
+ghost use Rattle.tenant_machine.specs.Tenants.{IsHintOf, tenant};
 ghost use Rattle.tenant_machine.specs.Plans.{Fits, FitsWatch, with_slots, with_watch};
 ghost use Rattle.watch_sync.specs.Catching.{passed_all};
-ghost use Rattle.watch_sync.specs.Hints.{is_hinted};
-ghost use Rattle.watch_sync.specs.Slots.{FitsTake, hinted, slots_after, watch_in, watches};
+ghost use Rattle.watch_sync.specs.Slots.{FitsTake, slots_after, watches};
 
 use crate::machine::Machine;
 use crate::planned::{Effect, Planned};
@@ -91,8 +90,7 @@ impl Machine {
 impl Machine {
     /// Which takes may not be quiet.
     pub fn hint(&self) -> Hint
-        ensures { (slot : ℕ) → is_hinted result slot
-            ≡ hinted self.now.store self.now.moment (watch_in self.now.watchers slot) }
+        ensures { IsHintOf self.now result }
     {
         self.watchers.hint(&self.store, self.moment)
     }

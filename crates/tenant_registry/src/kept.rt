@@ -10,7 +10,7 @@ ghost use Rattle.cell_arena.specs.Loan.{segments_for};
 ghost use Rattle.etcd_model.specs.Held.{Holds};
 ghost use Rattle.etcd_types.specs.Limits.{max_quota};
 ghost use Rattle.tenant_machine.specs.Reserving.{reservation};
-ghost use Rattle.tenant_machine.specs.Tenants.{tenant};
+ghost use Rattle.tenant_machine.specs.Tenants.{IsHintOf, tenant};
 ghost use Rattle.tenant_rules.specs.declared.fault.OperatorFault.TheVariants.{Short};
 ghost use Rattle.tenant_audit.specs.Audits.{IsAllowed, IsLawful, entry_at, opened_log, opening_of};
 ghost use Rattle.tenant_audit.specs.Receipts.{slip_of};
@@ -378,7 +378,9 @@ impl Kept {
     }
 
     /// Which takes of its watches may not be quiet.
-    pub(crate) fn hint(&self) -> Hint {
+    pub(crate) fn hint(&self) -> Hint
+        ensures { IsHintOf self.now.machine result }
+    {
         self.machine.hint()
     }
 
