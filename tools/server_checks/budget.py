@@ -242,7 +242,7 @@ def watches_that_nobody_reads_stop_at_the_budget(program):
 
 def a_text_is_made_where_the_budget_has_room_for_it(program):
     """A text of 16 values has half of the budget and weighs nearly all of it. As long as one is not read no other is made, also
-    where the other's client reads."""
+    where the other's client reads; the rest of the budget is for other calls."""
     create = f'{{{ALL},"start_revision":"2"}}'
     with budgeted(program, LEAST_BUDGET) as server, server.connect() as other:
         fill(other, "two", VALUES)
@@ -254,6 +254,8 @@ def a_text_is_made_where_the_budget_has_room_for_it(program):
                 reading.told()
                 want_quiet(reading, 2.5)
                 want(not reading.text, f"it is told {len(reading.text):,} bytes")
+                few = other.call("two", "kv/range", f'{{{ALL},"limit":"4"}}')
+                want(few.status == 200, f"a range of four values is answered {few.status}")
         with server.watch("two", create) as reading:
             reading.told()
             reading.events(VALUES)
