@@ -12,10 +12,15 @@ use indexmap::IndexMap;
 use std::alloc::Global;
 use std::sync::{Arc, Wait};
 
+/// How many parts a directory has. Each event loop reads one of its own, and all other threads the last.
+pub(crate) const PARTS: usize = 8;
+
 /// Where the calls of a tenant go in.
 #[derive(Drop)]
 pub(crate) struct Entrance<R: Wait + Drop> {
-    pub(crate) tenant: Arc<NamedTenant>,
+    pub(crate) tenant: NamedTenant,
+    /// The same for requests, one for each part of the directory: so event loops don't take turns on the count of its shares.
+    named: Vec<Arc<NamedTenant>>,
     pub(crate) turns: Arc<TenantTurns>,
     pub(crate) queue: JobQueue<R>,
     pub(crate) budget: Budget,
@@ -31,19 +36,41 @@ impl<R: Wait + Drop> Entrance<R> {
         budget: usize,
     ) -> Mem<Entrance<R>> {
         Ok(Entrance {
-            tenant: Arc::new(alloc, tenant)?,
+            named: named_in_parts(alloc, &tenant)?,
+            tenant,
             turns: Arc::new(alloc, turns)?,
             queue: JobQueue::new(alloc),
             budget: Budget::new(alloc, budget)?,
             counts: Arc::new(alloc, TenantCounts::new())?,
         })
     }
+
+    /// The tenant for a request that names it so, read in this part of the directory.
+    fn named(&self, part: usize, name: &[u8]) -> Mem<Option<Arc<NamedTenant>>>
+        ensures { IfOk result (λ found. IfSome found (λ tenant. tenant.value.name.items ≡ name.now)) }
+    {
+        // What lies under a lock is known by its type alone.
+        match self.named.get(part % PARTS) {
+            Some(tenant) if tenant.name.as_slice() == name => Ok(Some(Arc::try_clone(tenant)?)),
+            _ => Ok(None),
+        }
+    }
 }
 
-/// The tenants by their names, and their entrances by their numbers.
+/// A tenant for each part of a directory.
+fn named_in_parts(alloc: Global, tenant: &NamedTenant) -> Mem<Vec<Arc<NamedTenant>>> {
+    let mut named = Vec::new(alloc);
+    named.reserve_exact(PARTS)?;
+    for _ in 0..PARTS {
+        named.push(Arc::new(alloc, tenant.copy_of(alloc)?)?)?;
+    }
+    Ok(named)
+}
+
+/// The entrances of tenants by their names, and by their numbers.
 #[derive(Drop)]
 struct Directory<R: Wait + Drop> {
-    tenants: IndexMap<Vec<u8>, Arc<NamedTenant>>,
+    tenants: IndexMap<Vec<u8>, Arc<Entrance<R>>>,
     entrances: IndexMap<u64, Arc<Entrance<R>>>,
 }
 
@@ -80,10 +107,9 @@ impl<R: Wait + Drop> Entrances<R> {
         ensures { IfOk result (λ found. IfSome found (λ tenant. tenant.value.name.items ≡ name.now)) }
     {
         let directory = self.directory.read(rt, shard);
-        // What lies under a lock is known by its type alone.
         match directory.tenants.get(name) {
-            Some(tenant) if tenant.name.as_slice() == name => Ok(Some(Arc::try_clone(tenant)?)),
-            _ => Ok(None),
+            Some(entrance) => entrance.named(shard, name),
+            None => Ok(None),
         }
     }
 
@@ -94,7 +120,7 @@ impl<R: Wait + Drop> Entrances<R> {
         shard: usize,
         number: u64,
     ) -> Mem<Option<Arc<Entrance<R>>>>
-        ensures { IfOk result (λ found. IfSome found (λ entrance. entrance.value.tenant.value.number ≡ number)) }
+        ensures { IfOk result (λ found. IfSome found (λ entrance. entrance.value.tenant.number ≡ number)) }
     {
         let directory = self.directory.read(rt, shard);
         match directory.entrances.get(&number) {
@@ -143,18 +169,21 @@ impl<R: Wait + Drop> Entrances<R> {
 
     /// Takes a tenant in; where there is room for it, that takes no memory.
     pub(crate) fn insert(&self, rt: &R, name: Vec<u8>, entrance: Arc<Entrance<R>>) -> Mem<()> {
-        let tenant = Arc::try_clone(&entrance.tenant)?;
+        let named = Arc::try_clone(&entrance)?;
         let mut directory = self.directory.write(rt);
-        directory.entrances.insert(tenant.number, entrance)?;
-        directory.tenants.insert(name, tenant)?;
+        directory
+            .entrances
+            .insert(entrance.tenant.number, entrance)?;
+        directory.tenants.insert(name, named)?;
         Ok(())
     }
 
     /// Takes a tenant out, and tells its number.
     pub(crate) fn remove(&self, rt: &R, name: &[u8]) -> Option<u64> {
         let mut directory = self.directory.write(rt);
-        let tenant = directory.tenants.shift_remove(name)?;
-        let _ = directory.entrances.swap_remove(&tenant.number);
-        Some(tenant.number)
+        let entrance = directory.tenants.shift_remove(name)?;
+        let number = entrance.tenant.number;
+        let _ = directory.entrances.swap_remove(&number);
+        Some(number)
     }
 }

@@ -1,6 +1,6 @@
 //! What the threads that serve tenants share.
 use crate::caller::Caller;
-use crate::entrances::Entrances;
+use crate::entrances::{Entrances, PARTS};
 use crate::jobs::Jobs;
 use crate::pump::drop_closed;
 use crate::tenants::{ServedTenant, TenantTerms, Tenants};
@@ -15,7 +15,7 @@ use std::time::Duration;
 use tenant_calls::{TenantCalls, TenantKey};
 
 /// The part of the directory that the threads read which have no event loop; those of the loops come before it.
-const SHARD: usize = 7;
+const SHARD: usize = PARTS - 1;
 
 /// How many seconds a thread waits for a turn before it shows that it moves.
 const SECONDS_A_BEAT: u64 = 1;
