@@ -38,7 +38,7 @@ impl<K: TenantKey> Clients<K> {
         entrance: &Entrance<R>,
         retention: Retention,
     ) -> Mem<Clients<K>> {
-        let number = entrance.tenant.number();
+        let number = entrance.number;
         Ok(Clients {
             key: None,
             budget: entrance.budget.share()?,

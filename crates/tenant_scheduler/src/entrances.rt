@@ -18,9 +18,7 @@ pub(crate) const PARTS: usize = 8;
 /// Where the calls of a tenant go in.
 #[derive(Drop)]
 pub(crate) struct Entrance<R: Wait + Drop> {
-    pub(crate) tenant: NamedTenant,
-    /// The same for requests, one for each part of the directory: so event loops don't take turns on the count of its shares.
-    named: Vec<Arc<NamedTenant>>,
+    pub(crate) number: u64,
     pub(crate) turns: Arc<TenantTurns>,
     pub(crate) queue: JobQueue<R>,
     pub(crate) budget: Budget,
@@ -28,21 +26,39 @@ pub(crate) struct Entrance<R: Wait + Drop> {
 }
 
 impl<R: Wait + Drop> Entrance<R> {
-    /// That of a tenant with these turns and so large a budget, of which nothing waits.
+    /// That of the tenant of this number with these turns and so large a budget, of which nothing waits.
     pub(crate) fn new(
         alloc: Global,
-        tenant: NamedTenant,
+        number: u64,
         turns: TenantTurns,
         budget: usize,
     ) -> Mem<Entrance<R>> {
         Ok(Entrance {
-            named: named_in_parts(alloc, &tenant)?,
-            tenant,
+            number,
             turns: Arc::new(alloc, turns)?,
             queue: JobQueue::new(alloc),
             budget: Budget::new(alloc, budget)?,
             counts: Arc::new(alloc, TenantCounts::new())?,
         })
+    }
+}
+
+/// A tenant as requests name it, for each part of a directory: so event loops don't take turns on the count of its shares.
+#[derive(Drop)]
+pub(crate) struct NamedInParts {
+    parts: Vec<Arc<NamedTenant>>,
+}
+
+impl NamedInParts {
+    /// The tenant of that name and number.
+    pub(crate) fn new(alloc: Global, name: &[u8], number: u64) -> Mem<NamedInParts> {
+        let mut parts = Vec::new(alloc);
+        parts.reserve_exact(PARTS)?;
+        for _ in 0..PARTS {
+            let name = Vec::from_slice(alloc, name)?;
+            parts.push(Arc::new(alloc, NamedTenant { name, number })?)?;
+        }
+        Ok(NamedInParts { parts })
     }
 
     /// The tenant for a request that names it so, read in this part of the directory.
@@ -50,27 +66,22 @@ impl<R: Wait + Drop> Entrance<R> {
         ensures { IfOk result (λ found. IfSome found (λ tenant. tenant.value.name.items ≡ name.now)) }
     {
         // What lies under a lock is known by its type alone.
-        match self.named.get(part % PARTS) {
+        match self.parts.get(part % PARTS) {
             Some(tenant) if tenant.name.as_slice() == name => Ok(Some(Arc::try_clone(tenant)?)),
             _ => Ok(None),
         }
     }
-}
 
-/// A tenant for each part of a directory.
-fn named_in_parts(alloc: Global, tenant: &NamedTenant) -> Mem<Vec<Arc<NamedTenant>>> {
-    let mut named = Vec::new(alloc);
-    named.reserve_exact(PARTS)?;
-    for _ in 0..PARTS {
-        named.push(Arc::new(alloc, tenant.copy_of(alloc)?)?)?;
+    fn number(&self) -> Option<u64> {
+        let tenant = self.parts.first()?;
+        Some(tenant.number)
     }
-    Ok(named)
 }
 
-/// The entrances of tenants by their names, and by their numbers.
+/// The tenants by their names, and their entrances by their numbers.
 #[derive(Drop)]
 struct Directory<R: Wait + Drop> {
-    tenants: IndexMap<Vec<u8>, Arc<Entrance<R>>>,
+    tenants: IndexMap<Vec<u8>, NamedInParts>,
     entrances: IndexMap<u64, Arc<Entrance<R>>>,
 }
 
@@ -108,7 +119,7 @@ impl<R: Wait + Drop> Entrances<R> {
     {
         let directory = self.directory.read(rt, shard);
         match directory.tenants.get(name) {
-            Some(entrance) => entrance.named(shard, name),
+            Some(tenant) => tenant.named(shard, name),
             None => Ok(None),
         }
     }
@@ -120,13 +131,11 @@ impl<R: Wait + Drop> Entrances<R> {
         shard: usize,
         number: u64,
     ) -> Mem<Option<Arc<Entrance<R>>>>
-        ensures { IfOk result (λ found. IfSome found (λ entrance. entrance.value.tenant.number ≡ number)) }
+        ensures { IfOk result (λ found. IfSome found (λ entrance. entrance.value.number ≡ number)) }
     {
         let directory = self.directory.read(rt, shard);
         match directory.entrances.get(&number) {
-            Some(entrance) if entrance.tenant.number == number => {
-                Ok(Some(Arc::try_clone(entrance)?))
-            }
+            Some(entrance) if entrance.number == number => { Ok(Some(Arc::try_clone(entrance)?)) }
             _ => Ok(None),
         }
     }
@@ -168,12 +177,15 @@ impl<R: Wait + Drop> Entrances<R> {
     }
 
     /// Takes a tenant in; where there is room for it, that takes no memory.
-    pub(crate) fn insert(&self, rt: &R, name: Vec<u8>, entrance: Arc<Entrance<R>>) -> Mem<()> {
-        let named = Arc::try_clone(&entrance)?;
+    pub(crate) fn insert(
+        &self,
+        rt: &R,
+        name: Vec<u8>,
+        named: NamedInParts,
+        entrance: Arc<Entrance<R>>,
+    ) -> Mem<()> {
         let mut directory = self.directory.write(rt);
-        directory
-            .entrances
-            .insert(entrance.tenant.number, entrance)?;
+        directory.entrances.insert(entrance.number, entrance)?;
         directory.tenants.insert(name, named)?;
         Ok(())
     }
@@ -181,8 +193,7 @@ impl<R: Wait + Drop> Entrances<R> {
     /// Takes a tenant out, and tells its number.
     pub(crate) fn remove(&self, rt: &R, name: &[u8]) -> Option<u64> {
         let mut directory = self.directory.write(rt);
-        let entrance = directory.tenants.shift_remove(name)?;
-        let number = entrance.tenant.number;
+        let number = directory.tenants.shift_remove(name)?.number()?;
         let _ = directory.entrances.swap_remove(&number);
         Some(number)
     }

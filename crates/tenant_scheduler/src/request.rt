@@ -2,7 +2,7 @@
 ghost use Rattle.std.specs.Prelude.{◌≡◌, true, IfErr, IfOk};
 ghost use Rattle.tenant_scheduler.specs.Requests.{AsksTheSame, IsStepOf, IsUnread};
 
-use etcd_types::{Call, Mem, Refusal, Step};
+use etcd_types::{Call, Refusal, Step};
 use fair_turns::{Share, TreeWeight};
 use gateway_json::read_step;
 use std::alloc::Global;
@@ -21,13 +21,6 @@ impl NamedTenant {
         ensures { result ≡ self.now.number }
     {
         self.number
-    }
-
-    pub(crate) fn copy_of(&self, alloc: Global) -> Mem<NamedTenant> {
-        Ok(NamedTenant {
-            name: Vec::from_slice(alloc, self.name.as_slice())?,
-            number: self.number,
-        })
     }
 }
 

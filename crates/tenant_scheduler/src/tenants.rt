@@ -7,9 +7,8 @@
 //! A removal ends the tenant in this order: no request finds it by its name; no turn begins, and the last one has ended;
 //! its key is gone, the jobs that wait are answered that it is not there, and its watches end; its number finds nothing.
 use crate::clients::Clients;
-use crate::entrances::{Entrance, Entrances};
+use crate::entrances::{Entrance, Entrances, NamedInParts};
 use crate::job_queue::Job;
-use crate::request::NamedTenant;
 use auto_compaction::{Retention, StandingOrder};
 use crossbeam_utils::sync::{ShardedLock, ShardedLockReadGuard};
 use etcd_types::Mem;
@@ -57,11 +56,11 @@ impl<R: Wait + Drop, K: TenantKey> ServedTenant<R, K> {
     /// The tenant with these turns, on these terms. It has no key: it is not there yet.
     fn new(
         alloc: Global,
-        tenant: NamedTenant,
+        number: u64,
         turns: TenantTurns,
         terms: TenantTerms,
     ) -> Mem<ServedTenant<R, K>> {
-        let entrance = Entrance::new(alloc, tenant, turns, terms.budget)?;
+        let entrance = Entrance::new(alloc, number, turns, terms.budget)?;
         let clients = Clients::new(alloc, &entrance, terms.retention)?;
         Ok(ServedTenant {
             entrance: Arc::new(alloc, entrance)?,
@@ -131,12 +130,17 @@ impl<R: Wait + Drop, K: TenantKey> Drop for Tenants<R, K> {
 /// A tenant for which all memory is taken, and which only needs its key.
 pub struct NewTenant<R: Wait + Drop, K: TenantKey> {
     name: Vec<u8>,
+    named: NamedInParts,
     tenant: Arc<ServedTenant<R, K>>,
 }
 
 impl<R: Wait + Drop, K: TenantKey> Drop for NewTenant<R, K> {
     fn drop(self) {
-        let NewTenant { name: _, tenant: _ } = self;
+        let NewTenant {
+            name: _,
+            named: _,
+            tenant: _,
+        } = self;
     }
 }
 
@@ -146,9 +150,13 @@ impl<R: Wait + Drop, K: TenantKey> NewTenant<R, K> {
         self.tenant.number()
     }
 
-    fn into_parts(self) -> (Vec<u8>, Arc<ServedTenant<R, K>>) {
-        let NewTenant { name, tenant } = self;
-        (name, tenant)
+    fn into_parts(self) -> (Vec<u8>, NamedInParts, Arc<ServedTenant<R, K>>) {
+        let NewTenant {
+            name,
+            named,
+            tenant,
+        } = self;
+        (name, named, tenant)
     }
 }
 
@@ -240,21 +248,18 @@ impl<R: Wait + Drop, K: TenantKey> Tenants<R, K> {
     ) -> Mem<NewTenant<R, K>> {
         self.entrances.make_room(rt)?;
         self.served.write(rt).reserve(1)?;
-        let named = NamedTenant {
-            name: Vec::from_slice(alloc, name)?,
-            number,
-        };
         let turns = self.entrances.turns_of(number)?;
-        let tenant = ServedTenant::new(alloc, named, turns, terms)?;
+        let tenant = ServedTenant::new(alloc, number, turns, terms)?;
         Ok(NewTenant {
             tenant: Arc::new(alloc, tenant)?,
+            named: NamedInParts::new(alloc, name, number)?,
             name: Vec::from_slice(alloc, name)?,
         })
     }
 
     /// Serves a new tenant, which has this key; a key of another number opens nothing.
     pub fn admit(&self, rt: &R, new: NewTenant<R, K>, key: K) {
-        let (name, tenant) = new.into_parts();
+        let (name, named, tenant) = new.into_parts();
         let number = tenant.number();
         if key.number() != number {
             return;
@@ -263,7 +268,7 @@ impl<R: Wait + Drop, K: TenantKey> Tenants<R, K> {
         // There is room for both.
         if let Ok(entrance) = Arc::try_clone(&tenant.entrance) {
             let _ = self.served.write(rt).insert(number, tenant);
-            let _ = self.entrances.insert(rt, name, entrance);
+            let _ = self.entrances.insert(rt, name, named, entrance);
         }
     }
 }
