@@ -27,3 +27,4 @@ pub mod EndsLaws
 pub mod AttachedLaws
 pub mod BoundLaws
 pub mod RefusedLaws
+pub mod Spoken

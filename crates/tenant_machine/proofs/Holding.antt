@@ -16,7 +16,7 @@ use Rattle.tenant_machine.specs.Tenants.{MachineState, tenant}
 use Rattle.tenant_machine.specs.Plans.{IsAfter, Plan, Plans, Steps}
 use Rattle.tenant_machine.specs.Deciding.{Does}
 use Rattle.watch_sync.specs.Slots.{watches}
-use Rattle.tenant_machine.proofs.Spoken.{machine_speaks}
+use Rattle.model_laws.proofs.Spoken.{machine_speaks}
 
 -- a plan that does what is to come of a step is one of the step
 pub plans : (m : MachineState) (step : Step) (p : Plan) → Does m p (machine kept_store (tenant m) step) → Plans m step p

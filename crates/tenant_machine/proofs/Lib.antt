@@ -5,7 +5,6 @@ pub mod DecidingSpace
 pub mod DecidingTxns
 pub mod EarlyRefusals
 pub mod Holding
-pub mod Spoken
 mod KeysFew
 mod KeysFollow
 mod KeepingLeases
