@@ -21,7 +21,7 @@ pub struct Fields {
     pub revision: u64,
     /// The revision that made its key, when it was last made.
     pub create_revision: u64,
-    /// How many puts its key has had since then.
+    /// How many puts its key has had since then; of a lease the time to live that was granted.
     pub version: u64,
     /// The lease that it is attached to, or 0; of a lease its ID.
     pub lease: i64,

@@ -10,7 +10,7 @@ pub enum ReplayFault {
     /// The line of this number, counted from 1, can't be read. The lines before it are answered.
     #[error("line {0} can't be read")]
     Line(u32),
-    /// The reader or the writer failed, or the script goes on after 4,294,967,295 lines.
+    /// The reader or the writer failed, or 4,294,967,295 lines were answered.
     #[error("input or output failed")]
     Io,
     /// A line or the pool can't be held.

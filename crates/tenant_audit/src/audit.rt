@@ -1,5 +1,5 @@
 //! What was served on a tenant, in order, from its opening on, with the quotas that it was given.
-ghost use Rattle.std.specs.Prelude.{◌≡◌, length, IfOk, OnErr, OnOk};
+ghost use Rattle.std.specs.Prelude.{◌≡◌, ◌≤◌, length, IfOk, OnErr, OnOk};
 ghost use Rattle.tenant_audit.specs.Audits.{KeepsStep, entry, entry_at, opened_log, step_at, turn_of};
 ghost use Rattle.tenant_audit.specs.Audits.{with_change_at};
 ghost use Rattle.tenant_audit.specs.Seats.{call};
@@ -167,9 +167,10 @@ impl Audit {
         self.opening.cap
     }
 
-    /// What was served, in order.
+    /// What was served, in order: no more than it takes.
     pub fn entries(&self) -> &[Entry]
-        ensures { result.now ≡ self.now.entries }
+        ensures entries { result.now ≡ self.now.entries }
+        ensures within { length result.now ≤ self.now.opening.cap }
     {
         self.entries.as_slice()
     }

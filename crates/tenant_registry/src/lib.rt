@@ -25,4 +25,5 @@ pub use registry::{Registry, SeatFault};
 pub use seated::{SeatedCalls, WatchHint};
 pub use tenant_audit::{Audit, CloseFault, Closed, Entry, Opening, Seat};
 pub use tenant_machine::Hint;
+pub use tenant_rules::OperatorFault;
 pub use usage::Usage;

@@ -1,14 +1,16 @@
-//! What of a tenant's machine no script can ask: the hints at its watches, a first put's whole reply, a step's copy.
+//! What of a tenant's machine no script can ask: the hints at its watches, a first put's whole reply, copies of steps and of
+//! replies.
 ghost use Rattle.std.specs.Prelude.{◌≡◌, ◌+◌, ◌≤◌};
 ghost use Rattle.etcd_types.specs.Limits.{max_quota, min_quota};
 ghost use Rattle.cell_arena.specs.Loan.{IsLent};
 ghost use Rattle.test_segments.specs.Shelf.{loan_of};
 
+mod copies;
 mod quota;
 mod scripts;
 mod steps;
 
-use etcd_types::{CopyOf, Header, Mem, Reply, Step};
+use etcd_types::{Header, Mem, Reply, Step};
 use scripts::{Ask, DUE, HINTED, Line, PUT};
 use std::alloc::Global;
 use std::process::Abort;
@@ -36,8 +38,11 @@ impl Tenant {
     }
 
     fn answer(&mut self, alloc: Global, ask: Ask) -> Mem<Reply> {
-        let step = step_of(alloc, ask)?;
-        Ok(self.machine.step(alloc, &mut self.segments, &step))
+        Ok(self.step(alloc, &step_of(alloc, ask)?))
+    }
+
+    fn step(&mut self, alloc: Global, step: &Step) -> Reply {
+        self.machine.step(alloc, &mut self.segments, step)
     }
 
     /// Takes a step; what it is answered is not looked at.
@@ -118,28 +123,12 @@ fn first_put(alloc: Global) -> Mem<(bool, u32)> {
     told
 }
 
-/// Whether a copy of a put is the same.
-fn is_copied(alloc: Global) -> Mem<bool> {
-    is_same_copied(alloc, &step_of(alloc, PUT)?)
-}
-
-fn is_same_copied(alloc: Global, step: &Step) -> Mem<bool> {
-    Ok(step.copy_of(alloc)?.same_as(step))
-}
-
 // With ample memory a step is made: no clause says so.
 #[test]
 fn puts(rt: HostRuntime) -> Mem<()> {
     let (is_put, used) = first_put(rt.alloc())?;
     assert!(rt; is_put);
     assert_eq!(rt; used, 2);
-    Ok(())
-}
-
-#[test]
-fn copies(rt: HostRuntime) -> Mem<()> {
-    let is_copied = is_copied(rt.alloc())?;
-    assert!(rt; is_copied);
     Ok(())
 }
 

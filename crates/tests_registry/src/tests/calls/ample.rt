@@ -1,5 +1,5 @@
 //! What may lack memory, with enough of it.
-use super::{alone, config, put, seat_of, two_tenants};
+use super::{alone, config, put, put_request, seat_of, two_tenants};
 use etcd_types::Step;
 use std::alloc::Global;
 use std::process::Abort;
@@ -10,9 +10,18 @@ use tenant_registry::{Key, OpenGate, Registry, Seat, SeatedCalls};
 /// What a key tells of a tenant at its opening.
 fn assert_key<R: Wait + Clock + Abort>(rt: &R, alloc: Global, key: &Key, seat: &mut Seat) {
     assert_eq!(rt; key.revision(rt).ok(), Some(1));
+    assert_weighs(rt, alloc, key);
+    assert_told(rt, key, seat);
+}
+
+/// What a put, one that asks for the row before it, and a take may take until they are answered.
+fn assert_weighs<R: Wait + Abort>(rt: &R, alloc: Global, key: &Key) {
     let step = put(alloc).expect(rt, "memory");
     assert!(rt; key.weight(rt, &step, 1).is_ok());
-    assert_told(rt, key, seat);
+    let mut request = put_request(alloc).expect(rt, "memory");
+    request.prev_kv = true;
+    assert!(rt; key.weight(rt, &Step::Put(request), 1).is_ok());
+    assert!(rt; key.weight(rt, &Step::Take(0), 1).is_ok());
 }
 
 /// A call by a key, and what its tenant uses then.
@@ -21,6 +30,7 @@ fn assert_told<R: Wait + Clock + Abort>(rt: &R, key: &Key, seat: &mut Seat) {
     assert_eq!(rt; told.expect(rt, "memory").status(), 200);
     let usage = key.usage(rt).expect(rt, "memory");
     assert_eq!(rt; (usage.keys, usage.revision), (0, 1));
+    assert!(rt; matches!(key.usage_if_idle(), Some(Ok(_))));
 }
 
 /// The keys of all tenants, in their order.
