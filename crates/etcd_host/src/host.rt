@@ -5,7 +5,7 @@ ghost use Rattle.etcd_host.specs.Closing.{HaveClosed, HaveDiffered};
 use crate::fault::HostFault;
 use etcd_types::limits::MAX_CONFIG;
 use host_operator::{Operator, OperatorSocket, serve_operator};
-use host_sessions::{Config, Ended, Listening, Sessions, read_config};
+use host_sessions::{Config, Ended, Listening, ServedTenants, Sessions, read_config};
 use std::alloc::{AllocGlobal, Global};
 use std::io::{Input, Read};
 use std::mem;
@@ -127,11 +127,12 @@ where
 {
     let alloc = rt.alloc();
     let opened = Sessions::open(rt, listening, &*registry, seats.len())?;
+    let served = ServedTenants::of(rt, alloc, &opened)?;
     let mut operator = Operator::new(
         rt,
         alloc,
         registry,
-        Arc::try_clone(opened.shared())?,
+        served,
         opened.bounds()?,
         opened.connections_of_tenant(),
         Arc::try_clone(opened.stopping())?,

@@ -4,14 +4,16 @@
 //!    has the registry to itself (`serving`).
 //! 2. On a connection (`connection`) a request is read, its token is compared, and it is handed in (`requests`). Its method and its path say which call
 //!    it is, and each refusal has a status and a text (`calls`).
-//! 3. The `Operator` does the call (`operator`). What it tells is JSON (`answer`, `values`), a tenant as in `shown`. What a
-//!    dashboard is told is in `metrics`, and what memory the process has in `memory`.
+//! 3. The `Operator` does the call (`operator`), on the registry and on the tenants as they are served (`directory`). What it
+//!    tells is JSON (`answer`, `values`), a tenant as in `shown`. What a dashboard is told is in `metrics`, and what memory the
+//!    process has in `memory`.
 //! 4. `Stopping` of `connection_table` says whether connections of clients are accepted, and tells the server to end.
 #![tactic(auto)]
 
 mod answer;
 mod calls;
 mod connection;
+mod directory;
 mod memory;
 mod metrics;
 mod operator;
@@ -20,5 +22,6 @@ mod serving;
 mod shown;
 mod values;
 
+pub use directory::TenantDirectory;
 pub use operator::Operator;
 pub use serving::{OperatorSocket, serve_operator};

@@ -1,8 +1,9 @@
 //! Tenants come, change and go while the server runs.
 //!
 //! The registry is the operator's alone. The threads that serve tenants have their keys, so nobody waits for a change
-//! but the tenant that changes. How a tenant is added is in `adding`, what is told of tenants in `showing`, and what a
-//! dashboard is told of them in `sampling`.
+//! but the tenant that changes. How they serve them is not known here: a `TenantDirectory` does what is asked of it, so that the
+//! threads' types stay out of these proofs. How a tenant is added is in `adding`, what is told of tenants in `showing`, and
+//! what a dashboard is told of them in `sampling`.
 ghost use Rattle.std.specs.Prelude.{◌≡◌, ◌⊎◌, IfOk, OnErr, OnOk};
 ghost use Rattle.tenant_registry.specs.Removing.{without};
 ghost use Rattle.host_operator.specs.Asking.{IsDone};
@@ -13,6 +14,7 @@ mod showing;
 
 use crate::answer::OperatorAnswer;
 use crate::calls::{OperatorCall, OperatorRefusal};
+use crate::directory::TenantDirectory;
 use auto_compaction::{Retention, StandingOrder};
 use connection_table::{Allowance, Stopping, TenantBounds};
 use etcd_types::Mem;
@@ -22,12 +24,8 @@ use serde_json::Value;
 use std::alloc::{AllocGlobal, Global};
 use std::rt::{Clock, Files};
 use std::sync::{Arc, Wait};
-use tenant_registry::{Key, Registry, Usage};
+use tenant_registry::{Registry, Usage};
 use tenant_rules::OperatorFault;
-use tenant_scheduler::{ServedTenant, Shared, Tenants};
-
-/// The part of the directory of tenants that the operator reads, which no event loop does.
-const SHARD: usize = 6;
 
 /// Within how many seconds each thread has to have moved, for a server that is ready.
 const LATELY: u64 = 5;
@@ -86,37 +84,6 @@ fn retention_in(object: &Value) -> Result<Option<Retention>, OperatorRefusal> {
     }
 }
 
-/// A tenant that is served, lent to whoever asks it or tells it something.
-struct LentTenant<R: Wait + Drop> {
-    tenant: Arc<ServedTenant<R, Key>>,
-}
-
-impl<R: Wait + Drop> Drop for LentTenant<R> {
-    fn drop(self) {
-        let LentTenant { tenant: _ } = self;
-    }
-}
-
-/// The tenant of that name, if it is served.
-fn tenant_named<R: Wait + Drop>(
-    rt: &R,
-    tenants: &Tenants<R, Key>,
-    name: &[u8],
-) -> Option<LentTenant<R>> {
-    match tenants.named(rt, SHARD, name) {
-        Some(tenant) => Some(LentTenant { tenant }),
-        None => None,
-    }
-}
-
-/// The number of the tenant of that name, if it is served.
-fn number_of<R: Wait + Drop>(rt: &R, tenants: &Tenants<R, Key>, name: &[u8]) -> Option<u64> {
-    match tenant_named(rt, tenants, name) {
-        Some(lent) => Some(lent.tenant.number()),
-        None => None,
-    }
-}
-
 /// How many segments a body asks for.
 fn segments_in(alloc: Global, body: &[u8]) -> Result<u32, OperatorRefusal> {
     let object = object_of(alloc, body)?;
@@ -127,11 +94,11 @@ fn segments_in(alloc: Global, body: &[u8]) -> Result<u32, OperatorRefusal> {
 }
 
 /// What serves the operator.
-pub struct Operator<'x, R: Wait + Drop> {
+pub struct Operator<'x, R: Wait + Drop, D: TenantDirectory> {
     rt: R,
     alloc: Global,
     registry: &'x mut Registry,
-    shared: Arc<Shared<R, Key>>,
+    directory: D,
     bounds: TenantBounds,
     told: IndexMap<Vec<u8>, Told>,
     /// How many connections a tenant may have where nothing is told.
@@ -139,13 +106,13 @@ pub struct Operator<'x, R: Wait + Drop> {
     stopping: Arc<Stopping>,
 }
 
-impl<'x, R: Wait + Drop> Drop for Operator<'x, R> {
+impl<'x, R: Wait + Drop, D: TenantDirectory> Drop for Operator<'x, R, D> {
     fn drop(self) {
         let Operator {
             rt: _,
             alloc: _,
             registry: _,
-            shared: _,
+            directory: _,
             bounds: _,
             told: _,
             part: _,
@@ -154,22 +121,26 @@ impl<'x, R: Wait + Drop> Drop for Operator<'x, R> {
     }
 }
 
-impl<'x, R: Wait + Clock + Files + AllocGlobal + Copy + Drop> Operator<'x, R> {
+impl<'x, R, D> Operator<'x, R, D>
+where
+    R: Wait + Clock + Files + AllocGlobal + Copy + Drop,
+    D: TenantDirectory,
+{
     /// The operator of a registry whose tenants are served, by what was told of these at the start.
     pub fn new(
         rt: R,
         alloc: Global,
         registry: &'x mut Registry,
-        shared: Arc<Shared<R, Key>>,
+        directory: D,
         bounds: TenantBounds,
         part: usize,
         stopping: Arc<Stopping>,
-    ) -> Operator<'x, R> {
+    ) -> Operator<'x, R, D> {
         Operator {
             rt,
             alloc,
             registry,
-            shared,
+            directory,
             bounds,
             told: IndexMap::new(alloc),
             part,
@@ -183,7 +154,7 @@ impl<'x, R: Wait + Clock + Files + AllocGlobal + Copy + Drop> Operator<'x, R> {
             let Some(name) = self.registry.name_at(place) else {
                 break;
             };
-            let Some(number) = number_of(&self.rt, self.shared.tenants(), name) else {
+            let Some(number) = self.directory.number(name) else {
                 break;
             };
             let told = Told::new(number, *allowance);
@@ -227,7 +198,7 @@ impl<'x, R: Wait + Clock + Files + AllocGlobal + Copy + Drop> Operator<'x, R> {
         if !self.stopping.has_begun() {
             return Err(OperatorRefusal::Starting);
         }
-        if !self.shared.have_moved(&self.rt, LATELY) {
+        if !self.directory.have_moved(LATELY) {
             return Err(OperatorRefusal::Stuck);
         }
         Ok(OperatorAnswer::empty(200))
@@ -249,11 +220,6 @@ impl<'x, R: Wait + Clock + Files + AllocGlobal + Copy + Drop> Operator<'x, R> {
     fn bound(&self, number: u64, allowance: Allowance) {
         let most = allowance.open_connections.unwrap_or(self.part);
         self.bounds.set(number, most);
-    }
-
-    /// The tenant of that name as it is served.
-    fn served(&self, name: &[u8]) -> Option<LentTenant<R>> {
-        tenant_named(&self.rt, self.shared.tenants(), name)
     }
 
     /// Gives a tenant another quota, and then other bounds. After a fault nothing changed.
@@ -301,14 +267,11 @@ impl<'x, R: Wait + Clock + Files + AllocGlobal + Copy + Drop> Operator<'x, R> {
 
     /// Serves a tenant by another budget and another standing order from now on.
     fn tell_terms(&self, name: &[u8], budget: Option<usize>, order: Option<StandingOrder>) {
-        let Some(lent) = self.served(name) else {
-            return;
-        };
-        if let Some(bytes) = budget {
-            lent.tenant.change_budget(bytes);
+        if let Some(budget) = budget {
+            self.directory.change_budget(name, budget);
         }
         if let Some(order) = order {
-            lent.tenant.change_order(&self.rt, order);
+            self.directory.change_order(name, order);
         }
     }
 
@@ -320,9 +283,7 @@ impl<'x, R: Wait + Clock + Files + AllocGlobal + Copy + Drop> Operator<'x, R> {
     {
         let audit = self.registry.remove(name)?;
         drop(audit);
-        self.shared
-            .tenants()
-            .retire(&self.rt, self.alloc, SHARD, name);
+        self.directory.retire(name);
         if let Some(told) = self.told.shift_remove(name) {
             self.bounds.remove(told.number);
         }

@@ -3,6 +3,7 @@ ghost use Rattle.std.specs.Prelude.{IfOk, IfSome};
 
 use crate::calls::OperatorCall;
 use crate::connection::{OperatorConnection, OperatorHttp};
+use crate::directory::TenantDirectory;
 use crate::operator::Operator;
 use crate::requests::{OperatorEntrance, OperatorGateway, OperatorOutcome, OperatorRequest};
 use connection_table::Patience;
@@ -235,15 +236,16 @@ impl<R: Clock + Eprint + Copy + Drop> Receiving<R> {
 }
 
 /// Accepts the operator's connections, each as a task of a set. Ready once the server has ended.
-struct Accepting<'a, 'x, R: Wait + Drop, F, T: Future> {
+struct Accepting<'a, 'x, R: Wait + Drop, D: TenantDirectory, F, T: Future> {
     rt: R,
-    operator: &'a mut Operator<'x, R>,
+    operator: &'a mut Operator<'x, R, D>,
     arriving: Arriving,
     tasks: &'a TaskSet<T>,
     make: F,
 }
 
-impl<R: Wait + Drop, F: Drop, T: Future> Drop for Accepting<'_, '_, R, F, T> {
+impl<R: Wait + Drop, D: TenantDirectory, F: Drop, T: Future> Drop
+    for Accepting<'_, '_, R, D, F, T> {
     fn drop(self) {
         let Accepting {
             rt: _,
@@ -255,9 +257,10 @@ impl<R: Wait + Drop, F: Drop, T: Future> Drop for Accepting<'_, '_, R, F, T> {
     }
 }
 
-impl<R, F, T> Future for Accepting<'_, '_, R, F, T>
+impl<R, D, F, T> Future for Accepting<'_, '_, R, D, F, T>
 where
     R: Wait + Clock + Files + AllocGlobal + Copy + Drop,
+    D: TenantDirectory,
     F: Fn(TcpStream) -> Mem<T> + Drop,
     T: Future<Output = ()>,
 {
@@ -291,18 +294,20 @@ where
 }
 
 /// Does what a request asks. Whether its peer is still there is all one.
-fn serve<R>(operator: &mut Operator<'_, R>, request: OperatorRequest)
+fn serve<R, D>(operator: &mut Operator<'_, R, D>, request: OperatorRequest)
 where
     R: Wait + Clock + Files + AllocGlobal + Copy + Drop,
+    D: TenantDirectory,
 {
     let outcome = outcome_of(operator, &request);
     request.reply(outcome);
 }
 
 /// What a request comes to.
-fn outcome_of<R>(operator: &mut Operator<'_, R>, request: &OperatorRequest) -> OperatorOutcome
+fn outcome_of<R, D>(operator: &mut Operator<'_, R, D>, request: &OperatorRequest) -> OperatorOutcome
 where
     R: Wait + Clock + Files + AllocGlobal + Copy + Drop,
+    D: TenantDirectory,
 {
     match OperatorCall::of(request.method.as_str(), request.path.as_str()) {
         Ok(call) => operator.answer(call, request.body.as_slice()),
@@ -311,31 +316,33 @@ where
 }
 
 /// Serves the operator until the server has ended: until the other end of a channel is let go.
-pub fn serve_operator<R>(
+pub fn serve_operator<R, D>(
     rt: R,
     alloc: Global,
     socket: OperatorSocket,
-    mut operator: Operator<'_, R>,
+    mut operator: Operator<'_, R, D>,
     ended: UnboundedReceiver<()>,
 ) -> io::Result<()>
 where
     R: Wait + Clock + RandomSource + AllocGlobal + Files + Eprint + Copy + Drop,
+    D: TenantDirectory,
 {
     let (mut runtime, door) = socket.into_parts();
     serve_at(rt, alloc, &mut runtime, &mut operator, door, ended)
 }
 
 /// The same at a door, on the event loop of a runtime.
-fn serve_at<R>(
+fn serve_at<R, D>(
     rt: R,
     alloc: Global,
     runtime: &mut LocalRuntime,
-    operator: &mut Operator<'_, R>,
+    operator: &mut Operator<'_, R, D>,
     door: Door,
     ended: UnboundedReceiver<()>,
 ) -> io::Result<()>
 where
     R: Wait + Clock + RandomSource + AllocGlobal + Files + Eprint + Copy + Drop,
+    D: TenantDirectory,
 {
     let (listener, token, patience) = door.into_parts();
     let (entrance, requests) = OperatorEntrance::open(alloc, token)?;
@@ -376,15 +383,16 @@ impl Drop for Arriving {
 }
 
 /// Runs the operator's connections as tasks that a function makes.
-fn run_tasks<R, F, T>(
+fn run_tasks<R, D, F, T>(
     rt: R,
     runtime: &mut LocalRuntime,
-    operator: &mut Operator<'_, R>,
+    operator: &mut Operator<'_, R, D>,
     arriving: Arriving,
     make: F,
 ) -> io::Result<()>
 where
     R: Wait + Clock + RandomSource + AllocGlobal + Files + Copy + Drop,
+    D: TenantDirectory,
     F: Fn(TcpStream) -> Mem<T> + Drop,
     T: Future<Output = ()>,
     requires callable { F.IsAlwaysCallable make }

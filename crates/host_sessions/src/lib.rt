@@ -2,13 +2,16 @@
 //! tenants.
 //!
 //! `Sessions::listen` listens where the configuration says, and `Sessions::serve` serves a registry until as many connections
-//! as were told have ended. `Sessions::open` and `Sessions::serve_beside` do the same where tenants come and go meanwhile.
+//! as were told have ended. `Sessions::open` and `Sessions::serve_beside` do the same where tenants come and go meanwhile:
+//! `ServedTenants` does what their operator asks of them.
 #![tactic(auto)]
 
+mod served;
 mod sessions;
 
 pub use connection_table::{Allowance, Patience};
 pub use host_config::{Config, ConfigFault, OperatorConfig, read_config};
+pub use served::ServedTenants;
 pub use sessions::{Ended, ListenFault, Sessions};
 pub use tenant_scheduler::Jobs;
 pub use tenant_server::{End, Listening, Opened, ServeFault};

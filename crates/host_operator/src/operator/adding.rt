@@ -5,6 +5,7 @@ ghost use Rattle.tenant_registry.specs.Adding.{with_tenant};
 
 use crate::answer::OperatorAnswer;
 use crate::calls::OperatorRefusal;
+use crate::directory::TenantDirectory;
 use crate::operator::{Operator, Told, retention_in};
 use connection_table::Allowance;
 use etcd_types::Mem;
@@ -13,8 +14,7 @@ use serde_json::Value;
 use std::alloc::{AllocGlobal, Global};
 use std::rt::{Clock, Files};
 use std::sync::Wait;
-use tenant_registry::{Key, TenantConfig};
-use tenant_scheduler::{NewTenant, TenantTerms};
+use tenant_registry::TenantConfig;
 
 /// A tenant that a body asks for.
 struct WantedTenant {
@@ -41,14 +41,6 @@ impl WantedTenant {
         let allowance = allowance_in(&object, config.quota)?;
         Ok(WantedTenant { config, allowance })
     }
-
-    /// The terms that it is served on.
-    fn terms(&self) -> TenantTerms {
-        TenantTerms {
-            budget: self.allowance.budget,
-            retention: self.allowance.retention,
-        }
-    }
 }
 
 /// What the clients of a tenant of that quota may take. What it is to keep is looked at first.
@@ -58,16 +50,16 @@ fn allowance_in(object: &Value, quota: u64) -> Result<Allowance, OperatorRefusal
 }
 
 /// All that a new tenant needs beside the registry.
-struct Prepared<R: Wait + Drop> {
+struct Prepared<N> {
     number: u64,
-    new: NewTenant<R, Key>,
+    new: N,
     /// Its name, for the key to it.
     key_name: Vec<u8>,
     /// The same, for what the operator was told of it.
     told_name: Vec<u8>,
 }
 
-impl<R: Wait + Drop> Drop for Prepared<R> {
+impl<N: Drop> Drop for Prepared<N> {
     fn drop(self) {
         let Prepared {
             number: _,
@@ -78,8 +70,8 @@ impl<R: Wait + Drop> Drop for Prepared<R> {
     }
 }
 
-impl<R: Wait + Drop> Prepared<R> {
-    fn into_parts(self) -> (NewTenant<R, Key>, Vec<u8>, Vec<u8>) {
+impl<N: Drop> Prepared<N> {
+    fn into_parts(self) -> (N, Vec<u8>, Vec<u8>) {
         let Prepared {
             number: _,
             new,
@@ -90,7 +82,11 @@ impl<R: Wait + Drop> Prepared<R> {
     }
 }
 
-impl<'x, R: Wait + Clock + Files + AllocGlobal + Copy + Drop> Operator<'x, R> {
+impl<'x, R, D> Operator<'x, R, D>
+where
+    R: Wait + Clock + Files + AllocGlobal + Copy + Drop,
+    D: TenantDirectory,
+{
     /// Adds a tenant and serves it. All memory but the registry's own is taken before.
     pub(super) fn add(&mut self, body: &[u8]) -> Result<OperatorAnswer, OperatorRefusal>
         ensures status { IfOk result (λ answer. answer.status ≡ 201) }
@@ -113,14 +109,12 @@ impl<'x, R: Wait + Clock + Files + AllocGlobal + Copy + Drop> Operator<'x, R> {
     }
 
     /// Takes the memory that a new tenant needs.
-    fn prepare(&self, wanted: &WantedTenant) -> Mem<Prepared<R>> {
+    fn prepare(&self, wanted: &WantedTenant) -> Mem<Prepared<D::New>> {
         let number = self.registry.next_number();
         let name = wanted.config.name.as_slice();
         let key_name = Vec::from_slice(self.alloc, name)?;
         let told_name = Vec::from_slice(self.alloc, name)?;
-        let terms = wanted.terms();
-        let tenants = self.shared.tenants();
-        let new = tenants.prepare(&self.rt, self.alloc, number, name, terms)?;
+        let new = self.directory.prepare(number, name, wanted.allowance)?;
         Ok(Prepared {
             number,
             new,
@@ -130,7 +124,11 @@ impl<'x, R: Wait + Clock + Files + AllocGlobal + Copy + Drop> Operator<'x, R> {
     }
 
     /// Serves a tenant that was added just now.
-    fn admit(&mut self, prepared: Prepared<R>, allowance: Allowance) -> Result<(), OperatorRefusal>
+    fn admit(
+        &mut self,
+        prepared: Prepared<D::New>,
+        allowance: Allowance,
+    ) -> Result<(), OperatorRefusal>
         ensures { self.new.registry.now ≡ self.old.registry.now }
     {
         let told = Told::new(prepared.number, allowance);
@@ -140,7 +138,7 @@ impl<'x, R: Wait + Clock + Files + AllocGlobal + Copy + Drop> Operator<'x, R> {
             return Err(OperatorRefusal::MEMORY);
         };
         self.bound(told.number, allowance);
-        self.shared.tenants().admit(&self.rt, new, key);
+        self.directory.admit(new, key);
         let _ = self.told.insert(told_name, told);
         Ok(())
     }

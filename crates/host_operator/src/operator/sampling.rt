@@ -3,15 +3,16 @@ ghost use Rattle.std.specs.Prelude.{◌≡◌, IfOk};
 
 use crate::answer::OperatorAnswer;
 use crate::calls::OperatorRefusal;
+use crate::directory::TenantDirectory;
 use crate::memory::resident_bytes;
 use crate::metrics::{HostSample, Sample, metrics};
 use crate::operator::{Operator, Told};
 use etcd_types::Mem;
+use fair_turns::TenantCounts;
 use std::alloc::AllocGlobal;
 use std::rt::{Clock, Files};
-use std::sync::Wait;
+use std::sync::{Arc, Wait};
 use tenant_registry::{Key, Usage};
-use tenant_scheduler::ServedTenant;
 
 /// What the tenant of a key uses; none where a call is under way there.
 fn usage_if_idle(key: &Key) -> Option<Usage> {
@@ -21,7 +22,11 @@ fn usage_if_idle(key: &Key) -> Option<Usage> {
     }
 }
 
-impl<'x, R: Wait + Clock + Files + AllocGlobal + Copy + Drop> Operator<'x, R> {
+impl<'x, R, D> Operator<'x, R, D>
+where
+    R: Wait + Clock + Files + AllocGlobal + Copy + Drop,
+    D: TenantDirectory,
+{
     /// What all tenants use, in the text format of Prometheus. It waits for no tenant: what one used when it was last
     /// told stands for what it uses while a call is under way there.
     pub(super) fn metrics(&mut self) -> Result<OperatorAnswer, OperatorRefusal>
@@ -77,6 +82,11 @@ impl<'x, R: Wait + Clock + Files + AllocGlobal + Copy + Drop> Operator<'x, R> {
         }
     }
 
+    /// How many watches its clients have open. It borrows the operator whole, as `usage_now` does.
+    fn open_watches(&self, name: &[u8]) -> Option<usize> {
+        self.directory.open_watches(name)
+    }
+
     /// The samples of all tenants that are known to use something.
     fn samples(&self) -> Mem<Vec<Sample>> {
         let mut samples = Vec::new(self.alloc);
@@ -93,8 +103,8 @@ impl<'x, R: Wait + Clock + Files + AllocGlobal + Copy + Drop> Operator<'x, R> {
         let Some(usage) = told.usage else {
             return Ok(None);
         };
-        match self.served(name) {
-            Some(lent) => self.sample_of(&lent.tenant, name, usage, told),
+        match self.directory.counts(name)? {
+            Some(counts) => self.sample_of(name, usage, counts, told),
             None => Ok(None),
         }
     }
@@ -102,20 +112,22 @@ impl<'x, R: Wait + Clock + Files + AllocGlobal + Copy + Drop> Operator<'x, R> {
     /// The same of a tenant that is served and uses this.
     fn sample_of(
         &self,
-        tenant: &ServedTenant<R, Key>,
         name: &[u8],
         usage: Usage,
+        counts: Arc<TenantCounts>,
         told: &Told,
     ) -> Mem<Option<Sample>> {
+        let budget = told.allowance.budget;
+        let budget_left = self.directory.budget_left(name).unwrap_or(budget);
         let Ok(name) = String::from_utf8(Vec::from_slice(self.alloc, name)?) else {
             return Ok(None);
         };
         Ok(Some(Sample {
             name,
             usage,
-            counts: tenant.share_counts()?,
-            budget: told.allowance.budget,
-            budget_left: tenant.budget_left(),
+            counts,
+            budget,
+            budget_left,
             open_connections: self.bounds.open(told.number),
             open_watches: told.open_watches,
         }))

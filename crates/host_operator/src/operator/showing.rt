@@ -3,6 +3,7 @@ ghost use Rattle.std.specs.Prelude.{◌≡◌, IfOk};
 
 use crate::answer::OperatorAnswer;
 use crate::calls::OperatorRefusal;
+use crate::directory::TenantDirectory;
 use crate::operator::{Operator, Told};
 use crate::shown::ShownTenant;
 use crate::values::{JsonList, JsonObject, JsonValue};
@@ -22,7 +23,11 @@ fn usage_of<R: Wait>(rt: &R, key: &Key) -> Result<Usage, OperatorRefusal> {
     }
 }
 
-impl<'x, R: Wait + Clock + Files + AllocGlobal + Copy + Drop> Operator<'x, R> {
+impl<'x, R, D> Operator<'x, R, D>
+where
+    R: Wait + Clock + Files + AllocGlobal + Copy + Drop,
+    D: TenantDirectory,
+{
     /// How many segments there are, and how many are free.
     pub(super) fn show_pool(&mut self) -> Result<OperatorAnswer, OperatorRefusal>
         ensures { IfOk result (λ answer. answer.status ≡ 200) }
@@ -81,10 +86,13 @@ impl<'x, R: Wait + Clock + Files + AllocGlobal + Copy + Drop> Operator<'x, R> {
         } = *told;
         Ok(ShownTenant {
             usage: self.usage(name)?,
-            open_watches: self.open_watches(name).unwrap_or(told.open_watches),
+            open_watches: self
+                .directory
+                .open_watches(name)
+                .unwrap_or(told.open_watches),
             retention: allowance.retention,
             budget: allowance.budget,
-            budget_left: self.budget_left(name).unwrap_or(allowance.budget),
+            budget_left: self.directory.budget_left(name).unwrap_or(allowance.budget),
             open_connections: self.bounds.open(number),
             most_connections: allowance.open_connections.unwrap_or(self.part),
         })
@@ -95,22 +103,6 @@ impl<'x, R: Wait + Clock + Files + AllocGlobal + Copy + Drop> Operator<'x, R> {
         match self.registry.key(Vec::from_slice(self.alloc, name)?)? {
             Some(key) => usage_of(&self.rt, &key),
             None => Err(OperatorFault::NoTenant.into()),
-        }
-    }
-
-    /// How many bytes of a tenant's budget are left, if it is served.
-    fn budget_left(&self, name: &[u8]) -> Option<usize> {
-        match self.served(name) {
-            Some(lent) => Some(lent.tenant.budget_left()),
-            None => None,
-        }
-    }
-
-    /// How many watches a tenant's clients have open; none where somebody has the turn there, or it is not served.
-    pub(super) fn open_watches(&self, name: &[u8]) -> Option<usize> {
-        match self.served(name) {
-            Some(lent) => lent.tenant.open_watches(),
-            None => None,
         }
     }
 }
