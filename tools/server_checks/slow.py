@@ -55,6 +55,42 @@ def one_byte_a_second_is_answered(host):
         want((answer.status, answer.body) == REFUSALS["NoPath"], f"{answer}")
 
 
+def small_pieces_rest_before_they_are_read(host):
+    """What comes after eight pieces of a byte is read 16 milliseconds later at the soonest. Once that request was answered,
+    the next ones are read as they come, of which ten would take 160 milliseconds else."""
+    tenant = host.tenant()
+    message = request(path(tenant, "kv/put"), KEY)
+    with host.connect() as client:
+        for at in range(16):
+            client.send(message[at:at + 1])
+            time.sleep(0.015)
+        time.sleep(0.1)
+        started = time.monotonic()
+        client.send(message[16:])
+        client.answer().check(done(2))
+        took = time.monotonic() - started
+        want(took > 0.0155, f"the last piece was answered after {took * 1e3:.0f} milliseconds")
+        started = time.monotonic()
+        for number in range(10):
+            client.expect(tenant, "kv/put", KEY, done(3 + number))
+        took = time.monotonic() - started
+        want(took < 0.16, f"ten whole requests were answered after {took * 1e3:.0f} milliseconds")
+
+
+def a_head_of_many_pieces_is_told_to_continue(host):
+    """Its body comes after that, and is read."""
+    tenant = host.tenant()
+    with host.connect() as client:
+        message = head(path(tenant, "kv/put"), ["expect: 100-continue", f"content-length: {len(KEY)}"])
+        for at in range(16):
+            client.send(message[at:at + 1])
+            time.sleep(0.015)
+        client.send(message[16:])
+        want(client.answer().status == 100, "no 100 comes")
+        client.send(KEY.encode())
+        client.answer().check(done(2))
+
+
 def let_go_after(client, started, drip=b""):
     """Waits until the server closes, and sends a byte each second meanwhile."""
     while True:
@@ -98,5 +134,6 @@ def an_idle_connection_is_let_go(host):
 
 
 SLOW = [a_lease_ends_by_the_clock, a_lease_that_is_kept_alive_stays, one_byte_a_second_is_answered,
+        small_pieces_rest_before_they_are_read, a_head_of_many_pieces_is_told_to_continue,
         a_connection_on_which_nothing_comes_is_let_go, half_a_head_is_let_go, a_head_without_an_end_is_let_go,
         an_idle_connection_is_let_go]

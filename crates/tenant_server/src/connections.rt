@@ -213,6 +213,8 @@ impl<E: Drop, C: Future<Output = Result<(), E>>> Future for Served<C> {
 struct Arrived {
     open: OpenConnection,
     stream: TcpStream,
+    /// Its socket's number.
+    number: u64,
 }
 
 /// Takes a loop's connections in, each as a task of a set, and serves their inline calls. Ready once no more come.
@@ -253,9 +255,15 @@ where
         if let Some(make) = &self.make {
             match self.sockets.poll_recv(cx) {
                 Poll::Ready(Some(Accepted { open, socket })) => {
+                    let number = u64::try_from(socket.as_raw_fd()).unwrap_or(0);
                     if let Ok(stream) = TcpStream::from_std(socket, &self.reactor) {
                         let _ = stream.set_nodelay(true);
-                        if !begin(self.tasks, make(Some(Arrived { open, stream }))) {
+                        let arrived = Arrived {
+                            open,
+                            stream,
+                            number,
+                        };
+                        if !begin(self.tasks, make(Some(arrived))) {
                             self.losses.add();
                         }
                     }
@@ -341,16 +349,18 @@ where
     } = own;
     let streams = streams_of(rt, alloc, &runtime, jobs, patience)?;
     let reactor = runtime.handle().reactor().clone()?;
-    let beats = runtime
-        .handle()
-        .time()
-        .interval(&rt, Duration::from_secs(SECONDS_A_BEAT))
-        .ok();
+    let beats = beats_of(&rt, &runtime);
     let make = move |arrived| {
-        let Some(Arrived { open, stream }) = arrived else {
+        let Some(arrived) = arrived else {
             return Ok(Served::ended());
         };
+        let Arrived {
+            open,
+            stream,
+            number,
+        } = arrived;
         let requests = open.requests(rt, start);
+        let stream = streams.paced(stream, number);
         Served::of(alloc, open, streams.connection(stream, requests))
     };
     let arriving = Arriving {
@@ -361,6 +371,14 @@ where
         ready,
     };
     run_tasks(&rt, &mut runtime, inline_calls, arriving, make)
+}
+
+/// When a loop shows that it moves; none where there is no memory for that.
+fn beats_of<R: Clock>(rt: &R, runtime: &LocalRuntime) -> Option<Interval> {
+    let timers = runtime.handle().time();
+    timers
+        .interval(rt, Duration::from_secs(SECONDS_A_BEAT))
+        .ok()
 }
 
 /// What a loop's connections come by.

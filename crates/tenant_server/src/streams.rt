@@ -1,4 +1,5 @@
 //! One connection over a stream, whatever the stream is: a socket of an event loop, or what `serve_one` is given.
+use crate::pacing::PacedStream;
 use connection_table::{Patience, Requests};
 use futures::Future;
 use gateway_http::{ClientConnection, Gateway, Http};
@@ -10,6 +11,7 @@ use std::sync::Wait;
 use std::time::Duration;
 use tenant_scheduler::Jobs;
 use tokio::io::{AsyncRead, AsyncWrite};
+use tokio::net::TcpStream;
 use tokio::time;
 
 /// By what the connections of one thread are served.
@@ -44,6 +46,19 @@ impl<R: Wait + Clock + Copy + Drop, T: Timer> Streams<R, T> {
         }
     }
 
+    /// None where there are none, or no memory for a share of them.
+    fn timers(&self) -> Option<time::Handle> {
+        match &self.timers {
+            Some(timers) => timers.clone().ok(),
+            None => None,
+        }
+    }
+
+    /// A socket of an event loop; its number says for how long it rests.
+    pub(crate) fn paced(&self, socket: TcpStream, number: u64) -> PacedStream<R, TcpStream> {
+        PacedStream::new(self.rt, socket, number, self.timers())
+    }
+
     /// The connection over a stream, which is ready once it has ended. Its requests are counted in the table of
     /// connections, if it is in one.
     pub(crate) fn connection<I>(
@@ -55,10 +70,7 @@ impl<R: Wait + Clock + Copy + Drop, T: Timer> Streams<R, T> {
         I: AsyncRead + AsyncWrite + Drop,
         ensures { ⟦<ClientConnection<I, R, T> as Future>⟧.can_poll result }
     {
-        let timers = match &self.timers {
-            Some(timers) => timers.clone().ok(),
-            None => None,
-        };
+        let timers = self.timers();
         let gateway = Gateway {
             rt: self.rt,
             alloc: self.alloc,
