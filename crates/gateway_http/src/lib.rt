@@ -4,7 +4,8 @@
 //!    tenant (`routing`), whose the connection is from then on. The body is read (`reading`), whether the request is to be
 //!    refused or not; one that stops coming ends its connection (`stall`). What it is told uses up its `Unanswered`.
 //! 2. `Begun::new` hands the call to the scheduler, and the exchange waits for its answer, which `respond` makes a
-//!    response (`response`). The body of a watch's response goes on with the texts of its watch.
+//!    response (`response`). The body of a watch's response goes on with the texts of its watch. Behind each piece of what is
+//!    long a connection gives way to the others of its loop (`giving_way`).
 //! 3. `Http::connect` makes the connection that does all this, for whoever polls it (`connection`).
 //!
 //! What hyper's statements ask of a service is told here: which exchange a request begins (`calls`, specs `Exchanges`), which
@@ -14,6 +15,7 @@
 
 mod connection;
 mod exchange;
+mod giving_way;
 mod piece;
 mod reading;
 mod response;

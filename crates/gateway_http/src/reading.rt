@@ -9,6 +9,7 @@ ghost use Rattle.hyper.specs.Incoming.{size_left};
 ghost use Rattle.gateway_http.specs.Readings.{IsKept, IsLost, ReadsOn, ReadsWhole};
 ghost use Rattle.gateway_http.specs.Requests.{IsCoded, IsLossOf, IsPlain, IsTakenUp, loss_told, most_of};
 
+use crate::giving_way::polls_for;
 use crate::stall::Stall;
 use bytes::Bytes;
 use etcd_types::Refusal;
@@ -49,8 +50,8 @@ pub(crate) struct Reading<I, R: Wait + Drop> {
     /// That is more than its tenant's budget has room for: the body rests before it is read on and thrown away.
     is_costly: bool,
     terms: BodyTerms<R>,
-    /// Much of it was read: the next piece is left for a later turn of its loop.
-    rests: bool,
+    /// For how many polls the other connections of the loop come before its next piece.
+    rests: usize,
     /// Why the body is read on and thrown away.
     lost: Option<Loss>,
     passed: u32,
@@ -129,7 +130,7 @@ impl<I: Drop, R: Wait + Clock + Copy + Drop> Reading<I, R> {
             tree: TreeWeight::EMPTY,
             is_costly: false,
             terms,
-            rests: false,
+            rests: 0,
             lost,
             passed: 0,
         }
@@ -146,8 +147,8 @@ impl<I: Drop, R: Wait + Clock + Copy + Drop> Reading<I, R> {
         ensures kept { Keeps cx.old cx.new }
     {
         ready!(self.poll_share(cx));
-        if self.rests {
-            self.rests = false;
+        if self.rests > 0 {
+            self.rests -= 1;
             return cx.yield_now();
         }
         let mut bytes = 0usize;
@@ -164,7 +165,7 @@ impl<I: Drop, R: Wait + Clock + Copy + Drop> Reading<I, R> {
                 }
             }
             if bytes >= BYTES_A_POLL || self.is_costly {
-                self.rests = true;
+                self.rests = polls_for(bytes);
                 return cx.yield_now();
             }
         }

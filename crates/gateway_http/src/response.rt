@@ -10,6 +10,7 @@ ghost use Rattle.gateway_http.specs.Bodies.{Counts, GivesNext, bytes_left, frame
 ghost use Rattle.gateway_http.specs.Responses.{Sends};
 
 use crate::exchange::Standing;
+use crate::giving_way::polls_for;
 use crate::piece::{Piece, Unsent};
 use fair_turns::{TakenText, Text, WatchTexts};
 use futures::ready;
@@ -26,8 +27,8 @@ use tenant_scheduler::Told;
 pub struct ResponseBody<R: Wait + Clock + Drop> {
     /// The text whose pieces are handed over: at first that of the answer.
     unsent: Option<Unsent>,
-    /// A piece of it was handed over: before the next one the other connections of the loop come.
-    rests: bool,
+    /// For how many polls the other connections of the loop come before its next piece.
+    rests: usize,
     following: Option<WatchTexts<R>>,
     /// The request is under way until all was handed over.
     standing: Standing<R>,
@@ -91,7 +92,7 @@ impl<R: Wait + Clock + Drop> ResponseBody<R> {
     {
         Ok(ResponseBody {
             unsent: Some(Unsent::new(first)?),
-            rests: false,
+            rests: 0,
             following,
             standing,
         })
@@ -107,8 +108,8 @@ impl<R: Wait + Clock + Drop> ResponseBody<R> {
         ensures registered { OnPending result (IsArmed cx.new) }
         ensures kept { Keeps cx.old cx.new }
     {
-        if self.rests {
-            self.rests = false;
+        if self.rests > 0 {
+            self.rests -= 1;
             return cx.yield_now();
         }
         if let Some(text) = self.unsent.take() {
@@ -129,9 +130,15 @@ impl<R: Wait + Clock + Drop> ResponseBody<R> {
         ensures following { self.new.following ≡ self.old.following }
     {
         let mut text = text;
+        let whole = text.len();
         let piece = text.next_piece();
-        self.rests = text.len() > 0;
-        self.unsent = if self.rests { Some(text) } else { None };
+        let left = text.len();
+        self.rests = if left > 0 {
+            polls_for(whole.saturating_sub(left))
+        } else {
+            0
+        };
+        self.unsent = if left > 0 { Some(text) } else { None };
         piece
     }
 
