@@ -10,8 +10,9 @@ use crate::pump::{serve_takes, take_all};
 use crate::request::Request;
 use crate::serving::ServingThread;
 use crate::tenants::ServedTenant;
+use crossbeam_channel::Receiver;
 use etcd_types::{Mem, Refusal, Step};
-use fair_turns::{Scheduler, Stopwatch, WatchEnds, Work};
+use fair_turns::{Scheduler, Stopwatch, Turn, WatchEnds, Work};
 use std::alloc::Global;
 use std::rt::Clock;
 use std::sync::{Arc, Wait};
@@ -26,6 +27,10 @@ const BYTES_A_TURN: usize = 65_536;
 
 /// After how many milliseconds a turn ends, once the job at hand is served.
 const MILLIS_A_TURN: u64 = 2;
+
+/// How often a worker goes on with a tenant whose takes are long, where no other tenant waits for a worker. Each take would wake
+/// another thread else, which begins with a whole slice of a processor: who is woken there meanwhile waits for its end.
+const LONG_TAKES_A_TURN: u32 = 8;
 
 /// Serves a few jobs of each tenant whose turn it is, until there are no more turns.
 pub(crate) fn work<R: Wait + Clock + Copy + Drop, C: TenantCalls>(
@@ -46,25 +51,15 @@ pub(crate) fn work<R: Wait + Clock + Copy + Drop, C: TenantCalls>(
         let Some(tenant) = shared.numbered(&rt, tenant) else {
             continue;
         };
-        take_turn(rt, alloc, caller, &shared.scheduler, &tenant);
+        let turn = WorkerTurn {
+            rt,
+            alloc,
+            scheduler: &shared.scheduler,
+            others: &shared.turns.workers,
+            tenant: &tenant,
+        };
+        turn.run(caller);
     }
-}
-
-/// Serves a tenant's turn, which goes on to what is due next; a slow tenant may have to wait with it.
-fn take_turn<R: Wait + Clock + Copy + Drop, C: TenantCalls>(
-    rt: R,
-    alloc: Global,
-    caller: &mut Caller<R, C>,
-    scheduler: &Arc<Scheduler>,
-    tenant: &ServedTenant<R, C::Key>,
-) {
-    let turn = WorkerTurn {
-        rt,
-        alloc,
-        scheduler,
-        tenant,
-    };
-    turn.run(caller);
 }
 
 /// A worker's turn on a tenant.
@@ -73,11 +68,13 @@ struct WorkerTurn<'s, 't, R: Wait + Drop, C: TenantCalls> {
     rt: R,
     alloc: Global,
     scheduler: &'s Arc<Scheduler>,
+    /// The turns of the tenants that wait for a worker.
+    others: &'s Receiver<Turn>,
     tenant: &'t ServedTenant<R, C::Key>,
 }
 
 impl<R: Wait + Clock + Copy + Drop, C: TenantCalls> WorkerTurn<'_, '_, R, C> {
-    /// Serves a few of a tenant's jobs, unless the tenant was slow and has to wait with its turn.
+    /// Serves a tenant's turn, which goes on to what is due next. A slow tenant may have to wait with it.
     fn run(&self, caller: &mut Caller<R, C>) {
         let mut clients = self.tenant.clients.lock(&self.rt);
         let turns = self.tenant.turns();
@@ -87,8 +84,13 @@ impl<R: Wait + Clock + Copy + Drop, C: TenantCalls> WorkerTurn<'_, '_, R, C> {
             return;
         }
         let stopwatch = Stopwatch::start(&self.rt);
-        self.serve_jobs(caller, &mut *clients, &stopwatch);
-        self.serve_long_takes(caller, &mut *clients);
+        for _ in 0..LONG_TAKES_A_TURN {
+            self.serve_jobs(caller, &mut *clients);
+            let has_taken = self.serve_long_takes(caller, &mut *clients);
+            if !has_taken || !self.others.is_empty() {
+                break;
+            }
+        }
         clients.counts.turns().add(stopwatch.passed(&self.rt));
         clients.is_slow = stopwatch.is_past(&self.rt, MILLIS_A_TURN);
         if was_slow {
@@ -98,21 +100,19 @@ impl<R: Wait + Clock + Copy + Drop, C: TenantCalls> WorkerTurn<'_, '_, R, C> {
         self.scheduler.finish(&self.rt, turns, Work::Jobs);
     }
 
-    /// Serves the takes of a tenant where they are due and were long lately.
-    fn serve_long_takes(&self, caller: &mut Caller<R, C>, clients: &mut Clients<C::Key>) {
+    /// Serves the takes of a tenant where they are due and were long lately. It is `false` where they are not.
+    fn serve_long_takes(&self, caller: &mut Caller<R, C>, clients: &mut Clients<C::Key>) -> bool {
         let turns = self.tenant.turns();
-        if clients.takes_left > 0 && Scheduler::begins_takes(turns) {
+        let is_due = clients.takes_left > 0 && Scheduler::begins_takes(turns);
+        if is_due {
             serve_takes(&self.rt, caller, self.scheduler, turns, clients);
         }
+        is_due
     }
 
     /// Serves a few of a tenant's jobs. If there may be more, the tenant comes again behind the others.
-    fn serve_jobs(
-        &self,
-        caller: &mut Caller<R, C>,
-        clients: &mut Clients<C::Key>,
-        stopwatch: &Stopwatch,
-    ) {
+    fn serve_jobs(&self, caller: &mut Caller<R, C>, clients: &mut Clients<C::Key>) {
+        let stopwatch = Stopwatch::start(&self.rt);
         let mut bytes = 0usize;
         for _ in 0..JOBS_A_TURN {
             if bytes > BYTES_A_TURN || stopwatch.is_past(&self.rt, MILLIS_A_TURN) {
