@@ -38,9 +38,9 @@ refused_body given lost body route loss a head gone told = subst (λ h. IsTakenU
 pub begun : {R : Type 0} (given : Result Route Refusal) (lost : Option Loss) (body : List ℕ) (route : Route) (b : Begun R) → given ≡ Ok route → lost ≡ None → IsBegun b route body → IsTakenUp given lost body b
 begun given lost body route b head whole is = subst (λ h. IsTakenUp h lost body b) (sym head) (subst (λ o. IsTakenUp (Ok route) o body b) (sym whole) is)
 
--- there was no memory to share where calls go in
-pub without_jobs : {R : Type 0} (given : Result Route Refusal) (lost : Option Loss) (body : List ℕ) (route : Route) (a : Told R) → given ≡ Ok route → lost ≡ None → Refuses Memory a.answer → IsTakenUp given lost body (Answered a)
-without_jobs given lost body route a head whole told = begun given lost body route (Answered a) head whole told
+-- there was no memory to share what serves calls
+pub without_server : {R : Type 0} (given : Result Route Refusal) (lost : Option Loss) (body : List ℕ) (route : Route) (a : Told R) → given ≡ Ok route → lost ≡ None → Refuses Memory a.answer → IsTakenUp given lost body (Answered a)
+without_server given lost body route a head whole told = begun given lost body route (Answered a) head whole (merely (Unasked Memory (false, refl) told))
 
 -- ---- answers
 
@@ -48,7 +48,7 @@ without_jobs given lost body route a head whole told = begun given lost body rou
 at_once : {I R : Type 0} (old : Reading I R) (given : Result Route Refusal) (lost : Option Loss) (body : List ℕ) (a : Told R) → given ≡ old.route → (lost ≡ None → IsOk given → (old.lost ≡ None) × IsBodyOf old.body old.read.items body) → ((why : Loss) → lost ≡ Some why → MayLose old.lost old.body why) → IsTakenUp given lost body (Answered a) → ∥ IsReadingAnswer old a.answer ∥₁
 at_once old (Err r) lost body a same kept loses is = merely (subst (λ h. IsAnswerTo old h a.answer) same is)
 at_once old (Ok route) (Some why) body a same kept loses is = merely (subst (λ h. IsAnswerTo old h a.answer) same (Lost why (loses why refl) is))
-at_once old (Ok route) None body a same kept loses is = let k = kept refl refl in merely (subst (λ h. IsAnswerTo old h a.answer) same (Whole body k.0 k.1 (Unasked Memory (false, refl) is)))
+at_once old (Ok route) None body a same kept loses is = let k = kept refl refl in ∥∥₁_map is (λ told. subst (λ h. IsAnswerTo old h a.answer) same (Whole body k.0 k.1 told))
 
 -- and so is what waits, later
 later : {I R : Type 0} (old : Reading I R) (given : Result Route Refusal) (lost : Option Loss) (body : List ℕ) (call : PendingCall R) (a : Answer R) → given ≡ old.route → (lost ≡ None → IsOk given → (old.lost ≡ None) × IsBodyOf old.body old.read.items body) → IsTakenUp given lost body (Pending call) → IsAnswerOf call.request.value a → IsReadingAnswer old a

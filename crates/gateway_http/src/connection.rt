@@ -1,12 +1,14 @@
 //! A client's connection: hyper reads heads and writes answers, with an exchange for each request.
 //!
 //! Who serves connections needs to know nothing of what one is made of, and neither does the proof of his code.
+ghost use Rattle.std.specs.Prelude.{IfOk};
 ghost use Rattle.hyper.specs.ServerDispatch.{Runs};
 
 use crate::exchange::{Exchange, Gateway};
 use crate::piece::Piece;
 use crate::response::ResponseBody;
 use bytes::Bytes;
+use etcd_types::Mem;
 use futures::Future;
 use futures::task::{Context, Poll};
 use http_body::Body;
@@ -18,8 +20,9 @@ use hyper::service::Service;
 use std::alloc::Global;
 use std::hash::RandomState;
 use std::rt::Clock;
-use std::sync::Wait;
+use std::sync::{Arc, Wait};
 use std::time::Duration;
+use tenant_scheduler::CallServer;
 use tokio::io::{AsyncRead, AsyncWrite};
 
 /// How many bytes wait at a connection to be sent, before no more of an answer is handed to it.
@@ -45,16 +48,23 @@ impl<T: Timer> Http<T> {
         Http { builder }
     }
 
-    /// A connection over a stream. It takes no memory until it is polled.
-    pub fn connect<I, R>(&self, stream: I, gateway: Gateway<R>) -> ClientConnection<I, R, T>
+    /// A connection over a stream; an error where there is no memory to share what serves its calls.
+    pub fn connect<I, R, S>(
+        &self,
+        stream: I,
+        gateway: Gateway<R, S>,
+    ) -> Mem<ClientConnection<I, R, S, T>>
     where
         I: AsyncRead + AsyncWrite + Drop,
         R: Wait + Clock + Copy + Drop,
-        ensures { ⟦<ClientConnection<I, R, T> as Future>⟧.can_poll result }
+        S: CallServer<R>,
+        ensures { IfOk result ⟦<ClientConnection<I, R, S, T> as Future>⟧.can_poll }
     {
-        ClientConnection {
+        let server = Arc::try_clone(&gateway.server)?;
+        Ok(ClientConnection {
+            server,
             connection: self.builder.serve_connection(stream, gateway),
-        }
+        })
     }
 }
 
@@ -62,26 +72,42 @@ impl<T: Timer> Http<T> {
 pub struct ClientConnection<
     I: AsyncRead + AsyncWrite + Drop,
     R: Wait + Clock + Copy + Drop,
+    S: CallServer<R>,
     T: Timer,
 > {
-    connection: http1::Connection<I, Gateway<R>, ResponseBody<R>, T>,
+    server: Arc<S>,
+    connection: http1::Connection<I, Gateway<R, S>, ResponseBody<R>, T>,
 }
 
-impl<I: AsyncRead + AsyncWrite + Drop, R: Wait + Clock + Copy + Drop, T: Timer> Drop
-    for ClientConnection<I, R, T> {
+impl<I, R, S, T> Drop for ClientConnection<I, R, S, T>
+where
+    I: AsyncRead + AsyncWrite + Drop,
+    R: Wait + Clock + Copy + Drop,
+    S: CallServer<R>,
+    T: Timer,
+{
     fn drop(self) {
-        let ClientConnection { connection: _ } = self;
+        let ClientConnection {
+            server: _,
+            connection: _,
+        } = self;
     }
 }
 
-impl<I: AsyncRead + AsyncWrite + Drop, R: Wait + Clock + Copy + Drop, T: Timer> Future
-    for ClientConnection<I, R, T> {
+impl<I, R, S, T> Future for ClientConnection<I, R, S, T>
+where
+    I: AsyncRead + AsyncWrite + Drop,
+    R: Wait + Clock + Copy + Drop,
+    S: CallServer<R>,
+    T: Timer,
+{
     type Output = hyper::Result<()>;
 
-    ghost can_poll = { λ c. Runs I.AsyncRead I.AsyncWrite ⟦<Gateway<R> as Service<Request<Incoming<I>>>>⟧
-        ⟦<Exchange<I, R> as Future>⟧ ⟦<ResponseBody<R> as Body>⟧ ⟦<Piece as Into<Bytes>>⟧ c.connection.conn };
+    ghost can_poll = { λ c. Runs I.AsyncRead I.AsyncWrite ⟦<Gateway<R, S> as Service<Request<Incoming<I>>>>⟧
+        ⟦<Exchange<I, R, S> as Future>⟧ ⟦<ResponseBody<R> as Body>⟧ ⟦<Piece as Into<Bytes>>⟧ c.connection.conn };
 
     fn poll(&mut self, cx: &mut Context<'_>) -> Poll<hyper::Result<()>> {
+        self.server.begin_poll();
         self.connection.poll(cx)
     }
 }

@@ -23,19 +23,19 @@ use hyper::{Request, Response};
 use std::alloc::{AllocError, Global};
 use std::mem;
 use std::rt::Clock;
-use std::sync::Wait;
+use std::sync::{Arc, Wait};
 use std::time::Duration;
-use tenant_scheduler::{Begun, Jobs, PendingCall, Route, Told, Unanswered};
+use tenant_scheduler::{Begun, CallServer, PendingCall, Route, Told, Unanswered};
 use tokio::time;
 
 /// Begins an exchange for each request of a connection.
-pub struct Gateway<R: Wait + Clock + Drop> {
+pub struct Gateway<R: Wait + Clock + Drop, S: CallServer<R>> {
     /// The runtime.
     pub rt: R,
     /// What takes memory.
     pub alloc: Global,
-    /// Where calls go in; none where there was no memory to share it.
-    pub jobs: Option<Jobs<R>>,
+    /// What serves calls.
+    pub server: Arc<S>,
     /// None where the connection is in no table.
     pub requests: Option<Requests<R>>,
     /// None where a body is waited for however long it takes.
@@ -44,12 +44,12 @@ pub struct Gateway<R: Wait + Clock + Drop> {
     pub body_patience: Duration,
 }
 
-impl<R: Wait + Clock + Drop> Drop for Gateway<R> {
+impl<R: Wait + Clock + Drop, S: CallServer<R>> Drop for Gateway<R, S> {
     fn drop(self) {
         let Gateway {
             rt: _,
             alloc: _,
-            jobs: _,
+            server: _,
             requests: _,
             timers: _,
             body_patience: _,
@@ -58,21 +58,21 @@ impl<R: Wait + Clock + Drop> Drop for Gateway<R> {
 }
 
 /// The exchange of one request.
-pub struct Exchange<I, R: Wait + Clock + Drop> {
+pub struct Exchange<I, R: Wait + Clock + Drop, S: CallServer<R>> {
     rt: R,
     alloc: Global,
-    /// None where there was no memory to share them.
-    jobs: Option<Jobs<R>>,
+    /// None where there was no memory to share it.
+    server: Option<Arc<S>>,
     standing: Standing<R>,
     stage: Stage<I, R>,
 }
 
-impl<I: Drop, R: Wait + Clock + Drop> Drop for Exchange<I, R> {
+impl<I: Drop, R: Wait + Clock + Drop, S: CallServer<R>> Drop for Exchange<I, R, S> {
     fn drop(self) {
         let Exchange {
             rt: _,
             alloc: _,
-            jobs: _,
+            server: _,
             standing: _,
             stage: _,
         } = self;
@@ -97,25 +97,29 @@ enum Stage<I, R: Wait + Drop> {
     Over,
 }
 
-impl<I: Drop, R: Wait + Clock + Copy + Drop> Service<Request<Incoming<I>>> for Gateway<R> {
+impl<I, R, S> Service<Request<Incoming<I>>> for Gateway<R, S>
+where
+    I: Drop,
+    R: Wait + Clock + Copy + Drop,
+    S: CallServer<R>,
+{
     type Response = Response<ResponseBody<R>>;
 
     type Error = hyper::Error;
 
-    type Future = Exchange<I, R>;
+    type Future = Exchange<I, R, S>;
 
     ghost calls = { λ _ request exchange. Exchanges request exchange.stage };
 
-    fn call(&self, req: Request<Incoming<I>>) -> Exchange<I, R> {
-        let jobs = match &self.jobs {
-            Some(jobs) => jobs.share(),
-            None => None,
-        };
-        let (route, standing) = self.route(&jobs, &req);
+    fn call(&self, req: Request<Incoming<I>>) -> Exchange<I, R, S> {
+        let (route, standing) = self.route(&req);
         let bound = bound_of(req.body());
         let lost = loss_of(req.headers(), bound);
-        let share = match (&jobs, &route, lost) {
-            (Some(jobs), Ok(route), None) => { jobs.body_share(&self.rt, &*route.tenant, bound) }
+        let share = match (&route, lost) {
+            (Ok(route), None) => {
+                let jobs = self.server.jobs();
+                jobs.body_share(&self.rt, &*route.tenant, bound)
+            }
             _ => BodyShare::None,
         };
         let terms = BodyTerms {
@@ -134,27 +138,21 @@ impl<I: Drop, R: Wait + Clock + Copy + Drop> Service<Request<Incoming<I>>> for G
         Exchange {
             rt: self.rt,
             alloc: self.alloc,
-            jobs,
+            server: Arc::try_clone(&self.server).ok(),
             standing,
             stage: Stage::Reading(reading),
         }
     }
 }
 
-impl<R: Wait + Clock + Copy + Drop> Gateway<R> {
+impl<R: Wait + Clock + Copy + Drop, S: CallServer<R>> Gateway<R, S> {
     /// The route of a request, and how the connection stands to its tenant.
-    fn route<B>(
-        &self,
-        jobs: &Option<Jobs<R>>,
-        req: &Request<B>,
-    ) -> (Result<Route, Refusal>, Standing<R>)
+    fn route<B>(&self, req: &Request<B>) -> (Result<Route, Refusal>, Standing<R>)
         ensures { IsRouteOf (head_of req.now).method (uri_path (head_of req.now).uri) result.0 }
     {
-        let Some(jobs) = jobs else {
-            return (Err(Refusal::Memory), Standing::Free);
-        };
         let method = req.method().as_str().as_bytes();
-        let route = match route(&self.rt, jobs, method, req.uri().path().as_bytes()) {
+        let path = req.uri().path().as_bytes();
+        let route = match route(&self.rt, self.server.jobs(), method, path) {
             Ok(route) => route,
             Err(refusal) => return (Err(refusal), Standing::Free),
         };
@@ -177,7 +175,7 @@ impl<R: Wait + Clock + Copy + Drop> Gateway<R> {
     }
 }
 
-impl<I: Drop, R: Wait + Clock + Copy + Drop> Future for Exchange<I, R> {
+impl<I: Drop, R: Wait + Clock + Copy + Drop, S: CallServer<R>> Future for Exchange<I, R, S> {
     type Output = Result<Response<ResponseBody<R>>, hyper::Error>;
 
     ghost gives = { λ exchange told. IfOk told (λ response. ∥ IsResponseOf exchange.stage response ∥₁) };
@@ -193,7 +191,7 @@ impl<I: Drop, R: Wait + Clock + Copy + Drop> Future for Exchange<I, R> {
     }
 }
 
-impl<I: Drop, R: Wait + Clock + Copy + Drop> Exchange<I, R> {
+impl<I: Drop, R: Wait + Clock + Copy + Drop, S: CallServer<R>> Exchange<I, R, S> {
     /// What the request is told. It fails where the peer breaks off, or the server ends.
     fn poll_told(&mut self, cx: &mut Context<'_>) -> Poll<Result<Told<R>, hyper::Error>>
         ensures answered { IfReady result (λ it. IfOk it (λ told. IsStageAnswer self.old.stage told.answer)) }
@@ -219,6 +217,11 @@ impl<I: Drop, R: Wait + Clock + Copy + Drop> Exchange<I, R> {
         let Stage::Reading(reading) = &mut self.stage else {
             return Poll::Ready(Ok(None));
         };
+        if let Some(server) = &self.server
+            && !server.may_serve()
+        {
+            return cx.yield_now();
+        }
         match ready!(reading.poll_whole(cx)) {
             Ok(whole) => Poll::Ready(Ok(self.begin(whole))),
             Err(e) => {
@@ -261,7 +264,7 @@ impl<I: Drop, R: Wait + Clock + Copy + Drop> Exchange<I, R> {
         let Stage::Reading(reading) = mem::replace(&mut self.stage, Stage::Over) else {
             return None;
         };
-        match reading.begin(self.rt, self.alloc, whole, &self.jobs) {
+        match reading.begin(self.rt, self.alloc, whole, &self.server) {
             Begun::Answered(told) => Some(told),
             Begun::Pending(call) => {
                 self.stage = Stage::Pending(call);

@@ -23,8 +23,8 @@ use hyper::header::{self, HeaderMap};
 use std::alloc::{AllocError, Global};
 use std::mem;
 use std::rt::Clock;
-use std::sync::Wait;
-use tenant_scheduler::{Begun, Jobs, RequestBody, Route, Unanswered};
+use std::sync::{Arc, Wait};
+use tenant_scheduler::{Begun, CallServer, RequestBody, Route, Unanswered};
 
 /// How many pieces of a body are read in one poll.
 const PIECES_A_POLL: usize = 128;
@@ -292,12 +292,12 @@ impl<I: Drop, R: Wait + Clock + Copy + Drop> Reading<I, R> {
     }
 
     /// Begins the call of a request that was read, or refuses it.
-    pub(crate) fn begin(
+    pub(crate) fn begin<S: CallServer<R>>(
         self,
         rt: R,
         alloc: Global,
         _whole: WholeBody,
-        jobs: &Option<Jobs<R>>,
+        server: &Option<Arc<S>>,
     ) -> Begun<R>
         ensures { IsTakenUp self.route self.lost self.read.items result }
     {
@@ -320,12 +320,15 @@ impl<I: Drop, R: Wait + Clock + Copy + Drop> Reading<I, R> {
         };
         if let Some(loss) = lost {
             let refusal = loss.refusal();
-            return Begun::Answered(match jobs {
-                Some(jobs) => { jobs.refused(&rt, alloc, unanswered, &route, read.len(), refusal) }
+            return Begun::Answered(match server {
+                Some(server) => {
+                    let jobs = server.jobs();
+                    jobs.refused(&rt, alloc, unanswered, &route, read.len(), refusal)
+                }
                 None => unanswered.refused(alloc, refusal),
             });
         }
-        let Some(jobs) = jobs else {
+        let Some(server) = server else {
             return Begun::Answered(unanswered.refused(alloc, Refusal::Memory));
         };
         let share = terms.into_share().for_body(read.len());
@@ -334,7 +337,7 @@ impl<I: Drop, R: Wait + Clock + Copy + Drop> Reading<I, R> {
             share,
             tree,
         };
-        Begun::new(&rt, alloc, jobs, unanswered, route, body)
+        Begun::new(&rt, alloc, &**server, unanswered, route, body)
     }
 }
 

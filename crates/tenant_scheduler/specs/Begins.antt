@@ -1,7 +1,6 @@
 -- How a call begins.
 use Rattle.std.specs.Prelude.{◌≡◌, ℕ, List}
-use Rattle.etcd_types.specs.declared.refusal.Refusal.TheVariants.{Memory}
-use Rattle.fair_turns.specs.Answers.{Refuses}
+use Rattle.fair_turns.specs.Answers.{Answers}
 use Rattle.tenant_scheduler.specs.declared.begun.Begun.{Begun}
 use Rattle.tenant_scheduler.specs.declared.begun.Begun.TheVariants.{Pending, Answered}
 use Rattle.tenant_scheduler.specs.declared.caller.unserved.PendingCall.{PendingCall}
@@ -12,7 +11,7 @@ pub record WaitsFor {R : Type 0} (call : PendingCall R) (route : Route) (body : 
   pub route_is : call.request.value.route ≡ route
   pub body_is : call.request.value.body.bytes.items ≡ body
 
--- it waits; or it is told that there is no memory
+-- it waits; or it is told at once what a request for this call may be, by this body
 abbrev pub IsBegun : {R : Type 0} → Begun R → Route → List ℕ → Type 0
 IsBegun (Pending call) route body = WaitsFor call route body
-IsBegun (Answered told) route body = Refuses Memory told.answer
+IsBegun (Answered told) route body = ∥ Answers route.tenant.value.number route.call body told.answer ∥₁

@@ -1,15 +1,21 @@
--- What becomes of a brief request at an event loop.
+-- What becomes of a brief request where it was read.
 use Rattle.std.specs.Prelude.{◌≡◌, ℕ, List, Result, Ok, Err}
 use Rattle.etcd_types.specs.declared.step.Step.{Step}
 use Rattle.tenant_audit.specs.Receipts.{Slip}
 use Rattle.tenant_calls.specs.Counts.{Counts, IsNoMore}
-use Rattle.tenant_scheduler.specs.declared.caller.unserved.JobAnswer.{JobAnswer}
-use Rattle.tenant_scheduler.specs.declared.job_queue.BriefRequest.{BriefRequest}
+use Rattle.tenant_scheduler.specs.declared.brief_request.BriefRequest.{BriefRequest}
+use Rattle.tenant_scheduler.specs.declared.caller.told.Told.{Told}
 use Rattle.tenant_scheduler.specs.Makes.{IsMade}
+use Rattle.tenant_scheduler.specs.Requests.{IsAnswerOf}
 
--- its step is served once, on its own tenant; or it is left to a worker as it is, and no call was made
-abbrev pub IsOutcome : {R K : Type 0} → (K → ℕ) → (K → List ℕ) → (ℕ → Step → Slip → Type 0) → BriefRequest R
-    → Result (JobAnswer R) (BriefRequest R) → Counts → Counts → Type 0
+-- it is told what it may be; or it is left as it is
+abbrev pub IsServed : {R : Type 0} → BriefRequest → Result (Told R) BriefRequest → Type 0
+IsServed brief (Ok told) = ∥ IsAnswerOf brief.asked.request told.answer ∥₁
+IsServed brief (Err left) = left ≡ brief
+
+-- its step is served once, on its own tenant; or no call was made
+abbrev pub IsOutcome : {R K : Type 0} → (K → ℕ) → (K → List ℕ) → (ℕ → Step → Slip → Type 0) → BriefRequest
+    → Result (Told R) BriefRequest → Counts → Counts → Type 0
 IsOutcome number_of name_of gives brief (Ok told) old new =
-    IsMade number_of name_of gives brief.unserved.request.value.route.tenant.value brief.step told.own.answer old new
-IsOutcome number_of name_of gives brief (Err left) old new = (left ≡ brief) × IsNoMore old new
+    IsMade number_of name_of gives brief.asked.request.route.tenant.value brief.step told.answer old new
+IsOutcome number_of name_of gives brief (Err left) old new = IsNoMore old new

@@ -7,7 +7,7 @@ ghost use Rattle.tenant_calls.specs.Answers.{IsTold, IsUncalled};
 ghost use Rattle.tenant_calls.specs.Counts.{IsNoMore};
 ghost use Rattle.tenant_scheduler.specs.Makes.{IsCounted, IsMade, IsOpened};
 ghost use Rattle.tenant_scheduler.specs.OwnSteps.{IsMoment, IsOrdered, IsOwnMade};
-ghost use Rattle.tenant_scheduler.specs.Requests.{IsStepOf};
+ghost use Rattle.tenant_scheduler.specs.Requests.{IsAnswerOf, IsStepOf};
 ghost use Rattle.tenant_scheduler.specs.Watches.{IsListed, opens};
 
 mod told;
@@ -25,6 +25,7 @@ use std::alloc::Global;
 use std::rt::Clock;
 use std::sync::Wait;
 use tenant_calls::{CallReceipt, TenantCalls, TenantKey};
+pub(crate) use told::OpenRequest;
 pub use told::{Told, Unanswered};
 pub use unserved::PendingCall;
 pub(crate) use unserved::{JobAnswer, Unserved};
@@ -152,6 +153,24 @@ impl<R: Wait + Clock + Drop, C: TenantCalls> Caller<R, C> {
     {
         let answer = self.told(alloc, clients, unserved.request().tenant(), step);
         unserved.answered(answer)
+    }
+
+    /// The same for a request that nobody waits for elsewhere.
+    pub(crate) fn answer_at_once(
+        &mut self,
+        alloc: Global,
+        clients: &Clients<C::Key>,
+        asked: OpenRequest,
+        step: Step,
+    ) -> Told<R>
+        requires step { IsStepOf asked.request step }
+        requires opens { opens step ≡ false }
+        ensures answered { ∥ IsAnswerOf asked.request result.answer ∥₁ }
+        ensures made { IsMade C.Key.number_of C.Key.name_of C.gives asked.request.route.tenant.value step
+            result.answer (C.made self.old.calls) (C.made self.new.calls) }
+    {
+        let answer = self.told(alloc, clients, asked.request().tenant(), step);
+        asked.told(answer)
     }
 
     /// Answers a request that creates a watch, which is kept with its tenant's clients: there is room for it.

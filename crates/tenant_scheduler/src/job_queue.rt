@@ -3,17 +3,14 @@
 //! Each connection has one call under way, so no more wait than the tenant has connections, but for those whose clients have
 //! gone meanwhile. These are let go whenever the queue has grown to twice what was left of it: so they never are more than the
 //! others, or than a few hundred.
-ghost use Rattle.std.specs.Prelude.{◌≡◌, true};
-ghost use Rattle.etcd_types.specs.Steps.{is_brief};
 ghost use Rattle.tenant_calls.specs.Answers.{IsUncalled};
-ghost use Rattle.tenant_scheduler.specs.Requests.{IsReadAs, IsStepOf};
+ghost use Rattle.tenant_scheduler.specs.Requests.{IsReadAs};
 
 use crate::caller::{JobAnswer, Unserved};
 use etcd_types::{Refusal, Step};
 use fair_turns::Stopwatch;
 use std::alloc::Global;
 use std::collections::VecDeque;
-use std::rt::Clock;
 use std::sync::{Mutex, Wait};
 
 /// How many jobs may wait before those are looked for whose clients have gone.
@@ -41,27 +38,6 @@ impl<R: Wait + Drop> Job<R> {
             waiting: _,
         } = self;
         unserved.refused(alloc, refusal)
-    }
-}
-
-/// A request whose step looks at one key at most.
-#[derive(Drop)]
-pub(crate) struct BriefRequest<R: Wait + Drop> {
-    pub(crate) unserved: Unserved<R>,
-    pub(crate) step: Step,
-    pub(crate) ghost asked: { IsStepOf unserved.request.value step },
-    pub(crate) ghost brief: { is_brief step ≡ true },
-}
-
-impl<R: Wait + Clock + Drop> BriefRequest<R> {
-    /// The same for a worker.
-    pub(crate) fn into_job(self, rt: &R) -> Job<R> {
-        let BriefRequest { unserved, step } = self;
-        Job {
-            unserved,
-            step: Some(step),
-            waiting: Stopwatch::start(rt),
-        }
     }
 }
 

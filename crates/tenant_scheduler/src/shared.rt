@@ -114,7 +114,7 @@ pub fn open<R: Wait + Clock + Drop, K: TenantKey>(
         beats,
         tenants,
     };
-    Ok((Jobs::new(alloc, entrances)?, Arc::new(alloc, shared)?))
+    Ok((Jobs::new(entrances), Arc::new(alloc, shared)?))
 }
 
 /// Tenants by their keys and terms, and where their calls go in.

@@ -8,7 +8,6 @@
 //! its key is gone, the jobs that wait are answered that it is not there, and its watches end; its number finds nothing.
 use crate::clients::Clients;
 use crate::entrances::{Entrance, Entrances, NamedInParts};
-use crate::job_queue::Job;
 use auto_compaction::{Retention, StandingOrder};
 use crossbeam_utils::sync::{ShardedLock, ShardedLockReadGuard};
 use etcd_types::Mem;
@@ -205,11 +204,6 @@ impl<R: Wait + Drop, K: TenantKey> Tenants<R, K> {
     /// The tenants by their numbers. None comes or goes as long as they are looked at.
     pub(crate) fn by_number(&self, rt: &R, shard: usize) -> ShardedLockReadGuard<'_, Served<R, K>> {
         self.served.read(rt, shard)
-    }
-
-    /// Leaves a job in its tenant's queue.
-    pub(crate) fn queue(&self, rt: &R, alloc: Global, shard: usize, job: Job<R>) {
-        self.entrances.queue(rt, alloc, shard, job);
     }
 
     /// Work is due on all tenants.

@@ -2,7 +2,7 @@
 ghost use Rattle.std.specs.Prelude.{◌≡◌, IfOk, IfSome, None};
 
 use crate::fault::ServeFault;
-use crate::streams::Streams;
+use crate::streams::{SocketConnection, Streams};
 use crate::threads::ThreadEnd;
 use connection_table::{ConnectionTable, LOOPS, Losses, OpenConnection, Patience, Stopping};
 use crossbeam_channel::{Receiver, Sender, bounded};
@@ -15,11 +15,11 @@ use std::alloc::{AllocGlobal, Global};
 use std::hash::RandomState;
 use std::os::fd::AsRawFd;
 use std::random::RandomSource;
-use std::sync::Wait;
+use std::sync::{Arc, Wait};
 use std::time::{Clock, Duration, Instant};
 use std::{io, net, thread};
 use tenant_calls::TenantCalls;
-use tenant_scheduler::{InlineCalls, Jobs, ServingThread};
+use tenant_scheduler::{CallServer, InlineCalls, Jobs, ServingThread};
 use tokio::net::TcpStream;
 use tokio::reactor;
 use tokio::runtime::LocalRuntime;
@@ -60,6 +60,13 @@ pub(crate) struct SocketLoop {
     start: Instant,
     losses: Losses,
     ready: Sender<()>,
+}
+
+impl SocketLoop {
+    /// Which of the loops it is, from 0 on.
+    pub(crate) fn number(&self) -> usize {
+        self.number
+    }
 }
 
 /// Where a loop's connections go in.
@@ -164,7 +171,7 @@ pub(crate) fn end_connections<R: Wait + Clock + Drop>(rt: &R, table: &Connection
 /// A connection as a task: its end, whatever it is, is the end of the task and of nothing else. It stands on the heap: a
 /// set of tasks moves a task each time it polls it, and keeps a place for as many as it ever had at once.
 #[derive(Drop)]
-struct Served<C> {
+pub(crate) struct Served<C> {
     open: Option<OpenConnection>,
     connection: Option<Box<C>>,
 }
@@ -210,70 +217,111 @@ impl<E: Drop, C: Future<Output = Result<(), E>>> Future for Served<C> {
 
 /// A connection of a loop.
 #[derive(Drop)]
-struct Arrived {
+pub(crate) struct Arrived {
     open: OpenConnection,
     stream: TcpStream,
     /// Its socket's number.
     number: u64,
 }
 
-/// Takes a loop's connections in, each as a task of a set, and serves their inline calls. Ready once no more come.
+/// What makes tasks of a loop's connections. Its loop proves nothing of what they are made of.
+pub(crate) trait MakesTasks<T: Future>: Drop {
+    /// A connection as a task, or without one a task that has ended; none where there is no memory.
+    fn make(&self, arrived: Option<Arrived>) -> Mem<T>
+        ensures { IfOk result T.can_poll };
+}
+
+/// Makes tasks of the connections over sockets, as these streams serve them.
+pub(crate) struct TaskMaker<R: Wait + Clock + Copy + Drop, S: CallServer<R>> {
+    rt: R,
+    alloc: Global,
+    /// When the table of connections began.
+    start: Instant,
+    streams: Streams<R, S, TokioTimer<R>>,
+}
+
+impl<R: Wait + Clock + Copy + Drop, S: CallServer<R>> Drop for TaskMaker<R, S> {
+    fn drop(self) {
+        let TaskMaker {
+            rt: _,
+            alloc: _,
+            start: _,
+            streams: _,
+        } = self;
+    }
+}
+
+impl<R, S> MakesTasks<Served<SocketConnection<R, S>>> for TaskMaker<R, S>
+where
+    R: Wait + Clock + Copy + Drop,
+    S: CallServer<R>,
+{
+    fn make(&self, arrived: Option<Arrived>) -> Mem<Served<SocketConnection<R, S>>> {
+        let Some(arrived) = arrived else {
+            return Ok(Served::ended());
+        };
+        let Arrived {
+            open,
+            stream,
+            number,
+        } = arrived;
+        let requests = open.requests(self.rt, self.start);
+        Served::of(
+            self.alloc,
+            open,
+            self.streams.socket(stream, number, requests)?,
+        )
+    }
+}
+
+/// Takes a loop's connections in, each as a task of a set. Ready once no more come.
 ///
 /// A connection for which there is no memory is closed, and nothing else happens: what is short may be there again
 /// for the next one.
 #[derive(Drop)]
-struct Connections<'a, R: Wait + Drop, C: TenantCalls, F, T: Future> {
-    inline_calls: &'a mut InlineCalls<R, C>,
+struct Connections<'a, R: Wait + Drop, S: CallServer<R>, M, T: Future> {
+    rt: R,
+    server: &'a S,
     sockets: UnboundedReceiver<Accepted>,
     losses: Losses,
     reactor: reactor::Handle,
     tasks: &'a TaskSet<T>,
-    /// None once no more connections come.
-    make: Option<F>,
+    maker: M,
     beats: Option<Interval>,
 }
 
-impl<R, C, F, T> Future for Connections<'_, R, C, F, T>
+impl<R, S, M, T> Future for Connections<'_, R, S, M, T>
 where
-    R: Wait + Clock + Copy + Drop,
-    C: TenantCalls,
-    F: Fn(Option<Arrived>) -> Mem<T> + Drop,
+    R: Wait + Drop,
+    S: CallServer<R>,
+    M: MakesTasks<T>,
     T: Future<Output = ()>,
 {
     type Output = ();
-
-    ghost can_poll = { λ a. IfSome a.make (λ make. F.IsAlwaysCallable make
-        × ((arrived : _) (made : _) → F.post make arrived made → IfOk made T.can_poll)) };
 
     fn poll(&mut self, cx: &mut Context<'_>) -> Poll<()> {
         if let Some(beats) = &mut self.beats
             && beats.poll_tick(cx).is_ready()
         {
-            self.inline_calls.beat();
+            self.server.beat();
             return cx.yield_now();
         }
-        if let Some(make) = &self.make {
-            match self.sockets.poll_recv(cx) {
-                Poll::Ready(Some(Accepted { open, socket })) => {
-                    let number = u64::try_from(socket.as_raw_fd()).unwrap_or(0);
-                    if let Ok(stream) = TcpStream::from_std(socket, &self.reactor) {
-                        let _ = stream.set_nodelay(true);
-                        let arrived = Arrived {
-                            open,
-                            stream,
-                            number,
-                        };
-                        if !begin(self.tasks, make(Some(arrived))) {
-                            self.losses.add();
-                        }
-                    }
-                    return cx.yield_now();
-                }
-                Poll::Ready(None) => self.make = None,
-                Poll::Pending => {}
+        let Some(Accepted { open, socket }) = ready!(self.sockets.poll_recv(cx)) else {
+            return Poll::Ready(());
+        };
+        let number = u64::try_from(socket.as_raw_fd()).unwrap_or(0);
+        if let Ok(stream) = TcpStream::from_std(socket, &self.reactor) {
+            let _ = stream.set_nodelay(true);
+            let arrived = Arrived {
+                open,
+                stream,
+                number,
+            };
+            if !begin(self.tasks, self.maker.make(Some(arrived))) {
+                self.losses.add();
             }
         }
-        self.inline_calls.poll_end(cx)
+        cx.yield_now()
     }
 }
 
@@ -288,24 +336,25 @@ fn begin<T: Future<Output = ()>>(tasks: &TaskSet<T>, made: Mem<T>) -> bool
 }
 
 /// By what the connections of a loop are served, whose timers are those of its runtime.
-fn streams_of<R>(
+fn streams_of<R, S>(
     rt: R,
     alloc: Global,
     runtime: &LocalRuntime,
-    jobs: Jobs<R>,
+    server: Arc<S>,
     patience: Patience,
-) -> io::Result<Streams<R, TokioTimer<R>>>
+) -> io::Result<Streams<R, S, TokioTimer<R>>>
 where
     R: Wait + Clock + RandomSource + Copy + Drop,
+    S: CallServer<R>,
 {
     let keys = RandomState::new(&rt)?;
     let timers = runtime.handle().time();
     let timer = TokioTimer::new(rt, timers.clone()?);
     let timers = Some(timers.clone()?);
-    Ok(Streams::new(rt, alloc, keys, jobs, timer, timers, patience))
+    Ok(Streams::new(rt, alloc, keys, server, timer, timers, patience))
 }
 
-/// Serves a loop's connections, until there are no more and the last has ended.
+/// Serves a loop's connections and their brief calls, until there are no more and the last has ended.
 pub(crate) fn serve_connections<R, C>(
     rt: R,
     alloc: Global,
@@ -317,26 +366,23 @@ where
     R: Wait + Clock + RandomSource + AllocGlobal + Copy + Drop,
     C: TenantCalls,
 {
-    let Ok((jobs, inline_calls)) = jobs.with_inline_calls(alloc, own.number) else {
-        return (thread.into_calls(), Err(ServeFault::Memory));
+    let calls = InlineCalls::new(rt, alloc, own.number, jobs, thread);
+    let calls = match Arc::new(alloc, calls) {
+        Ok(calls) => calls,
+        Err(failed) => return (Some(failed.value.into_calls()), Err(ServeFault::Memory)),
     };
-    let mut inline_calls = InlineCalls::new(alloc, thread, inline_calls);
-    let served = serve_sockets(rt, alloc, own, jobs, &mut inline_calls);
+    let served = serve_sockets(rt, alloc, own, &calls);
     let served = served.map_err(|error| ServeFault::of(&error));
-    (inline_calls.into_calls(), served)
+    // All connections have ended, which shared it.
+    let calls = Arc::into_inner(calls).map(InlineCalls::into_calls);
+    (calls, served)
 }
 
-/// Runs a loop's connections as tasks.
-fn serve_sockets<R, C>(
-    rt: R,
-    alloc: Global,
-    own: SocketLoop,
-    jobs: Jobs<R>,
-    inline_calls: &mut InlineCalls<R, C>,
-) -> io::Result<()>
+/// Runs a loop's connections as tasks, whose calls are served so.
+fn serve_sockets<R, S>(rt: R, alloc: Global, own: SocketLoop, server: &Arc<S>) -> io::Result<()>
 where
     R: Wait + Clock + RandomSource + AllocGlobal + Copy + Drop,
-    C: TenantCalls,
+    S: CallServer<R>,
 {
     let SocketLoop {
         mut runtime,
@@ -347,21 +393,14 @@ where
         losses,
         ready,
     } = own;
-    let streams = streams_of(rt, alloc, &runtime, jobs, patience)?;
+    let streams = streams_of(rt, alloc, &runtime, Arc::try_clone(server)?, patience)?;
     let reactor = runtime.handle().reactor().clone()?;
     let beats = beats_of(&rt, &runtime);
-    let make = move |arrived| {
-        let Some(arrived) = arrived else {
-            return Ok(Served::ended());
-        };
-        let Arrived {
-            open,
-            stream,
-            number,
-        } = arrived;
-        let requests = open.requests(rt, start);
-        let stream = streams.paced(stream, number);
-        Served::of(alloc, open, streams.connection(stream, requests))
+    let maker = TaskMaker {
+        rt,
+        alloc,
+        start,
+        streams,
     };
     let arriving = Arriving {
         sockets,
@@ -370,7 +409,7 @@ where
         beats,
         ready,
     };
-    run_tasks(&rt, &mut runtime, inline_calls, arriving, make)
+    run_tasks(rt, &mut runtime, &**server, arriving, maker)
 }
 
 /// When a loop shows that it moves; none where there is no memory for that.
@@ -391,21 +430,19 @@ struct Arriving {
     ready: Sender<()>,
 }
 
-/// Runs a loop's connections as tasks that a function makes; without a connection it makes one that has ended.
-fn run_tasks<R, C, F, T>(
-    rt: &R,
+/// Runs a loop's connections as tasks.
+fn run_tasks<R, S, M, T>(
+    rt: R,
     runtime: &mut LocalRuntime,
-    inline_calls: &mut InlineCalls<R, C>,
+    server: &S,
     arriving: Arriving,
-    make: F,
+    maker: M,
 ) -> io::Result<()>
 where
     R: Wait + Clock + RandomSource + AllocGlobal + Copy + Drop,
-    C: TenantCalls,
-    F: Fn(Option<Arrived>) -> Mem<T> + Drop,
+    S: CallServer<R>,
+    M: MakesTasks<T>,
     T: Future<Output = ()>,
-    requires callable { F.IsAlwaysCallable make }
-    requires pollable { (arrived : _) (made : _) → F.post make arrived made → IfOk made T.can_poll }
 {
     let Arriving {
         sockets,
@@ -414,20 +451,21 @@ where
         beats,
         ready,
     } = arriving;
-    let tasks = runtime.task_set(rt)?;
+    let tasks = runtime.task_set(&rt)?;
     for _ in 0..ROOMS {
-        let _ = begin(&tasks, make(None));
+        let _ = begin(&tasks, maker.make(None));
     }
-    let _ = ready.send(rt, ());
+    let _ = ready.send(&rt, ());
     drop(ready);
     let connections = Connections {
-        inline_calls,
+        rt,
+        server,
         sockets,
         losses,
         reactor,
         tasks: &tasks,
-        make: Some(make),
+        maker,
         beats,
     };
-    runtime.block_on_with(rt, &tasks, connections)
+    runtime.block_on_with(&rt, &tasks, connections)
 }

@@ -316,8 +316,14 @@ where
     let Some(jobs) = jobs.share() else {
         return End::Fault;
     };
+    let Ok(jobs) = Arc::new(alloc, jobs) else {
+        return End::Fault;
+    };
     let streams = Streams::new(rt, alloc, keys, jobs, NoTimer, None, Patience::DEFAULT);
-    match block_on(&rt, streams.connection(io, None)) {
+    let Ok(connection) = streams.connection(io, None) else {
+        return End::Fault;
+    };
+    match block_on(&rt, connection) {
         Ok(Ok(())) => End::Finished,
         _ => End::Fault,
     }

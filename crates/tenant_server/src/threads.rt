@@ -120,8 +120,8 @@ where
     )
 }
 
-/// What a thread called tenants by, which it gives back, and how its work ended.
-pub(crate) type ThreadEnd<C> = (C, Result<(), ServeFault>);
+/// What a thread called tenants by, which it gives back unless a connection still has it, and how its work ended.
+pub(crate) type ThreadEnd<C> = (Option<C>, Result<(), ServeFault>);
 
 /// When a thread ends.
 #[derive(Clone, Copy)]
@@ -174,13 +174,13 @@ impl<C: TenantCalls> ThreadGroup<C> {
         let mut served = Ok(());
         for thread in loops {
             let (own, end) = thread.join(rt);
-            let _ = calls.push(own);
+            keep(&mut calls, own);
             served = served.and(end);
         }
         shared.stop(rt, roles);
         for thread in others {
             let (own, _) = thread.join(rt);
-            let _ = calls.push(own);
+            keep(&mut calls, own);
         }
         (calls, served)
     }
@@ -188,6 +188,13 @@ impl<C: TenantCalls> ThreadGroup<C> {
     /// There is a thread for each role.
     fn is_whole(&self, roles: usize) -> bool {
         self.loops.len().saturating_add(self.others.len()) == roles
+    }
+}
+
+/// One more thread's way to call tenants is given back.
+fn keep<C: Drop>(calls: &mut Vec<C>, own: Option<C>) {
+    if let Some(own) = own {
+        let _ = calls.push(own);
     }
 }
 
@@ -204,7 +211,8 @@ impl<R: Wait + Drop> Role<R> {
         if place >= BESIDE_WORKERS
             && let Some(own) = loops.pop()
         {
-            return Some(Role::Loop(own, jobs.share()?));
+            let jobs = jobs.of_loop(own.number())?;
+            return Some(Role::Loop(own, jobs));
         }
         Some(Role::Service(Service::at(place)))
     }
@@ -228,7 +236,7 @@ where
         Role::Service(service) => {
             let mut thread = thread;
             service.run(alloc, &mut thread);
-            (thread.into_calls(), Ok(()))
+            (Some(thread.into_calls()), Ok(()))
         }
     }
 }

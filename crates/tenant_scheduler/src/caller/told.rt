@@ -7,7 +7,7 @@ ghost use Rattle.std.specs.Prelude.{◌≡◌, IfSome};
 ghost use Rattle.fair_turns.specs.Answers.{Refuses};
 ghost use Rattle.tenant_scheduler.specs.Requests.{AsksTheSame, IsAnswerOf};
 
-use crate::request::Request;
+use crate::request::{Request, RequestBody, Route};
 use etcd_types::Refusal;
 use fair_turns::Answer;
 use std::alloc::Global;
@@ -33,6 +33,53 @@ impl Unanswered {
         Told {
             answer: refusal_of(alloc, refusal),
         }
+    }
+}
+
+/// A request that was read and is not answered yet.
+#[derive(Drop)]
+pub(crate) struct OpenRequest {
+    request: Request,
+    unanswered: Unanswered,
+}
+
+impl OpenRequest {
+    pub(crate) fn new(unanswered: Unanswered, route: Route, body: RequestBody) -> OpenRequest
+        ensures { result.request ≡ record { route = route; body = body } }
+    {
+        OpenRequest {
+            request: Request { route, body },
+            unanswered,
+        }
+    }
+
+    pub(crate) fn request(&self) -> &Request
+        ensures { result.now ≡ self.now.request }
+    {
+        &self.request
+    }
+
+    /// What it is told at once.
+    pub(super) fn told<R: Wait + Drop>(self, answer: Answer<R>) -> Told<R>
+        requires { ∥ IsAnswerOf self.request answer ∥₁ }
+        ensures { result.answer ≡ answer }
+    {
+        let OpenRequest {
+            request: _,
+            unanswered: _,
+        } = self;
+        Told { answer }
+    }
+
+    /// The request, and that it is not answered.
+    pub(crate) fn into_parts(self) -> (Request, Unanswered)
+        ensures { result.0 ≡ self.request }
+    {
+        let OpenRequest {
+            request,
+            unanswered,
+        } = self;
+        (request, unanswered)
     }
 }
 

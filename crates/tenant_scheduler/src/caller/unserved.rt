@@ -8,8 +8,8 @@ ghost use Rattle.fair_turns.specs.Answers.{Refuses};
 ghost use Rattle.tenant_calls.specs.Answers.{IsUncalled};
 ghost use Rattle.tenant_scheduler.specs.Requests.{IsAnswerOf, IsUnread};
 
-use super::told::{OwnAnswer, Told, Unanswered, refusal_of};
-use crate::request::{Request, RequestBody, Route};
+use super::told::{OpenRequest, OwnAnswer, Told, Unanswered, refusal_of};
+use crate::request::Request;
 use etcd_types::{Mem, Refusal};
 use fair_turns::{Answer, TenantCounts};
 use futures::channel::oneshot;
@@ -30,14 +30,13 @@ impl<R: Wait + Drop> Unserved<R> {
     /// A request, for who serves it and for who waits for its answer. Without memory it is as unanswered as before.
     pub(crate) fn new(
         alloc: Global,
-        unanswered: Unanswered,
-        route: Route,
-        body: RequestBody,
+        asked: OpenRequest,
     ) -> Result<(Unserved<R>, PendingCall<R>), Unanswered>
-        ensures served { IfOk result (λ it. it.0.request.value ≡ record { route = route; body = body }) }
-        ensures asked { IfOk result (λ it. it.1.request.value ≡ record { route = route; body = body }) }
+        ensures served { IfOk result (λ it. it.0.request.value ≡ asked.request) }
+        ensures asked { IfOk result (λ it. it.1.request.value ≡ asked.request) }
     {
-        match Ends::new(alloc, Request { route, body }) {
+        let (request, unanswered) = asked.into_parts();
+        match Ends::new(alloc, request) {
             Ok(ends) => {
                 let Ends {
                     served,
