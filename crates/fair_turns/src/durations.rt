@@ -34,15 +34,40 @@ impl Durations {
         }
         self.nanos.fetch_add(nanos, Ordering::Relaxed);
     }
+}
+
+/// Durations of several places together, as they were when they were read.
+#[derive(Drop)]
+pub struct Histogram {
+    parts: [u64; PARTS],
+    nanos: u64,
+}
+
+impl Histogram {
+    /// Of none.
+    pub(crate) fn new() -> Histogram {
+        Histogram {
+            parts: [0; PARTS],
+            nanos: 0,
+        }
+    }
+
+    /// With those too.
+    pub(crate) fn add(&mut self, durations: &Durations) {
+        for (sum, part) in self.parts.iter_mut().zip(durations.parts.iter()) {
+            *sum = sum.saturating_add(part.load(Ordering::Relaxed));
+        }
+        let nanos = durations.nanos.load(Ordering::Relaxed);
+        self.nanos = self.nanos.saturating_add(nanos);
+    }
 
     /// How many lie in the part at this place, behind the last of which there is none.
     pub fn part(&self, place: usize) -> Option<u64> {
-        let part = self.parts.get(place)?;
-        Some(part.load(Ordering::Relaxed))
+        self.parts.get(place).copied()
     }
 
     /// Their sum in nanoseconds.
     pub fn nanos(&self) -> u64 {
-        self.nanos.load(Ordering::Relaxed)
+        self.nanos
     }
 }

@@ -26,13 +26,13 @@ mod tree_weight;
 mod watch_texts;
 
 pub use answer::{Answer, Text};
-pub use answered::{AnsweredCalls, CALLS, LAST_REFUSAL, STATUSES};
+pub use answered::{CALLS, LAST_REFUSAL, STATUSES};
 pub use beats::Beats;
 pub use budget::{
     AwaitedShare, BodyShare, Budget, DEFAULT_BUDGET, LONGEST_ROW, MadeText, SHORT, Share, TextShare,
 };
-pub use counts::TenantCounts;
-pub use durations::{Durations, ENDS};
+pub use counts::{PARTS, PartCounts, TenantCounts};
+pub use durations::{Durations, ENDS, Histogram};
 pub use scheduler::{BESIDE_WORKERS, Scheduler, TenantTurns, Turn, Turns, Work};
 pub use stopwatch::Stopwatch;
 pub use taken_text::{TakenText, WatchTake};

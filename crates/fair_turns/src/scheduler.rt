@@ -3,7 +3,7 @@
 //! A tenant is served by one thread at a time, which has the *turn* there. Work that becomes due meanwhile is marked,
 //! and the tenant goes through the channels of the threads that do it: it is in one of them at most, once, so no
 //! channel is ever full. A turn ends by handing the tenant to the work that is due next, in a fixed round, behind all
-//! other tenants there. An event loop takes a turn only where nobody has it, and waits for none.
+//! other tenants there. An event loop takes a turn for one brief call, and only where nobody has it.
 use crate::slow_tenants::SlowTenants;
 use crossbeam_channel::{Receiver, Sender, bounded};
 use crossbeam_utils::CachePadded;
@@ -16,8 +16,11 @@ use std::sync::atomic::{AtomicU64, Ordering};
 use std::time::Duration;
 use std::{hint, thread};
 
-/// How often an event loop looks whether a tenant is idle: for as long as a brief call takes.
-const LOOKS: u32 = 64;
+/// How often an event loop looks whether another one has ended its turn: for as long as it takes to wake a worker.
+const LOOKS: u32 = 512;
+
+/// How often it looks whether any other turn has ended: for as long as a brief call takes.
+const BRIEF_LOOKS: u32 = 64;
 
 /// What may be due on a tenant, in the order of the round.
 #[derive(Clone, Copy)]
@@ -118,8 +121,14 @@ const IDLE: u64 = 0;
 /// Somebody has the turn, and nothing else is due.
 const RUNNING: u64 = 1;
 
+/// An event loop has the turn, for one brief call, and nothing else is due.
+const RUNNING_IN_LOOP: u64 = RUNNING | IN_LOOP;
+
 /// The tenant was removed: no turn begins there any more.
 const RETIRED: u64 = 32;
+
+/// Who has the turn is an event loop.
+const IN_LOOP: u64 = 64;
 
 /// How many milliseconds lie between two looks whether the last turn on a tenant has ended.
 const MILLIS_A_LOOK: u64 = 1;
@@ -229,16 +238,28 @@ impl Scheduler {
         true
     }
 
-    /// Takes the turn on a tenant where nobody has it and nothing is due.
-    pub fn try_begin(turns: &TenantTurns) -> bool {
-        for _ in 0..LOOKS {
-            let is_idle = turns.marks.load(Ordering::SeqCst) == IDLE;
-            if is_idle && Scheduler::moves(&turns.marks, IDLE, RUNNING) {
-                return true;
+    /// An event loop takes the turn on a tenant, for one brief call, where nobody has it and nothing is due. It waits a
+    /// little for the end of another turn, and longer where that is another loop's: such a one ends sooner than a worker
+    /// wakes, and what is left to a worker keeps all loops from the tenant until that has served it.
+    pub fn begin_in_loop(turns: &TenantTurns) -> bool {
+        for look in 0..LOOKS {
+            match turns.marks.load(Ordering::SeqCst) {
+                IDLE if Scheduler::moves(&turns.marks, IDLE, RUNNING_IN_LOOP) => return true,
+                IDLE | RUNNING_IN_LOOP => {}
+                _ if look >= BRIEF_LOOKS => return false,
+                _ => {}
             }
             hint::spin_loop();
         }
         false
+    }
+
+    /// Ends the turn of an event loop; the tenant goes on to the work that is due next.
+    pub fn finish_in_loop<R: Wait>(&self, rt: &R, turns: &TenantTurns) {
+        if !Scheduler::moves(&turns.marks, RUNNING_IN_LOOP, IDLE) {
+            turns.marks.fetch_and(!IN_LOOP, Ordering::SeqCst);
+            self.finish(rt, turns, Work::Jobs);
+        }
     }
 
     fn moves(marks: &Marks, from: u64, to: u64) -> bool {

@@ -1,6 +1,6 @@
 //! What a dashboard is told of the tenants, in the text format of Prometheus.
 use etcd_types::{Call, Mem};
-use fair_turns::{CALLS, Durations, ENDS, LAST_REFUSAL, STATUSES, TenantCounts};
+use fair_turns::{CALLS, ENDS, Histogram, LAST_REFUSAL, STATUSES, TenantCounts};
 use std::alloc::Global;
 use std::sync::Arc;
 use tenant_registry::Usage;
@@ -365,18 +365,18 @@ impl Text {
         let help = "How long calls waited in their tenant's queue.";
         self.head(WAITS, help, "histogram")?;
         for sample in samples {
-            self.histogram(WAITS, sample.name.as_str(), sample.counts.waits())?;
+            self.histogram(WAITS, sample.name.as_str(), &sample.counts.waits())?;
         }
         let help = "How long turns took in which calls were served.";
         self.head(TURNS, help, "histogram")?;
         for sample in samples {
-            self.histogram(TURNS, sample.name.as_str(), sample.counts.turns())?;
+            self.histogram(TURNS, sample.name.as_str(), &sample.counts.turns())?;
         }
         Ok(())
     }
 
     /// Durations by their parts, each with those before it.
-    fn histogram(&mut self, name: &str, tenant: &str, durations: &Durations) -> Mem<()> {
+    fn histogram(&mut self, name: &str, tenant: &str, durations: &Histogram) -> Mem<()> {
         let mut count = 0u64;
         for (place, end) in ENDS.iter().enumerate() {
             count = count.saturating_add(durations.part(place).unwrap_or(0));
@@ -424,7 +424,7 @@ impl Text {
     /// The calls of a tenant that were refused; numbers with none are left out.
     fn refused(&mut self, sample: &Sample) -> Mem<()> {
         for number in 1..=LAST_REFUSAL {
-            let count = sample.counts.answered().refused(number);
+            let count = sample.counts.refused(number);
             if count > 0 {
                 self.refusal(sample.name.as_str(), number, count)?;
             }
@@ -442,7 +442,7 @@ impl Text {
     fn answered(&mut self, sample: &Sample) -> Mem<()> {
         for call in CALLS {
             for status in STATUSES {
-                let count = sample.counts.answered().of(call, status);
+                let count = sample.counts.answered(call, status);
                 if count > 0 {
                     self.call(sample.name.as_str(), call, status, count)?;
                 }

@@ -7,13 +7,10 @@ use crate::job_queue::{Job, JobQueue};
 use crate::request::NamedTenant;
 use crossbeam_utils::sync::ShardedLock;
 use etcd_types::{Mem, Refusal};
-use fair_turns::{Budget, Scheduler, TenantCounts, TenantTurns, Work};
+use fair_turns::{Budget, PARTS, Scheduler, TenantCounts, TenantTurns, Work};
 use indexmap::IndexMap;
 use std::alloc::Global;
 use std::sync::{Arc, Wait};
-
-/// How many parts a directory has. Each event loop reads one of its own, and all other threads the last.
-pub(crate) const PARTS: usize = 8;
 
 /// Where the calls of a tenant go in.
 #[derive(Drop)]

@@ -12,7 +12,7 @@ use crate::clients::Clients;
 use crate::jobs::Jobs;
 use crate::serving::ServingThread;
 use crate::tenants::ServedTenant;
-use fair_turns::{Scheduler, Stopwatch, Work};
+use fair_turns::{Scheduler, Stopwatch};
 use std::alloc::Global;
 use std::rt::Clock;
 use std::sync::atomic::{AtomicBool, Ordering};
@@ -30,7 +30,7 @@ const CALLS_LEFT: u32 = 256;
 pub struct InlineCalls<R: Wait + Drop, C: TenantCalls> {
     rt: R,
     alloc: Global,
-    /// The part of the directory that is read here.
+    /// The part of the directory, and of what is counted, for its loop.
     shard: usize,
     /// Where calls wait that are not served here.
     jobs: Jobs<R>,
@@ -128,8 +128,8 @@ fn serve_brief<R: Wait + Clock + Copy + Drop, C: TenantCalls>(
     // The tenant is looked at where it stands: to share it would disturb the other loops.
     let served = shared.tenants().by_number(rt, shard);
     match served.get(&number) {
-        Some(tenant) if Scheduler::try_begin(tenant.turns()) => {
-            take_turn(rt, alloc, caller, &shared.scheduler, tenant, brief)
+        Some(tenant) if Scheduler::begin_in_loop(tenant.turns()) => {
+            take_turn(rt, alloc, shard, caller, &shared.scheduler, tenant, brief)
         }
         _ => Err(brief),
     }
@@ -139,6 +139,7 @@ fn serve_brief<R: Wait + Clock + Copy + Drop, C: TenantCalls>(
 fn take_turn<R: Wait + Clock + Copy + Drop, C: TenantCalls>(
     rt: &R,
     alloc: Global,
+    shard: usize,
     caller: &mut Caller<R, C>,
     scheduler: &Scheduler,
     tenant: &ServedTenant<R, C::Key>,
@@ -155,10 +156,11 @@ fn take_turn<R: Wait + Clock + Copy + Drop, C: TenantCalls>(
         clients.schedule_takes(rt, scheduler, tenant.turns());
     }
     drop(clients);
-    scheduler.finish(rt, tenant.turns(), Work::Jobs);
-    tenant.counts().turns().add(stopwatch.passed(rt));
+    scheduler.finish_in_loop(rt, tenant.turns());
+    let counts = tenant.counts().part(shard);
+    counts.turns().add(stopwatch.passed(rt));
     if let Ok(told) = &outcome {
-        tenant.counts().add(call, length, told.answer());
+        counts.add(call, length, told.answer());
     }
     outcome
 }

@@ -78,7 +78,8 @@ impl<R: Wait + Drop> Jobs<R> {
     {
         let told = unanswered.refused(alloc, refusal);
         if let Some(entrance) = self.entrance(rt, &*route.tenant) {
-            entrance.counts.add(route.call, length, told.answer());
+            let counts = entrance.counts.part(self.shard);
+            counts.add(route.call, length, told.answer());
         }
         told
     }

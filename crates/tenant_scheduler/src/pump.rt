@@ -7,9 +7,10 @@ ghost use Rattle.tenant_scheduler.specs.Makes.{IsOnlyOn};
 use crate::caller::Caller;
 use crate::clients::Clients;
 use crate::serving::ServingThread;
+use crate::shared::SHARD;
 use crate::tenants::ServedTenant;
 use fair_turns::{
-    Budget, NoRoom, Scheduler, ServedWatch, Stopwatch, TenantCounts, TenantTurns, WatchTake, Work,
+    Budget, NoRoom, PartCounts, Scheduler, ServedWatch, Stopwatch, TenantTurns, WatchTake, Work,
 };
 use std::rt::Clock;
 use std::sync::Wait;
@@ -192,12 +193,13 @@ fn take_at<R: Wait + Clock + Drop, C: TenantCalls>(
         caller,
         &clients.key,
         &clients.budget,
-        &clients.counts,
+        clients.counts.part(SHARD),
         watch,
     ) {
         Ok(Some(canceled)) => {
             let watch = clients.watches.swap_remove(*at);
-            clients.counts.add_out(watch.end(canceled, &clients.budget));
+            let bytes = watch.end(canceled, &clients.budget);
+            clients.counts.part(SHARD).add_out(bytes);
             true
         }
         Ok(None) => {
@@ -251,7 +253,7 @@ fn take<R: Wait + Clock + Drop, C: TenantCalls>(
     caller: &mut Caller<R, C>,
     key: &Option<C::Key>,
     budget: &Budget,
-    counts: &TenantCounts,
+    counts: &PartCounts,
     watch: &ServedWatch,
 ) -> Result<Option<WatchTake<C::Receipt>>, NoTake>
     ensures others { IsOnlyOn C.Key.name_of key.now (C.made caller.old.calls) (C.made caller.new.calls) }

@@ -1,21 +1,21 @@
 //! What the threads that serve tenants share.
 use crate::caller::Caller;
-use crate::entrances::{Entrances, PARTS};
+use crate::entrances::Entrances;
 use crate::jobs::Jobs;
 use crate::pump::drop_closed;
 use crate::tenants::{ServedTenant, TenantTerms, Tenants};
 use crossbeam_channel::{Receiver, RecvTimeoutError};
 use etcd_types::Mem;
 use etcd_types::limits::MAX_TENANTS;
-use fair_turns::{Beats, Scheduler, Turn, Turns, Work};
+use fair_turns::{Beats, PARTS, Scheduler, Turn, Turns, Work};
 use std::alloc::Global;
 use std::rt::Clock;
 use std::sync::{Arc, Wait};
 use std::time::Duration;
 use tenant_calls::{TenantCalls, TenantKey};
 
-/// The part of the directory that the threads read which have no event loop; those of the loops come before it.
-const SHARD: usize = PARTS - 1;
+/// The part of the directory and of counts for the threads which have no event loop; those of the loops come before it.
+pub(crate) const SHARD: usize = PARTS - 1;
 
 /// How many seconds a thread waits for a turn before it shows that it moves.
 const SECONDS_A_BEAT: u64 = 1;

@@ -9,6 +9,7 @@ use crate::job_queue::Job;
 use crate::pump::{serve_takes, take_all};
 use crate::request::Request;
 use crate::serving::ServingThread;
+use crate::shared::SHARD;
 use crate::tenants::ServedTenant;
 use crossbeam_channel::Receiver;
 use etcd_types::{Mem, Refusal, Step};
@@ -91,7 +92,11 @@ impl<R: Wait + Clock + Copy + Drop, C: TenantCalls> WorkerTurn<'_, '_, R, C> {
                 break;
             }
         }
-        clients.counts.turns().add(stopwatch.passed(&self.rt));
+        clients
+            .counts
+            .part(SHARD)
+            .turns()
+            .add(stopwatch.passed(&self.rt));
         clients.is_slow = stopwatch.is_past(&self.rt, MILLIS_A_TURN);
         if was_slow {
             self.scheduler.end_slow(&self.rt);
@@ -139,11 +144,15 @@ impl<R: Wait + Clock + Copy + Drop, C: TenantCalls> WorkerTurn<'_, '_, R, C> {
             step,
             waiting,
         } = job;
-        clients.counts.waits().add(waiting.passed(&self.rt));
+        clients
+            .counts
+            .part(SHARD)
+            .waits()
+            .add(waiting.passed(&self.rt));
         let (call, length) = (unserved.request().route.call, unserved.request().len());
         let read = if step.is_some() { 0 } else { length };
         let answer = self.answer(caller, clients, unserved, step);
-        answer.count(&clients.counts);
+        answer.count(clients.counts.part(SHARD));
         let bytes = read.saturating_add(answer.answer().len());
         answer.send();
         if call.may_give() {

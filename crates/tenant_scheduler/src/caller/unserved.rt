@@ -11,7 +11,7 @@ ghost use Rattle.tenant_scheduler.specs.Requests.{IsAnswerOf, IsUnread};
 use super::told::{OpenRequest, OwnAnswer, Told, Unanswered, refusal_of};
 use crate::request::Request;
 use etcd_types::{Mem, Refusal};
-use fair_turns::{Answer, TenantCounts};
+use fair_turns::{Answer, PartCounts};
 use futures::channel::oneshot;
 use futures::task::{Context, Poll};
 use futures::{Future, ready};
@@ -149,7 +149,7 @@ impl<R: Wait + Drop> JobAnswer<R> {
     }
 
     /// Counts its call, as answered so.
-    pub(crate) fn count(&self, counts: &TenantCounts) {
+    pub(crate) fn count(&self, counts: &PartCounts) {
         let request = self.request();
         counts.add(request.route.call, request.len(), self.answer());
     }
