@@ -76,7 +76,7 @@ pub(crate) type SocketSender = UnboundedSender<Accepted>;
 #[derive(Drop)]
 pub(crate) struct Acceptor {
     senders: Vec<SocketSender>,
-    /// Each loop says once that it has all that it needs of the system.
+    /// Each loop says once that it has all that it needs of the system, memory too.
     ready: Receiver<()>,
 }
 
@@ -288,6 +288,8 @@ struct Connections<'a, R: Wait + Drop, S: CallServer<R>, M, T: Future> {
     tasks: &'a TaskSet<T>,
     maker: M,
     beats: Option<Interval>,
+    /// None once the loop has said that it is ready.
+    ready: Option<Sender<()>>,
 }
 
 impl<R, S, M, T> Future for Connections<'_, R, S, M, T>
@@ -300,6 +302,10 @@ where
     type Output = ();
 
     fn poll(&mut self, cx: &mut Context<'_>) -> Poll<()> {
+        // Once it is polled, the loop has all the memory that it needs for itself.
+        if let Some(ready) = self.ready.take() {
+            let _ = ready.send(&self.rt, ());
+        }
         if let Some(beats) = &mut self.beats
             && beats.poll_tick(cx).is_ready()
         {
@@ -455,8 +461,6 @@ where
     for _ in 0..ROOMS {
         let _ = begin(&tasks, maker.make(None));
     }
-    let _ = ready.send(&rt, ());
-    drop(ready);
     let connections = Connections {
         rt,
         server,
@@ -466,6 +470,7 @@ where
         tasks: &tasks,
         maker,
         beats,
+        ready: Some(ready),
     };
     runtime.block_on_with(&rt, &tasks, connections)
 }
