@@ -3,7 +3,10 @@
 //! A tenant is served by one thread at a time, which has the *turn* there. Work that becomes due meanwhile is marked,
 //! and the tenant goes through the channels of the threads that do it: it is in one of them at most, once, so no
 //! channel is ever full. A turn ends by handing the tenant to the work that is due next, in a fixed round, behind all
-//! other tenants there. An event loop takes a turn for one brief call, and only where nobody has it.
+//! other tenants there.
+//!
+//! An event loop takes a turn for one brief call, where nobody has it, or where it lies in a channel: so no loop waits
+//! until a thread wakes. What takes a turn out of its channel waits until no loop is in it.
 use crate::slow_tenants::SlowTenants;
 use crossbeam_channel::{Receiver, Sender, bounded};
 use crossbeam_utils::CachePadded;
@@ -77,9 +80,9 @@ pub enum Turn {
     Over,
 }
 
-/// The marks of a tenant's due work, and `RUNNING` while somebody has the turn there or is about to. Only who has the
-/// turn takes a mark off, and an idle tenant has none. They lie on cache lines of their own, since tenants have nothing
-/// to do with each other.
+/// The marks of a tenant's due work, and `RUNNING` while somebody has the turn there or it lies in a channel. Only who
+/// has the turn takes a mark of work off, and an idle tenant has none. They lie on cache lines of their own, since tenants
+/// have nothing to do with each other.
 type Marks = CachePadded<AtomicU64>;
 
 /// The turns on one tenant.
@@ -105,8 +108,14 @@ impl TenantTurns {
     /// The watches of its clients may have something to give, or one has gone.
     pub fn schedule_takes<R: Wait>(&self, rt: &R) {
         if Scheduler::mark_or_begin(&self.marks, Work::Takes) {
+            self.offer();
             let _ = self.pump.send(rt, Turn::On(self.number));
         }
+    }
+
+    /// Who has the turn is about to leave it in a channel.
+    fn offer(&self) {
+        self.marks.fetch_or(OFFERED, Ordering::SeqCst);
     }
 
     /// The tenant's number, which no other tenant ever has.
@@ -121,17 +130,20 @@ const IDLE: u64 = 0;
 /// Somebody has the turn, and nothing else is due.
 const RUNNING: u64 = 1;
 
-/// An event loop has the turn, for one brief call, and nothing else is due.
-const RUNNING_IN_LOOP: u64 = RUNNING | IN_LOOP;
-
 /// The tenant was removed: no turn begins there any more.
 const RETIRED: u64 = 32;
 
-/// Who has the turn is an event loop.
+/// An event loop is in the turn.
 const IN_LOOP: u64 = 64;
+
+/// The turn lies in a channel: nobody has it but the event loop that is in it, if one is.
+const OFFERED: u64 = 128;
 
 /// How many milliseconds lie between two looks whether the last turn on a tenant has ended.
 const MILLIS_A_LOOK: u64 = 1;
+
+/// For how many microseconds a thread rests that waits for an event loop which does not run at the moment.
+const MICROS_A_REST: u64 = 50;
 
 /// How many threads serve neither clients nor connections: the clock, the pump, the catch-up worker.
 pub const BESIDE_WORKERS: usize = 3;
@@ -219,6 +231,7 @@ impl Scheduler {
     /// Work is due on a tenant. Where nobody has the turn, it is given now.
     pub fn schedule<R: Wait>(&self, rt: &R, turns: &TenantTurns, work: Work) {
         if Scheduler::mark_or_begin(&turns.marks, work) {
+            turns.offer();
             self.give(rt, turns.number, work);
         }
     }
@@ -238,27 +251,51 @@ impl Scheduler {
         true
     }
 
-    /// An event loop takes the turn on a tenant, for one brief call, where nobody has it and nothing is due. It waits a
-    /// little for the end of another turn, and longer where that is another loop's: such a one ends sooner than a worker
-    /// wakes, and what is left to a worker keeps all loops from the tenant until that has served it.
+    /// An event loop takes the turn on a tenant, for one brief call. Where another loop is in it, it waits a little: such a
+    /// one ends sooner than a worker wakes. Where a thread has it, it waits for as long as a brief call takes.
     pub fn begin_in_loop(turns: &TenantTurns) -> bool {
         for look in 0..LOOKS {
-            match turns.marks.load(Ordering::SeqCst) {
-                IDLE if Scheduler::moves(&turns.marks, IDLE, RUNNING_IN_LOOP) => return true,
-                IDLE | RUNNING_IN_LOOP => {}
-                _ if look >= BRIEF_LOOKS => return false,
-                _ => {}
+            let now = turns.marks.load(Ordering::SeqCst);
+            if Scheduler::is_free(now) {
+                if Scheduler::moves(&turns.marks, now, now | RUNNING | IN_LOOP) {
+                    return true;
+                }
+            } else if now & IN_LOOP == 0 && look >= BRIEF_LOOKS {
+                return false;
             }
             hint::spin_loop();
         }
         false
     }
 
-    /// Ends the turn of an event loop; the tenant goes on to the work that is due next.
+    /// No thread has the turn that these marks tell, and no event loop is in it.
+    fn is_free(marks: u64) -> bool {
+        marks == IDLE || marks & (OFFERED | IN_LOOP | RETIRED) == OFFERED
+    }
+
+    /// Ends the turn of an event loop. One that lies in a channel stays there; else the tenant goes on to the work that is
+    /// due next.
     pub fn finish_in_loop<R: Wait>(&self, rt: &R, turns: &TenantTurns) {
-        if !Scheduler::moves(&turns.marks, RUNNING_IN_LOOP, IDLE) {
-            turns.marks.fetch_and(!IN_LOOP, Ordering::SeqCst);
+        if Scheduler::moves(&turns.marks, RUNNING | IN_LOOP, IDLE) {
+            return;
+        }
+        let marks = turns.marks.fetch_and(!IN_LOOP, Ordering::SeqCst);
+        if marks & OFFERED == 0 {
             self.finish(rt, turns, Work::Jobs);
+        }
+    }
+
+    /// A thread begins a turn that came out of a channel. It waits until no event loop is in it.
+    pub fn take_up<R: Wait + Clock>(rt: &R, turns: &TenantTurns) {
+        for _ in rt.forever() {
+            for _ in 0..LOOKS {
+                let now = turns.marks.load(Ordering::SeqCst);
+                if now & IN_LOOP == 0 && Scheduler::moves(&turns.marks, now, now & !OFFERED) {
+                    return;
+                }
+                hint::spin_loop();
+            }
+            thread::sleep(rt, Duration::from_micros(MICROS_A_REST));
         }
     }
 
@@ -271,6 +308,7 @@ impl Scheduler {
     /// Ends a turn; the tenant goes on to the work that is due next.
     pub fn finish<R: Wait>(&self, rt: &R, turns: &TenantTurns, done: Work) {
         if let Some(work) = Scheduler::end_or_go_on(&turns.marks, done) {
+            turns.offer();
             self.give(rt, turns.number, work);
         }
     }
@@ -308,6 +346,7 @@ impl Scheduler {
             return false;
         }
         turns.marks.fetch_or(Work::Takes.mark(), Ordering::SeqCst);
+        turns.offer();
         self.give(rt, turns.number, Work::Jobs);
         true
     }

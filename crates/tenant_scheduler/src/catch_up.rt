@@ -50,7 +50,7 @@ fn serve_turn<R: Wait + Clock + Drop, C: TenantCalls>(
     shared: &Shared<R, C::Key>,
     number: u64,
 ) {
-    let Some(tenant) = shared.numbered(rt, number) else {
+    let Some(tenant) = shared.begin_turn(rt, number) else {
         return;
     };
     keep_order(rt, caller, &shared.scheduler, &tenant);

@@ -58,7 +58,7 @@ fn serve_turn<R: Wait + Clock + Drop, C: TenantCalls>(
     number: u64,
     now: ServerMoment,
 ) {
-    if let Some(tenant) = shared.numbered(rt, number) {
+    if let Some(tenant) = shared.begin_turn(rt, number) {
         tick(rt, caller, &shared.scheduler, &tenant, now);
         shared.scheduler.finish(rt, tenant.turns(), Work::Tick);
     }

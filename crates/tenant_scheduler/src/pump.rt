@@ -40,7 +40,7 @@ pub(crate) fn pump<R: Wait + Clock + Copy + Drop, C: TenantCalls>(
         let Some(tenant) = shared.next_turn(&rt, place, &shared.turns.pump) else {
             break;
         };
-        if let Some(tenant) = shared.numbered(&rt, tenant) {
+        if let Some(tenant) = shared.begin_turn(&rt, tenant) {
             take_turn(&rt, caller, &shared.scheduler, &tenant);
         }
     }
@@ -54,10 +54,11 @@ fn take_turn<R: Wait + Clock + Drop, C: TenantCalls>(
     tenant: &ServedTenant<R, C::Key>,
 ) {
     let turns = tenant.turns();
-    let mut clients = tenant.clients.lock(rt);
-    if clients.takes_left > 0 && scheduler.hand_to_workers(rt, turns) {
+    let has_long_takes = tenant.clients.lock(rt).takes_left > 0;
+    if has_long_takes && scheduler.hand_to_workers(rt, turns) {
         return;
     }
+    let mut clients = tenant.clients.lock(rt);
     serve_takes(rt, caller, scheduler, turns, &mut *clients);
     drop(clients);
     scheduler.finish(rt, turns, Work::Takes);

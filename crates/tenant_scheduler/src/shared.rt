@@ -40,11 +40,6 @@ impl<R: Wait + Drop, K: TenantKey> Drop for Shared<R, K> {
 }
 
 impl<R: Wait + Drop, K: TenantKey> Shared<R, K> {
-    /// The tenant of that number.
-    pub(crate) fn numbered(&self, rt: &R, number: u64) -> Option<Arc<ServedTenant<R, K>>> {
-        self.tenants.numbered(rt, SHARD, number)
-    }
-
     /// Work is due on all tenants.
     pub(crate) fn schedule_all(&self, rt: &R, work: Work) {
         self.tenants.schedule_all(rt, SHARD, work);
@@ -69,6 +64,13 @@ impl<R: Wait + Clock + Drop, K: TenantKey> Shared<R, K> {
             }
         }
         unreachable!()
+    }
+
+    /// The tenant of that number, on which the turn came that begins now, if it is still there.
+    pub(crate) fn begin_turn(&self, rt: &R, number: u64) -> Option<Arc<ServedTenant<R, K>>> {
+        let tenant = self.tenants.numbered(rt, SHARD, number)?;
+        Scheduler::take_up(rt, tenant.turns());
+        Some(tenant)
     }
 
     /// Each thread has moved within so many seconds.

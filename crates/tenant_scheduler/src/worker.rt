@@ -49,7 +49,7 @@ pub(crate) fn work<R: Wait + Clock + Copy + Drop, C: TenantCalls>(
         let Some(tenant) = shared.next_turn(&rt, place, &shared.turns.workers) else {
             break;
         };
-        let Some(tenant) = shared.numbered(&rt, tenant) else {
+        let Some(tenant) = shared.begin_turn(&rt, tenant) else {
             continue;
         };
         let turn = WorkerTurn {
