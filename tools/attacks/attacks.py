@@ -73,7 +73,7 @@ def range_message(place, members):
 
 
 def watch_message(place, members):
-    return place.watch_message({**members, "start_revision": "1"})
+    return place.watch_message({**members, "start_revision": str(place.first)})
 
 
 def one_large_answer(crowd, count):

@@ -5,10 +5,14 @@ from typing import NamedTuple
 
 from shared.http_client import Watch, text
 from shared.programs import Ours
+from shared.store_calls import Client
 from shared.wanted import WATCHES
 
 QUOTA = 1_048_576
 FREE = {"key": text(b"free")}
+EACH = {"key": text(b"\0"), "range_end": text(b"\0")}
+# So many puts of such a value take all cells: 32,764 for it, and four for its key, its numbers and the delete to come.
+USING_PUTS, USING_VALUE = 32, text(bytes(48 * 32_764))
 # What makes the system forget a process's peak of memory, written into its file `clear_refs`.
 FORGET_PEAK = b"5"
 
@@ -20,12 +24,30 @@ class Held(NamedTuple):
     descriptors: int
 
 
+def deleted(client, keys):
+    """The revision at which keys are deleted."""
+    return int(client.make("kv/deleterange", keys)["header"]["revision"])
+
+
+def used(place):
+    """A tenant each of whose cells was used once, and which is empty again: what it takes of the pool is resident by then."""
+    with Client(place) as client:
+        for number in range(USING_PUTS):
+            client.make("kv/put", {"key": text(bytes([number])), "value": USING_VALUE})
+        client.compact(deleted(client, EACH))
+        # A compaction keeps that keys were deleted at its own revision, so there is one more.
+        client.make("kv/put", FREE)
+        last = deleted(client, FREE)
+        client.compact(last)
+    return place._replace(first=last + 1)
+
+
 class Host(Ours):
-    """The server with two tenants of the largest quota, the attacked one and another."""
+    """The server with two tenants of the largest quota that were in use, the attacked one and another."""
 
     def __init__(self, path, workers):
         super().__init__(path, workers, QUOTA)
-        self.other, self.attacked = self.place, self.beside
+        self.other, self.attacked = used(self.place), used(self.beside)
 
     def held(self):
         return Held(self.memory()["now"], self.descriptors())

@@ -7,11 +7,13 @@ from shared.report import Wrong
 
 
 class Place(NamedTuple):
-    """Where calls go: a program's name, its port, and what stands before the name of a call."""
+    """Where calls go: a program's name, its port, and what stands before the name of a call. Its history begins at the first
+    revision."""
 
     who: str
     port: int
     front: str
+    first: int = 1
 
     def message(self, call, body):
         """A whole request."""
