@@ -16,6 +16,8 @@ from size_checks.asked import Asked, Tenant, check_refused, host_of, kept, size_
 from size_checks.page import examples
 from sizing import host_size
 
+# So that the body of such a put is short beside what its tenant may take.
+CELLS_A_PUT = 2_000
 UNREADABLE = b"etcd_host: the configuration can't be read\n"
 
 
@@ -42,16 +44,26 @@ def check_segments(program, sizes):
     want(not starts(program, tenants, sizes["segments"] - 1), "one segment less is enough")
 
 
+def use_up(tenant, quota):
+    """Puts that take all cells of a quota, but for three at most. Of each, two are kept for the delete of its key."""
+    for number, first in enumerate(range(0, quota - 3, CELLS_A_PUT)):
+        cells = min(CELLS_A_PUT, quota - first)
+        tenant.call("kv/put", {"key": text(b"%d" % number), "value": text(bytes(48 * (cells - 4)))})
+
+
 def resident(program, tenants, segments):
-    """The resident bytes of a server with these tenants, and one more of a segment."""
+    """The resident bytes of a server with these tenants, whose quotas are used up, and one more of a segment."""
     with Server(program, configuration([tenant_of("more", 64), *tenants], segments=segments + 1)) as server:
         with Tenant(server, "more") as tenant:
             tenant.status()
+        for one in tenants:
+            with Tenant(server, one["name"]) as tenant:
+                use_up(tenant, one["quota"])
         return server.memory()["now"]
 
 
 def check_memory(program, all_sizes):
-    """What a host takes at its start for tenants lies within what tools/size tells."""
+    """What a host takes for tenants that are full lies within what tools/size tells."""
     tenants = [tenant_of(f"t{number}", sizes["quota"]) for number, sizes in enumerate(all_sizes)]
     taken = resident(program, tenants, sum(sizes["segments"] for sizes in all_sizes)) - resident(program, [], 0)
     least, most = (sum(sizes[name] for sizes in all_sizes) for name in ["memory_least", "memory_most"])

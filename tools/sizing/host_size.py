@@ -284,7 +284,7 @@ def operator_most(host):
 def parts(host):
     """Each part under its name, with what it is."""
     watches, threads = open_watches(host), host.workers + LOOPS + 1 + BESIDE_WORKERS + host.operator
-    yield "pool", host.segments * SEGMENT_LEAST, f"{host.segments} segments, from the start on"
+    yield "pool", host.segments * SEGMENT_LEAST, f"{host.segments} segments of 64 cells"
     yield "rooms", rooms(host), "to keep track of them and of the tenants"
     yield "budgets", sum(tenant.budget for tenant in host.tenants), "bodies, answers and texts under way"
     yield "texts", sum(map(text_beyond, host.tenants)), "of each tenant one that goes beyond its budget"

@@ -1,6 +1,6 @@
 -- The list of the free cells over writes.
-use Rattle.std.proofs.Common.{◌≡◌, ◌≢◌, ℕ, zero, suc, Bool, true, false, ◌+◌, ◌-◌, ◌<◌, ◌≤◌, List, [], ◌∷◌, ◌++◌, length, get_or, set, take, Option, Some, None, count_by, cond, refl, sym, ap, ◌∙◌, inl, inr, arith, add-one, subst}
-use Rattle.std.proofs.lemmas.List.{take_more_set, take_all, length_push, get_or_push, get_or_append_left, get_or-set_same, get_or-set_other, length-set, get_or_past, get_or_default}
+use Rattle.std.proofs.Common.{◌≡◌, ◌≢◌, ℕ, zero, suc, Bool, true, false, ◌+◌, ◌-◌, ◌<◌, ◌≤◌, List, [], ◌∷◌, ◌++◌, length, get_or, set, Option, Some, None, count_by, cond, refl, sym, ap, ◌∙◌, inl, inr, arith, add-one, subst}
+use Rattle.std.proofs.lemmas.List.{length_push, get_or_push, get_or_append_left, get_or-set_same, get_or-set_other, length-set, get_or_past, get_or_default}
 use Rattle.std.proofs.lemmas.List.Sums.{sum_by-set, sum_by-cons, sum_by_push, count_by-le-length}
 use Rattle.std.proofs.lemmas.Bool.{cases_lt, cases_eq, true≢false}
 use Rattle.cell_arena.specs.declared.cell.Cell.{Cell}
@@ -138,7 +138,7 @@ first_is t at was room is =
     let same : found.0 ≡ at = cc (found.2, is) in
     (subst (λ n. n < length t.cells.items) same found.3, (found.1, subst (λ n. bay_at t n ≡ Free found.1) same found.4))
 
--- so many cells were listed, each before the last ones
+-- there are so many cells, each free and listed before the last ones
 pub record IsListing (cells : List Cell) (count : ℕ) (first : Option ℕ) : Type 0 where
   pub size : length cells ≡ count
   pub listed : IsFreeList (cell_at cells) count count first
@@ -167,28 +167,13 @@ listing_more cells count first was = record {
 pub listing_none : IsListing [] 0 None
 listing_none = record { size = refl; listed = refl; counted = refl; all = λ n. refl }
 
--- the first so many cells are listed, and the others may be any
-pub record IsCleaning (cells : List Cell) (count : ℕ) (first : Option ℕ) : Type 0 where
-  pub size : length cells ≡ 64
-  pub listed : IsListing (take count cells) count first
-
-pub cleaned_more : (cells : List Cell) (count : ℕ) (first : Option ℕ) → count < 64 → IsCleaning cells count first → IsCleaning (set cells count (Free first)) (count + 1) (Some count)
-cleaned_more cells count first less was = record {
-  size = length-set cells count (Free first) ∙ was.size;
-  listed = subst (λ xs. IsListing xs (count + 1) (Some count)) (sym (take_more_set cells count (Free first) (omega (arith, was.size)))) (listing_more (take count cells) count first was.listed);
+-- cells that are listed are those of a bay
+pub listed_from : (number : ℕ) (cells : Vec Cell) (first : Option ℕ) → IsListing cells.items 64 first → IsListed (record { number = number; cells = cells; first = first; free = 64 })
+listed_from number cells first all = record {
+  short = omega (arith, all.size);
+  counted = sym all.counted;
+  listed = subst (λ b. IsFreeList (cell_at cells.items) b 64 first) (sym all.size) all.listed;
 }
-
-pub cleaned_all : (cells : List Cell) (first : Option ℕ) → IsCleaning cells 64 first → IsListing cells 64 first
-cleaned_all cells first was = subst (λ xs. IsListing xs 64 first) (take_all 64 cells (omega (arith, was.size))) was.listed
-
-pub listed_from : (number : ℕ) (cells : Vec Cell) (first : Option ℕ) → IsCleaning cells.items 64 first → IsListed (record { number = number; cells = cells; first = first; free = 64 })
-listed_from number cells first was =
-    let all = cleaned_all cells.items first was in
-    record {
-      short = omega (arith, was.size);
-      counted = sym all.counted;
-      listed = subst (λ b. IsFreeList (cell_at cells.items) b 64 first) (sym was.size) all.listed;
-    }
 
 -- where as many are free as there are, each is
 pub all_from_count : (xs : List Cell) → count_by is_free xs ≡ length xs → (n : ℕ) → is_free (cell_at xs n) ≡ true

@@ -113,9 +113,10 @@ pub(crate) fn clean(segment: Segment) -> Bay
     ensures number { result.number ≡ segment.number }
 {
     let Segment { number, mut cells } = segment;
+    cells.clear();
     let mut first = Link::none();
     'listing: for place in 0..64 {
-        cells[place as usize] = Cell::Free(first);
+        cells.push_reserved(Cell::Free(first));
         first = link_to(place);
     }
     Bay {

@@ -1,5 +1,5 @@
 //! What is drawn and given back.
-ghost use Rattle.std.specs.Prelude.{◌≡◌, ◌<◌, length, replicate, IfOk};
+ghost use Rattle.std.specs.Prelude.{◌≡◌, ◌<◌, ◌≤◌, [], vec_capacity, IfOk};
 ghost use Rattle.cell_arena.specs.Loan.{Loan, Draws};
 
 use crate::cell::Cell;
@@ -11,17 +11,19 @@ use std::alloc::Global;
 pub struct Segment {
     /// Which of its source's segments it is.
     pub number: u32,
+    /// In a new segment there is only room for them: memory that nobody wrote to takes no page.
     pub cells: Vec<Cell>,
-    ghost full: { length cells.items ≡ 64 },
+    ghost room: { 64 ≤ vec_capacity cells },
 }
 
 impl Segment {
-    /// A segment whose cells all hold this.
-    pub fn new(alloc: Global, number: u32, cell: Cell) -> Mem<Segment>
+    /// A segment whose cells were never written.
+    pub fn new(alloc: Global, number: u32) -> Mem<Segment>
         ensures number { IfOk result (λ segment. segment.number ≡ number) }
-        ensures cells { IfOk result (λ segment. segment.cells.items ≡ replicate 64 cell) }
+        ensures unwritten { IfOk result (λ segment. segment.cells.items ≡ []) }
+        ensures room { IfOk result (λ segment. vec_capacity segment.cells ≡ 64) }
     {
-        let cells = vec![in alloc; cell; 64]?;
+        let cells = Vec::with_capacity(alloc, 64)?;
         Ok(Segment { number, cells })
     }
 }

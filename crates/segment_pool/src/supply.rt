@@ -4,7 +4,7 @@ ghost use Rattle.cell_arena.specs.Segments.{numbers_of};
 ghost use Rattle.segment_pool.specs.Supply.{numbers_from, supplied};
 
 use crate::stock::Stock;
-use cell_arena::{Cell, Link, Segment};
+use cell_arena::Segment;
 use etcd_types::Mem;
 use std::alloc::Global;
 use std::marker::Model;
@@ -60,7 +60,7 @@ pub(crate) fn new_segments(alloc: Global, first: u32, count: u32) -> Mem<Vec<Seg
 {
     let mut segments = Vec::with_capacity(alloc, count as usize)?;
     'making: for place in 0..count {
-        segments.push_reserved(Segment::new(alloc, first + place, Cell::Free(Link::none()))?);
+        segments.push_reserved(Segment::new(alloc, first + place)?);
     }
     Ok(segments)
 }

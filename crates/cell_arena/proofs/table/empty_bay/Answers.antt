@@ -43,7 +43,8 @@ invariant_of-give_back g c =
     let read = sym c.index_mut.ensures.value in
     let less = used_within c.args.table.now c.args.number c.args.place c.requires.small c.requires.used in
     let in_use = used_drawn c.args.table.now c.args.number c.args.place c.index_mut.result.now c.requires.table c.requires.small c.requires.used read in
-    record { full = ap (λ (bay : Bay). length bay.cells.items) c.replace-of_source.ensures.value ∙ (c.requires.table.bays c.args.number c.index_mut.result.now less read).whole in_use }
+    let whole = ap (λ (bay : Bay). length bay.cells.items) c.replace-of_source.ensures.value ∙ (c.requires.table.bays c.args.number c.index_mut.result.now less read).whole in_use in
+    record { room = omega (arith, whole) }
 
 pub index-at-requires : goal.index-at-requires
 index-at-requires g c =
