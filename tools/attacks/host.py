@@ -5,14 +5,14 @@ from typing import NamedTuple
 
 from shared.http_client import Watch, text
 from shared.programs import Ours
-from shared.store_calls import Client
+from shared.store_calls import Client, using_puts
 from shared.wanted import WATCHES
 
 QUOTA = 1_048_576
 FREE = {"key": text(b"free")}
 EACH = {"key": text(b"\0"), "range_end": text(b"\0")}
-# So many puts of such a value take all cells: 32,764 for it, and four for its key, its numbers and the delete to come.
-USING_PUTS, USING_VALUE = 32, text(bytes(48 * 32_764))
+# As many as the longest value that a body holds, almost.
+CELLS_A_PUT = 32_768
 # What makes the system forget a process's peak of memory, written into its file `clear_refs`.
 FORGET_PEAK = b"5"
 
@@ -32,8 +32,8 @@ def deleted(client, keys):
 def used(place):
     """A tenant each of whose cells was used once, and which is empty again: what it takes of the pool is resident by then."""
     with Client(place) as client:
-        for number in range(USING_PUTS):
-            client.make("kv/put", {"key": text(bytes([number])), "value": USING_VALUE})
+        for put in using_puts(QUOTA, CELLS_A_PUT):
+            client.make(*put)
         client.compact(deleted(client, EACH))
         # A compaction keeps that keys were deleted at its own revision, so there is one more.
         client.make("kv/put", FREE)

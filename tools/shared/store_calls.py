@@ -7,8 +7,8 @@ from shared.report import Wrong
 
 
 class Place(NamedTuple):
-    """Where calls go: a program's name, its port, and what stands before the name of a call. Its history begins at the first
-    revision."""
+    """Where calls go: a program's name, its port, what stands before the name of a call, and the first revision from which
+    a watch is told all."""
 
     who: str
     port: int
@@ -21,6 +21,14 @@ class Place(NamedTuple):
 
     def watch_message(self, create):
         return self.message("watch", body_of({"create_request": create}))
+
+
+def using_puts(quota, cells):
+    """Puts that take all cells of a quota but for three at most, each so many or the rest. Of each, two are kept for the
+    delete of its key."""
+    for number, first in enumerate(range(0, quota - 3, cells)):
+        value = bytes(48 * (min(cells, quota - first) - 4))
+        yield "kv/put", {"key": text(b"%d" % number), "value": text(value)}
 
 
 class Client(Connection):

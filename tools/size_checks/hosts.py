@@ -11,7 +11,7 @@ from server_checks.patience import fill
 from shared.http_client import text
 from shared.report import want
 from shared.server import Server, configuration, run_to_end, tenant_of
-from shared.store_calls import Place
+from shared.store_calls import Place, using_puts
 from size_checks.asked import Asked, Tenant, check_refused, host_of, kept, size_of
 from size_checks.page import examples
 from sizing import host_size
@@ -44,13 +44,6 @@ def check_segments(program, sizes):
     want(not starts(program, tenants, sizes["segments"] - 1), "one segment less is enough")
 
 
-def use_up(tenant, quota):
-    """Puts that take all cells of a quota, but for three at most. Of each, two are kept for the delete of its key."""
-    for number, first in enumerate(range(0, quota - 3, CELLS_A_PUT)):
-        cells = min(CELLS_A_PUT, quota - first)
-        tenant.call("kv/put", {"key": text(b"%d" % number), "value": text(bytes(48 * (cells - 4)))})
-
-
 def resident(program, tenants, segments):
     """The resident bytes of a server with these tenants, whose quotas are used up, and one more of a segment."""
     with Server(program, configuration([tenant_of("more", 64), *tenants], segments=segments + 1)) as server:
@@ -58,7 +51,8 @@ def resident(program, tenants, segments):
             tenant.status()
         for one in tenants:
             with Tenant(server, one["name"]) as tenant:
-                use_up(tenant, one["quota"])
+                for put in using_puts(one["quota"], CELLS_A_PUT):
+                    tenant.call(*put)
         return server.memory()["now"]
 
 
