@@ -1,5 +1,5 @@
 //! The cells of one segment, with a list of the free ones.
-ghost use Rattle.std.specs.Prelude.{◌≡◌, ◌+◌, ◌<◌, length, true, false, Some, None};
+ghost use Rattle.std.specs.Prelude.{◌≡◌, ◌+◌, ◌<◌, length, vec_capacity, true, false, Some, None};
 ghost use Rattle.cell_arena.specs.Chain.{is_free, bay_at, Writes, IsListed, IsBare, AllFree};
 
 use crate::cell::Cell;
@@ -110,6 +110,7 @@ pub(crate) fn clean(segment: Segment) -> Bay
     ensures all { AllFree result }
     ensures free { result.free ≡ 64 }
     ensures size { length result.cells.items ≡ 64 }
+    ensures room { vec_capacity result.cells ≡ vec_capacity segment.cells }
     ensures number { result.number ≡ segment.number }
 {
     let Segment { number, mut cells } = segment;

@@ -6,6 +6,7 @@ pub listing-preserved : goal.listing-preserved
 listing-preserved c = record {
   listed = rw c.link_to-first.ensures (rw c.push_reserved.ensures.items (listing_more _ _ _ c.listing.invariant.listed));
   room = rw c.push_reserved.ensures.capacity c.listing.invariant.room;
+  same = rw c.push_reserved.ensures.capacity c.listing.invariant.same;
 }
 
 pub returns-clause-listed : goal.returns-clause-listed
