@@ -110,6 +110,11 @@ class Process:
     def memory(self):
         return memory(self.child.pid)
 
+    def has_mapped(self, name):
+        """Whether a file whose path ends so is part of its memory, as a library is."""
+        with open(f"/proc/{self.child.pid}/maps", encoding="utf-8", errors="replace") as file:
+            return any(line.rstrip().endswith(name) for line in file)
+
     def descriptors(self):
         """How many files and connections it has open."""
         return len(os.listdir(f"/proc/{self.child.pid}/fd"))

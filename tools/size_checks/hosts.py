@@ -18,6 +18,7 @@ from sizing import host_size
 
 # So that the body of such a put is short beside what its tenant may take.
 CELLS_A_PUT = 2_000
+UNIT_ALLOCATOR = "libjemalloc.so.2"
 UNREADABLE = b"etcd_host: the configuration can't be read\n"
 
 
@@ -54,6 +55,21 @@ def resident(program, tenants, segments):
                 for put in using_puts(one["quota"], CELLS_A_PUT):
                     tenant.call(*put)
         return server.memory()["now"]
+
+
+def check_unused(program):
+    """Over the unit's allocator a pool takes memory as it is used: that of 262,144 segments, 940 MB, at the start hardly any."""
+    given = configuration([tenant_of(name) for name in ["one", "two", "three"]], segments=262_144)
+    with Server(program, given, {"LD_PRELOAD": UNIT_ALLOCATOR}) as server:
+        if not server.has_mapped(UNIT_ALLOCATOR):
+            print(f"{UNIT_ALLOCATOR} is not installed: an unused pool is not looked at")
+            return
+        with Tenant(server, "two") as tenant:
+            for put in using_puts(1024, 512):
+                tenant.call(*put)
+        now = server.memory()["now"]
+    print(f"a pool of 262,144 segments, of which few were used: {now:,} bytes")
+    want(now < 100_000_000, f"{now:,} bytes are resident, of a pool that few used")
 
 
 def check_memory(program, all_sizes):
@@ -195,6 +211,7 @@ def of_configurations(program):
         print("there is no /proc: memory is not looked at")
         return
     yield "the memory of the examples' tenants", lambda: check_memory(program, all_sizes)
+    yield "a pool that few used", lambda: check_unused(program)
     small = Asked("", [], 64).sizes()
     yield "the memory of 255 small tenants", lambda: check_memory(program, [small] * 255)
 
