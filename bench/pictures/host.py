@@ -89,11 +89,11 @@ def draw_threads(drawing):
     scheduler = Zone(drawing, "tenant_scheduler")
     scheduler.frame(20, 270, 410, 434, THREADS, "turns, queues and threads")
     scheduler.stop((64, 306, 322, 96), "2", "A brief call takes the turn, if nobody has it", [
-        ("tenant_scheduler", "begun", "Begun::new"), ("gateway_json", "call", "read_step"),
+        ("pending_calls", "begun", "Begun::new"), ("gateway_json", "call", "read_step"),
         ("fair_turns", "scheduler", "Scheduler::begin_in_loop"),
         ("tenant_scheduler", "inline_calls", "InlineCalls::serve")])
     scheduler.stop((64, 458, 322, 52), "2a", "Else it is a job in the tenant's queue", [
-        ("tenant_scheduler", "job_queue", "JobQueue::push")])
+        ("pending_calls", "job_queue", "JobQueue::push")])
     scheduler.stop((64, 560, 322, 66), "2b", "A worker takes the turn, and the job", [
         ("tenant_scheduler", "worker", "work")], ["and reads the step of a long body"])
     ends = code_of("fair_turns", "scheduler", "Scheduler::finish")

@@ -8,13 +8,13 @@ use Rattle.etcd_types.specs.declared.refusal.Refusal.TheVariants.{Memory}
 use Rattle.http.specs.declared.response.Response.{Response}
 use Rattle.fair_turns.specs.declared.answer.Answer.{Answer}
 use Rattle.fair_turns.specs.Answers.{Answers, Unasked, Refuses}
-use Rattle.tenant_scheduler.specs.declared.request.Route.{Route}
-use Rattle.tenant_scheduler.specs.declared.caller.told.Told.{Told}
-use Rattle.tenant_scheduler.specs.declared.begun.Begun.{Begun}
-use Rattle.tenant_scheduler.specs.declared.begun.Begun.TheVariants.{Pending, Answered}
-use Rattle.tenant_scheduler.specs.declared.caller.unserved.PendingCall.{PendingCall}
-use Rattle.tenant_scheduler.specs.Begins.{IsBegun}
-use Rattle.tenant_scheduler.specs.Requests.{IsAnswerOf}
+use Rattle.pending_calls.specs.declared.request.Route.{Route}
+use Rattle.pending_calls.specs.declared.told.Told.{Told}
+use Rattle.pending_calls.specs.declared.begun.Begun.{Begun}
+use Rattle.pending_calls.specs.declared.begun.Begun.TheVariants.{Pending, Answered}
+use Rattle.pending_calls.specs.declared.unserved.PendingCall.{PendingCall}
+use Rattle.pending_calls.specs.Begins.{IsBegun}
+use Rattle.pending_calls.specs.Requests.{IsAnswerOf}
 use Rattle.gateway_http.specs.declared.exchange.Stage.{Stage}
 use Rattle.gateway_http.specs.declared.exchange.Stage.TheVariants as stage
 use Rattle.gateway_http.specs.declared.response.ResponseBody.{ResponseBody}

@@ -8,9 +8,9 @@ use Rattle.http.specs.declared.response.Response.{Response}
 use Rattle.http.specs.Request.{head_of, body_of}
 use Rattle.http_uri.specs.Uri.{uri_path}
 use Rattle.fair_turns.specs.declared.answer.Answer.{Answer}
-use Rattle.tenant_scheduler.specs.declared.caller.told.Told.{Told}
-use Rattle.tenant_scheduler.specs.declared.begun.Begun.TheVariants.{Pending, Answered}
-use Rattle.tenant_scheduler.specs.Requests.{IsAnswerOf}
+use Rattle.pending_calls.specs.declared.told.Told.{Told}
+use Rattle.pending_calls.specs.declared.begun.Begun.TheVariants.{Pending, Answered}
+use Rattle.pending_calls.specs.Requests.{IsAnswerOf}
 use Rattle.gateway_http.specs.declared.exchange.Stage.{Stage}
 use Rattle.gateway_http.specs.declared.reading.Reading.{Reading}
 use Rattle.gateway_http.specs.declared.exchange.Stage.TheVariants as stage

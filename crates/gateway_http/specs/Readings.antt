@@ -15,7 +15,7 @@ use Rattle.hyper.specs.Incoming.{IncomingYields}
 use Rattle.etcd_types.specs.declared.refusal.Refusal.{Refusal}
 use Rattle.fair_turns.specs.declared.answer.Answer.{Answer}
 use Rattle.fair_turns.specs.Answers.{Answers, Refuses}
-use Rattle.tenant_scheduler.specs.declared.request.Route.{Route}
+use Rattle.pending_calls.specs.declared.request.Route.{Route}
 use Rattle.gateway_http.specs.declared.reading.Loss.{Loss}
 use Rattle.gateway_http.specs.declared.reading.Loss.TheVariants as loss
 use Rattle.gateway_http.specs.declared.reading.Reading.{Reading}

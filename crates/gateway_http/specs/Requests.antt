@@ -9,10 +9,10 @@ use Rattle.etcd_types.specs.declared.refusal.Refusal.{Refusal}
 use Rattle.etcd_types.specs.declared.refusal.Refusal.TheVariants as refusal
 use Rattle.etcd_model.specs.Calls.{Target, call_of, target_of}
 use Rattle.fair_turns.specs.Answers.{Refuses}
-use Rattle.tenant_scheduler.specs.declared.request.Route.{Route}
-use Rattle.tenant_scheduler.specs.declared.begun.Begun.{Begun}
-use Rattle.tenant_scheduler.specs.declared.begun.Begun.TheVariants.{Pending, Answered}
-use Rattle.tenant_scheduler.specs.Begins.{IsBegun}
+use Rattle.pending_calls.specs.declared.request.Route.{Route}
+use Rattle.pending_calls.specs.declared.begun.Begun.{Begun}
+use Rattle.pending_calls.specs.declared.begun.Begun.TheVariants.{Pending, Answered}
+use Rattle.pending_calls.specs.Begins.{IsBegun}
 use Rattle.gateway_http.specs.declared.reading.Loss.{Loss}
 use Rattle.gateway_http.specs.declared.reading.Loss.TheVariants as loss
 

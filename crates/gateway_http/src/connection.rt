@@ -17,12 +17,12 @@ use hyper::body::Incoming;
 use hyper::rt::Timer;
 use hyper::server::conn::http1;
 use hyper::service::Service;
+use pending_calls::CallServer;
 use std::alloc::Global;
 use std::hash::RandomState;
 use std::rt::Clock;
 use std::sync::{Arc, Wait};
 use std::time::Duration;
-use tenant_scheduler::CallServer;
 use tokio::io::{AsyncRead, AsyncWrite};
 
 /// How many bytes wait at a connection to be sent, before no more of an answer is handed to it.

@@ -20,12 +20,12 @@ use futures::{Future, ready};
 use hyper::body::Incoming;
 use hyper::service::Service;
 use hyper::{Request, Response};
+use pending_calls::{Begun, CallServer, PendingCall, Route, Told, Unanswered};
 use std::alloc::{AllocError, Global};
 use std::mem;
 use std::rt::Clock;
 use std::sync::{Arc, Wait};
 use std::time::Duration;
-use tenant_scheduler::{Begun, CallServer, PendingCall, Route, Told, Unanswered};
 use tokio::time;
 
 /// Begins an exchange for each request of a connection.

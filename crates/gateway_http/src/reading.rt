@@ -20,11 +20,11 @@ use futures::task::{Context, Poll};
 use http_body_util::{Limited, LimitedError};
 use hyper::body::{Body, Frame, Incoming};
 use hyper::header::{self, HeaderMap};
+use pending_calls::{Begun, CallServer, RequestBody, Route, Unanswered};
 use std::alloc::{AllocError, Global};
 use std::mem;
 use std::rt::Clock;
 use std::sync::{Arc, Wait};
-use tenant_scheduler::{Begun, CallServer, RequestBody, Route, Unanswered};
 
 /// How many pieces of a body are read in one poll.
 const PIECES_A_POLL: usize = 128;

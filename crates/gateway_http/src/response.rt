@@ -18,10 +18,10 @@ use futures::task::{Context, Poll};
 use http_body::{Body, Frame, SizeHint};
 use hyper::header::{self, HeaderMap, HeaderName, HeaderValue};
 use hyper::{Response, StatusCode};
+use pending_calls::Told;
 use std::alloc::{AllocError, Global};
 use std::rt::Clock;
 use std::sync::Wait;
-use tenant_scheduler::Told;
 
 /// The body of a response: a text, and behind that of a watch the texts that follow.
 pub struct ResponseBody<R: Wait + Clock + Drop> {

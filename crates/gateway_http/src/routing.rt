@@ -3,8 +3,8 @@ ghost use Rattle.gateway_http.specs.Requests.{IsRouteOf};
 
 use etcd_types::Refusal;
 use gateway_json::{call_of, target_of};
+use pending_calls::{Jobs, Route};
 use std::sync::Wait;
-use tenant_scheduler::{Jobs, Route};
 
 /// The route of a request: the path, the tenant and the method are looked at in this order.
 pub(crate) fn route<R: Wait + Drop>(

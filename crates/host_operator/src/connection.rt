@@ -6,6 +6,7 @@ ghost use Rattle.hyper.specs.ServerDispatch.{Runs};
 use crate::requests::{OperatorExchange, OperatorGateway};
 use bytes::Bytes;
 use connection_table::Patience;
+use event_loop::EventLoop;
 use futures::Future;
 use futures::task::{Context, Poll};
 use http_body_util::Full;
@@ -21,7 +22,6 @@ use std::random::RandomSource;
 use std::rt::Clock;
 use tokio::io::{AsyncRead, AsyncWrite};
 use tokio::net::TcpStream;
-use tokio::runtime::LocalRuntime;
 
 /// How heads are read and answers are written.
 pub(crate) struct OperatorHttp<R: Clock + Copy + Drop> {
@@ -35,15 +35,15 @@ impl<R: Clock + Copy + Drop> Drop for OperatorHttp<R> {
 }
 
 impl<R: Clock + RandomSource + Copy + Drop> OperatorHttp<R> {
-    /// For the connections of a runtime, whose peers have so much patience.
+    /// For the connections of an event loop, whose peers have so much patience.
     pub(crate) fn new(
         rt: R,
         alloc: Global,
-        runtime: &LocalRuntime,
+        event_loop: &EventLoop,
         patience: Patience,
     ) -> io::Result<OperatorHttp<R>> {
         let keys = RandomState::new(&rt)?;
-        let timers = runtime.handle().time().clone()?;
+        let timers = event_loop.timers().clone()?;
         let mut builder = http1::Builder::new(alloc, keys).timer(TokioTimer::new(rt, timers));
         builder.header_read_timeout(Some(patience.for_head()));
         Ok(OperatorHttp { builder })

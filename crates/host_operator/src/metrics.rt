@@ -6,7 +6,6 @@ use std::sync::Arc;
 use tenant_registry::Usage;
 
 /// What a tenant uses, as far as it could be told without waiting for it.
-#[derive(Drop)]
 pub(crate) struct Sample {
     pub(crate) name: String,
     pub(crate) usage: Usage,
@@ -17,6 +16,20 @@ pub(crate) struct Sample {
     pub(crate) budget_left: usize,
     pub(crate) open_connections: usize,
     pub(crate) open_watches: usize,
+}
+
+impl Drop for Sample {
+    fn drop(self) {
+        let Sample {
+            name: _,
+            usage: _,
+            counts: _,
+            budget: _,
+            budget_left: _,
+            open_connections: _,
+            open_watches: _,
+        } = self;
+    }
 }
 
 /// A number of each tenant that goes up and down.

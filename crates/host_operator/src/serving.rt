@@ -1,6 +1,4 @@
 //! The operator's loop: it accepts his connections, and reads and answers their requests.
-ghost use Rattle.std.specs.Prelude.{IfOk, IfSome};
-
 use crate::calls::OperatorCall;
 use crate::connection::{OperatorConnection, OperatorHttp};
 use crate::directory::TenantDirectory;
@@ -8,7 +6,7 @@ use crate::operator::Operator;
 use crate::requests::{OperatorEntrance, OperatorGateway, OperatorOutcome, OperatorRequest};
 use connection_table::Patience;
 use etcd_types::Mem;
-use futures::executor::TaskSet;
+use event_loop::{ConnectionTask, EventLoop, MakesTasks, TaskGroup};
 use futures::task::{Context, Poll};
 use futures::{Future, ready};
 use host_config::OperatorConfig;
@@ -21,7 +19,6 @@ use std::sync::{Arc, Wait};
 use std::time::{Clock, Duration};
 use std::{io, net, thread};
 use tokio::net::{TcpListener, TcpStream};
-use tokio::runtime::LocalRuntime;
 use tokio::sync::mpsc::UnboundedReceiver;
 
 /// How many milliseconds no connection is accepted after one could not be.
@@ -29,7 +26,7 @@ const PAUSE: u64 = 50;
 
 /// Where the operator's connections come in.
 pub struct OperatorSocket {
-    runtime: LocalRuntime,
+    event_loop: EventLoop,
     door: Door,
 }
 
@@ -44,7 +41,7 @@ struct Door {
 impl Drop for OperatorSocket {
     fn drop(self) {
         let OperatorSocket {
-            runtime: _,
+            event_loop: _,
             door: _,
         } = self;
     }
@@ -102,7 +99,7 @@ impl OperatorSocket {
         };
         let door = Door::of(rt, config, token, patience)?;
         Ok(OperatorSocket {
-            runtime: LocalRuntime::new(rt)?,
+            event_loop: EventLoop::new(rt)?,
             door,
         })
     }
@@ -112,9 +109,9 @@ impl OperatorSocket {
         self.door.listener.local_addr()
     }
 
-    fn into_parts(self) -> (LocalRuntime, Door) {
-        let OperatorSocket { runtime, door } = self;
-        (runtime, door)
+    fn into_parts(self) -> (EventLoop, Door) {
+        let OperatorSocket { event_loop, door } = self;
+        (event_loop, door)
     }
 }
 
@@ -142,41 +139,8 @@ impl Drop for Counted {
     }
 }
 
-/// A connection of the operator as a task. It stands on the heap, since a set of tasks moves a task each time it polls it.
-#[derive(Drop)]
-struct Served<C> {
-    connection: Option<Box<C>>,
-    counted: Option<Counted>,
-}
-
-impl<C: Future> Served<C> {
-    /// None where there is no memory.
-    fn of(alloc: Global, connection: C, counted: Option<Counted>) -> Mem<Served<C>>
-        requires { C.can_poll connection }
-        ensures { IfOk result (λ served. IfSome served.connection (λ connection. C.can_poll connection.value)) }
-    {
-        let connection = Box::new(alloc, connection)?;
-        Ok(Served {
-            connection: Some(connection),
-            counted,
-        })
-    }
-}
-
-impl<C: Future<Output = hyper::Result<()>>> Future for Served<C> {
-    type Output = ();
-
-    ghost can_poll = { λ s. IfSome s.connection (λ connection. C.can_poll connection.value) };
-
-    fn poll(&mut self, cx: &mut Context<'_>) -> Poll<()> {
-        if let Some(connection) = &mut self.connection {
-            let _ = ready!(connection.poll(cx));
-            self.connection = None;
-            self.counted = None;
-        }
-        Poll::Ready(())
-    }
-}
+/// A connection of the operator as a task.
+type OperatorTask<R> = ConnectionTask<OperatorConnection<R>, Counted>;
 
 /// Makes connections of the operator tasks.
 struct Receiving<R: Clock + Copy + Drop> {
@@ -201,73 +165,66 @@ impl<R: Clock + Copy + Drop> Drop for Receiving<R> {
 }
 
 impl<R: Clock + RandomSource + Copy + Drop> Receiving<R> {
-    /// On a runtime, for peers with so much patience, whose requests are handed in at an entrance.
+    /// On an event loop, for peers with so much patience, whose requests are handed in at an entrance.
     fn new(
         rt: R,
         alloc: Global,
-        runtime: &LocalRuntime,
+        event_loop: &EventLoop,
         patience: Patience,
         entrance: OperatorEntrance,
     ) -> io::Result<Receiving<R>> {
         Ok(Receiving {
             rt,
             alloc,
-            http: OperatorHttp::new(rt, alloc, runtime, patience)?,
+            http: OperatorHttp::new(rt, alloc, event_loop, patience)?,
             entrance: Arc::new(alloc, entrance)?,
             open: Arc::new(alloc, AtomicUsize::new(0))?,
         })
     }
 }
 
-impl<R: Clock + Eprint + Copy + Drop> Receiving<R> {
-    /// A connection that was accepted.
-    fn receive(&self, stream: TcpStream) -> Mem<Served<OperatorConnection<R>>>
-        ensures { IfOk result (λ served. IfSome served.connection
-            (λ connection. ⟦<OperatorConnection<R> as Future>⟧.can_poll connection.value)) }
-    {
+impl<R: Clock + Eprint + Copy + Drop> MakesTasks<TcpStream, OperatorTask<R>> for Receiving<R> {
+    fn make(&self, stream: TcpStream) -> Mem<OperatorTask<R>> {
         let gateway = OperatorGateway {
             rt: self.rt,
             alloc: self.alloc,
             entrance: OperatorEntrance::share(&self.entrance),
         };
         let connection = OperatorConnection::new(&self.http, stream, gateway);
-        Served::of(self.alloc, connection, Counted::of(&self.open))
+        ConnectionTask::of(self.alloc, Counted::of(&self.open), connection)
     }
 }
 
 /// Accepts the operator's connections, each as a task of a set. Ready once the server has ended.
-struct Accepting<'a, 'x, R: Wait + Drop, D: TenantDirectory, F, T: Future> {
+struct Accepting<'a, 'x, R: Wait + Drop, D: TenantDirectory, M, T: Future> {
     rt: R,
     operator: &'a mut Operator<'x, R, D>,
     arriving: Arriving,
-    tasks: &'a TaskSet<T>,
-    make: F,
+    tasks: &'a TaskGroup<T>,
+    maker: M,
 }
 
-impl<R: Wait + Drop, D: TenantDirectory, F: Drop, T: Future> Drop
-    for Accepting<'_, '_, R, D, F, T> {
+impl<R: Wait + Drop, D: TenantDirectory, M: Drop, T: Future> Drop
+    for Accepting<'_, '_, R, D, M, T> {
     fn drop(self) {
         let Accepting {
             rt: _,
             operator: _,
             arriving: _,
             tasks: _,
-            make: _,
+            maker: _,
         } = self;
     }
 }
 
-impl<R, D, F, T> Future for Accepting<'_, '_, R, D, F, T>
+impl<R, D, M, T> Future for Accepting<'_, '_, R, D, M, T>
 where
     R: Wait + Clock + Files + AllocGlobal + Copy + Drop,
     D: TenantDirectory,
-    F: Fn(TcpStream) -> Mem<T> + Drop,
+    M: MakesTasks<TcpStream, T>,
     T: Future<Output = ()>,
 {
     type Output = ();
-
-    ghost can_poll = { λ a. F.IsAlwaysCallable a.make
-        × ((stream : _) (made : _) → F.post a.make stream made → IfOk made T.can_poll) };
 
     fn poll(&mut self, cx: &mut Context<'_>) -> Poll<()> {
         if self.arriving.ended.poll_recv(cx).is_ready() {
@@ -279,12 +236,9 @@ where
         }
         match ready!(self.arriving.listener.poll_accept(cx)) {
             Ok((stream, _)) => {
-                let make = &self.make;
                 // One too many is closed.
-                if self.arriving.open.load(Ordering::SeqCst) < MOST
-                    && let Ok(served) = make(stream)
-                {
-                    drop(self.tasks.spawn(served));
+                if self.arriving.open.load(Ordering::SeqCst) < MOST {
+                    let _ = self.tasks.begin(self.maker.make(stream));
                 }
             }
             Err(_) => thread::sleep(&self.rt, Duration::from_millis(PAUSE)),
@@ -327,15 +281,15 @@ where
     R: Wait + Clock + RandomSource + AllocGlobal + Files + Eprint + Copy + Drop,
     D: TenantDirectory,
 {
-    let (mut runtime, door) = socket.into_parts();
-    serve_at(rt, alloc, &mut runtime, &mut operator, door, ended)
+    let (mut event_loop, door) = socket.into_parts();
+    serve_at(rt, alloc, &mut event_loop, &mut operator, door, ended)
 }
 
-/// The same at a door, on the event loop of a runtime.
+/// The same at a door, on an event loop.
 fn serve_at<R, D>(
     rt: R,
     alloc: Global,
-    runtime: &mut LocalRuntime,
+    event_loop: &mut EventLoop,
     operator: &mut Operator<'_, R, D>,
     door: Door,
     ended: UnboundedReceiver<()>,
@@ -346,20 +300,14 @@ where
 {
     let (listener, token, patience) = door.into_parts();
     let (entrance, requests) = OperatorEntrance::open(alloc, token)?;
-    let receiving = Receiving::new(rt, alloc, &*runtime, patience, entrance)?;
+    let receiving = Receiving::new(rt, alloc, &*event_loop, patience, entrance)?;
     let arriving = Arriving {
-        listener: TcpListener::from_std(listener, runtime.handle().reactor())?,
+        listener: TcpListener::from_std(listener, event_loop.reactor())?,
         open: Arc::try_clone(&receiving.open)?,
         requests,
         ended,
     };
-    run_tasks(
-        rt,
-        runtime,
-        operator,
-        arriving,
-        move |stream| receiving.receive(stream),
-    )
+    run_tasks(rt, event_loop, operator, arriving, receiving)
 }
 
 /// What the operator's connections come by.
@@ -382,29 +330,27 @@ impl Drop for Arriving {
     }
 }
 
-/// Runs the operator's connections as tasks that a function makes.
-fn run_tasks<R, D, F, T>(
+/// Runs the operator's connections as tasks.
+fn run_tasks<R, D, M, T>(
     rt: R,
-    runtime: &mut LocalRuntime,
+    event_loop: &mut EventLoop,
     operator: &mut Operator<'_, R, D>,
     arriving: Arriving,
-    make: F,
+    maker: M,
 ) -> io::Result<()>
 where
     R: Wait + Clock + RandomSource + AllocGlobal + Files + Copy + Drop,
     D: TenantDirectory,
-    F: Fn(TcpStream) -> Mem<T> + Drop,
+    M: MakesTasks<TcpStream, T>,
     T: Future<Output = ()>,
-    requires callable { F.IsAlwaysCallable make }
-    requires pollable { (stream : _) (made : _) → F.post make stream made → IfOk made T.can_poll }
 {
-    let tasks = runtime.task_set(&rt)?;
+    let tasks = event_loop.tasks(&rt)?;
     let accepting = Accepting {
         rt,
         operator,
         arriving,
         tasks: &tasks,
-        make,
+        maker,
     };
-    runtime.block_on_with(&rt, &tasks, accepting)
+    event_loop.run(&rt, &tasks, accepting)
 }

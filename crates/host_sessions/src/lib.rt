@@ -11,7 +11,7 @@ mod sessions;
 
 pub use connection_table::{Allowance, Patience};
 pub use host_config::{Config, ConfigFault, OperatorConfig, read_config};
+pub use pending_calls::Jobs;
 pub use served::ServedTenants;
 pub use sessions::{Ended, ListenFault, Sessions};
-pub use tenant_scheduler::Jobs;
 pub use tenant_server::{End, Listening, Opened, ServeFault};

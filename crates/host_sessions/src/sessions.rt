@@ -4,6 +4,7 @@ ghost use Rattle.connection_table.specs.declared.allowance.TheConstants.{LOOPS};
 ghost use Rattle.tenant_server.specs.Threads.{are_too_few};
 
 use host_config::Config;
+use pending_calls::Jobs;
 use std::alloc::{AllocGlobal, Global};
 use std::io;
 use std::net::{Net, SocketAddr};
@@ -12,7 +13,6 @@ use std::sync::Wait;
 use std::thread::Threads;
 use std::time::Clock;
 use tenant_registry::{Gate, Key, Registry, Seat, SeatedCalls};
-use tenant_scheduler::Jobs;
 use tenant_server::{End, Listening, Opened, ServeFault, Terms, serve_one, serve_with};
 use tokio::io::{AsyncRead, AsyncWrite};
 use tokio::sync::mpsc::UnboundedReceiver;

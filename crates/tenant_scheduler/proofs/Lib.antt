@@ -1,5 +1,4 @@
 -- Proofs of this crate.
 pub mod MakeLemmas
 pub mod OrderLemmas
-pub mod RequestLemmas
 pub mod WatchLemmas

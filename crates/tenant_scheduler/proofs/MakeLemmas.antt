@@ -8,7 +8,7 @@ use Rattle.fair_turns.specs.declared.answer.Answer.{Answer}
 use Rattle.fair_turns.specs.Answers.{Refuses}
 use Rattle.tenant_audit.specs.Receipts.{Slip}
 use Rattle.tenant_calls.specs.Counts.{Counts, IsNoMore, IsOneMore}
-use Rattle.tenant_scheduler.specs.declared.request.NamedTenant.{NamedTenant}
+use Rattle.pending_calls.specs.declared.request.NamedTenant.{NamedTenant}
 use Rattle.fair_turns.specs.declared.watch_texts.ServedWatch.{ServedWatch}
 use Rattle.etcd_types.specs.Steps.{is_brief}
 use Rattle.tenant_scheduler.specs.Makes.{IsCounted, IsMade, IsMadeAfterTakes, IsOnlyOn, IsOpened, Made, Unmade, Opened, Unopened}

@@ -1,7 +1,5 @@
-pub mod Begins
 pub mod Makes
 pub mod Outcomes
 pub mod OwnSteps
-pub mod Requests
 pub mod ServerTime
 pub mod Watches

@@ -11,10 +11,10 @@ use Rattle.fair_turns.specs.Answers.{Conveys, Refuses}
 use Rattle.tenant_audit.specs.Receipts.{Slip}
 use Rattle.tenant_calls.specs.Answers.{IsUncalled}
 use Rattle.tenant_calls.specs.Counts.{Counts, IsNoMore, IsOneMore}
-use Rattle.tenant_scheduler.specs.declared.request.NamedTenant.{NamedTenant}
-use Rattle.tenant_scheduler.specs.declared.request.Request.{Request}
+use Rattle.pending_calls.specs.declared.request.NamedTenant.{NamedTenant}
+use Rattle.pending_calls.specs.declared.request.Request.{Request}
 use Rattle.fair_turns.specs.declared.watch_texts.ServedWatch.{ServedWatch}
-use Rattle.tenant_scheduler.specs.Requests.{IsStepOf, IsUnread}
+use Rattle.pending_calls.specs.Requests.{IsStepOf, IsUnread}
 use Rattle.tenant_scheduler.specs.Watches.{IsListed}
 
 -- one call more was made, by a key to the tenant of that number and that name

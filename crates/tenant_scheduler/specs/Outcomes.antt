@@ -1,17 +1,11 @@
--- What becomes of a brief request where it was read.
-use Rattle.std.specs.Prelude.{◌≡◌, ℕ, List, Result, Ok, Err}
+-- What is made of a brief request where it was read.
+use Rattle.std.specs.Prelude.{ℕ, List, Result, Ok, Err}
 use Rattle.etcd_types.specs.declared.step.Step.{Step}
 use Rattle.tenant_audit.specs.Receipts.{Slip}
 use Rattle.tenant_calls.specs.Counts.{Counts, IsNoMore}
-use Rattle.tenant_scheduler.specs.declared.brief_request.BriefRequest.{BriefRequest}
-use Rattle.tenant_scheduler.specs.declared.caller.told.Told.{Told}
+use Rattle.pending_calls.specs.declared.brief_request.BriefRequest.{BriefRequest}
+use Rattle.pending_calls.specs.declared.told.Told.{Told}
 use Rattle.tenant_scheduler.specs.Makes.{IsMade}
-use Rattle.tenant_scheduler.specs.Requests.{IsAnswerOf}
-
--- it is told what it may be; or it is left as it is
-abbrev pub IsServed : {R : Type 0} → BriefRequest → Result (Told R) BriefRequest → Type 0
-IsServed brief (Ok told) = ∥ IsAnswerOf brief.asked.request told.answer ∥₁
-IsServed brief (Err left) = left ≡ brief
 
 -- its step is served once, on its own tenant; or no call was made
 abbrev pub IsOutcome : {R K : Type 0} → (K → ℕ) → (K → List ℕ) → (ℕ → Step → Slip → Type 0) → BriefRequest

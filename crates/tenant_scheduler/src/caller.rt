@@ -7,28 +7,21 @@ ghost use Rattle.tenant_calls.specs.Answers.{IsTold, IsUncalled};
 ghost use Rattle.tenant_calls.specs.Counts.{IsNoMore};
 ghost use Rattle.tenant_scheduler.specs.Makes.{IsCounted, IsMade, IsOpened};
 ghost use Rattle.tenant_scheduler.specs.OwnSteps.{IsMoment, IsOrdered, IsOwnMade};
-ghost use Rattle.tenant_scheduler.specs.Requests.{IsAnswerOf, IsStepOf};
+ghost use Rattle.pending_calls.specs.Requests.{IsAnswerOf, IsStepOf};
 ghost use Rattle.tenant_scheduler.specs.Watches.{IsListed, opens};
-
-mod told;
-mod unserved;
 
 use crate::clients::{Clients, key_of};
 use crate::clock::Moment;
-use crate::request::NamedTenant;
 use auto_compaction::DueRevision;
 use etcd_types::{Refusal, Step};
 use fair_turns::{
     Answer, Budget, LONGEST_ROW, MadeText, ServedWatch, Share, TextShare, WatchEnds, WatchTake,
 };
+use pending_calls::{JobAnswer, NamedTenant, OpenRequest, Told, Unserved};
 use std::alloc::Global;
 use std::rt::Clock;
 use std::sync::Wait;
 use tenant_calls::{CallReceipt, TenantCalls, TenantKey};
-pub(crate) use told::OpenRequest;
-pub use told::{Told, Unanswered};
-pub use unserved::PendingCall;
-pub(crate) use unserved::{JobAnswer, Unserved};
 
 /// What a thread calls tenants by.
 #[derive(Drop)]

@@ -2,10 +2,10 @@
 ghost use Rattle.std.specs.Prelude.{◌≡◌, IfSome, Some};
 
 use crate::clock::Running;
-use crate::entrances::Entrance;
 use auto_compaction::{Retention, StandingOrder};
 use etcd_types::Mem;
 use fair_turns::{Budget, Scheduler, ServedWatch, TenantCounts, TenantTurns, Work};
+use pending_calls::Entrance;
 use std::alloc::Global;
 use std::sync::{Arc, Wait};
 use tenant_calls::TenantKey;

@@ -3,16 +3,15 @@
 //! A call that goes to a worker wakes two threads, which takes longer than a brief call does. So an event loop takes the
 //! turn on the tenant, if nobody has it, and answers, as soon as the call's body is read. What may take long is left to the
 //! workers: a loop has many connections, which wait meanwhile.
-ghost use Rattle.tenant_scheduler.specs.Outcomes.{IsOutcome, IsServed};
+ghost use Rattle.pending_calls.specs.Outcomes.{IsServed};
+ghost use Rattle.tenant_scheduler.specs.Outcomes.{IsOutcome};
 
-use crate::brief_request::BriefRequest;
-use crate::call_server::CallServer;
-use crate::caller::{Caller, Told};
+use crate::caller::Caller;
 use crate::clients::Clients;
-use crate::jobs::Jobs;
 use crate::serving::ServingThread;
 use crate::tenants::ServedTenant;
 use fair_turns::{Scheduler, Stopwatch};
+use pending_calls::{BriefRequest, CallServer, Jobs, Told};
 use std::alloc::Global;
 use std::rt::Clock;
 use std::sync::atomic::{AtomicBool, Ordering};

@@ -2,18 +2,15 @@
 //!
 //! How a call goes through:
 //!
-//! 1. `Jobs::tenant` finds the tenant that the call names (`jobs`, `entrances`). `Begun::new` (`begun`) reads the step of a
-//!    short body. A brief step becomes an *inline call*, which the event loop serves that has read it; any other step, and a
-//!    long body as it is, becomes a *job* in its tenant's queue (`job_queue`). `CallServer` is all that a connection knows of
-//!    either (`call_server`).
+//! 1. `pending_calls` has what was asked: an *inline call*, which the event loop serves that has read it, or a *job* in its
+//!    tenant's queue.
 //! 2. A tenant is served by one thread at a time, which has the *turn* there. Whose turn it is, and what a tenant's clients
 //!    may have under way, is `fair_turns`'.
 //! 3. An event loop serves an inline call if nobody has the turn (`inline_calls`), and else the call becomes a job. A worker
 //!    serves a few jobs a turn (`worker`). Both call the tenant by its key (`caller`), whose traits are those of
-//!    `tenant_calls`. By contract the answer is the written machine's reply (specs `Requests`), from the one call that was
-//!    made for it (specs `Makes`); by its type a request is answered once (`caller::told`).
-//! 4. The answer of an inline call is there at once; that of a job comes through `PendingCall::poll_told`, with its request.
-//!    That of a watch has `WatchTexts`: the pump takes the next text when the client has read the last one (`pump`). The
+//!    `tenant_calls`. By contract the answer is the written machine's reply, from the one call that was made for it (specs
+//!    `Makes`).
+//! 4. The answer of a watch has `WatchTexts`: the pump takes the next text when the client has read the last one (`pump`). The
 //!    catch-up worker moves watches on that are behind, and compacts by standing orders (`catch_up`); the clock ticks each
 //!    tenant once a second (`clock`).
 //!
@@ -21,31 +18,18 @@
 //! `clients`). Tenants come and go meanwhile (`tenants`).
 #![tactic(auto)]
 
-mod begun;
-mod brief_request;
-mod call_server;
 mod caller;
 mod catch_up;
 mod clients;
 mod clock;
-mod entrances;
 mod inline_calls;
-mod job_queue;
-mod jobs;
 mod pump;
-mod request;
 mod serving;
 mod shared;
 mod tenants;
 mod worker;
 
-pub use begun::Begun;
-pub use brief_request::BriefRequest;
-pub use call_server::CallServer;
-pub use caller::{PendingCall, Told, Unanswered};
 pub use inline_calls::InlineCalls;
-pub use jobs::Jobs;
-pub use request::{NamedTenant, RequestBody, Route};
 pub use serving::{Service, ServingThread};
 pub use shared::{Shared, open};
 pub use tenants::{NewTenant, ServedTenant, TenantTerms, Tenants};

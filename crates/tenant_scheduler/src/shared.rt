@@ -1,13 +1,12 @@
 //! What the threads that serve tenants share.
 use crate::caller::Caller;
-use crate::entrances::Entrances;
-use crate::jobs::Jobs;
 use crate::pump::drop_closed;
 use crate::tenants::{ServedTenant, TenantTerms, Tenants};
 use crossbeam_channel::{Receiver, RecvTimeoutError};
 use etcd_types::Mem;
 use etcd_types::limits::MAX_TENANTS;
 use fair_turns::{Beats, PARTS, Scheduler, Turn, Turns, Work};
+use pending_calls::{Entrances, Jobs};
 use std::alloc::Global;
 use std::rt::Clock;
 use std::sync::{Arc, Wait};

@@ -7,13 +7,13 @@
 //! A removal ends the tenant in this order: no request finds it by its name; no turn begins, and the last one has ended;
 //! its key is gone, the jobs that wait are answered that it is not there, and its watches end; its number finds nothing.
 use crate::clients::Clients;
-use crate::entrances::{Entrance, Entrances, NamedInParts};
 use auto_compaction::{Retention, StandingOrder};
 use crossbeam_utils::sync::{ShardedLock, ShardedLockReadGuard};
 use etcd_types::Mem;
 use etcd_types::limits::MAX_TENANTS;
 use fair_turns::{DEFAULT_BUDGET, Scheduler, TenantCounts, TenantTurns, Work};
 use indexmap::IndexMap;
+use pending_calls::{Entrance, Entrances, NamedInParts};
 use std::alloc::Global;
 use std::rt::Clock;
 use std::sync::{Arc, Mutex, Wait};

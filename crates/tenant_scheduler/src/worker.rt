@@ -1,19 +1,18 @@
 //! The workers: the calls of clients.
 ghost use Rattle.std.specs.Prelude.{◌≡◌, ◌<◌, length, vec_capacity, IfErr, IfOk};
 ghost use Rattle.tenant_scheduler.specs.Makes.{IsMadeAfterTakes, IsOpened, IsRequestMade};
-ghost use Rattle.tenant_scheduler.specs.Requests.{IsReadAs, IsStepOf, IsUnread};
+ghost use Rattle.pending_calls.specs.Requests.{IsReadAs, IsStepOf, IsUnread};
 
-use crate::caller::{Caller, JobAnswer, Unserved};
+use crate::caller::Caller;
 use crate::clients::Clients;
-use crate::job_queue::Job;
 use crate::pump::{serve_takes, take_all};
-use crate::request::Request;
 use crate::serving::ServingThread;
 use crate::shared::SHARD;
 use crate::tenants::ServedTenant;
 use crossbeam_channel::Receiver;
 use etcd_types::{Mem, Refusal, Step};
 use fair_turns::{Scheduler, Stopwatch, Turn, WatchEnds, Work};
+use pending_calls::{Job, JobAnswer, Request, Unserved};
 use std::alloc::Global;
 use std::rt::Clock;
 use std::sync::{Arc, Wait};

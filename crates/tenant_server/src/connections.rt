@@ -1,5 +1,4 @@
 //! The event loops: each has its share of the connections, and serves each as a task.
-ghost use Rattle.std.specs.Prelude.{◌≡◌, IfOk, IfSome, None};
 
 use crate::fault::ServeFault;
 use crate::streams::{SocketConnection, Streams};
@@ -7,10 +6,11 @@ use crate::threads::ThreadEnd;
 use connection_table::{ConnectionTable, LOOPS, Losses, OpenConnection, Patience, Stopping};
 use crossbeam_channel::{Receiver, Sender, bounded};
 use etcd_types::Mem;
-use futures::executor::TaskSet;
+use event_loop::{ConnectionTask, EventLoop, MakesTasks, TaskGroup};
 use futures::task::{Context, Poll};
 use futures::{Future, ready};
 use hyper::rt::TokioTimer;
+use pending_calls::{CallServer, Jobs};
 use std::alloc::{AllocGlobal, Global};
 use std::hash::RandomState;
 use std::os::fd::AsRawFd;
@@ -19,10 +19,9 @@ use std::sync::{Arc, Wait};
 use std::time::{Clock, Duration, Instant};
 use std::{io, net, thread};
 use tenant_calls::TenantCalls;
-use tenant_scheduler::{CallServer, InlineCalls, Jobs, ServingThread};
+use tenant_scheduler::{InlineCalls, ServingThread};
 use tokio::net::TcpStream;
 use tokio::reactor;
-use tokio::runtime::LocalRuntime;
 use tokio::sync::mpsc::error::SendError;
 use tokio::sync::mpsc::{UnboundedReceiver, UnboundedSender, unbounded_channel};
 use tokio::time::Interval;
@@ -51,7 +50,7 @@ pub(crate) struct Accepted {
 /// An event loop over sockets, and where its connections come in.
 #[derive(Drop)]
 pub(crate) struct SocketLoop {
-    runtime: LocalRuntime,
+    event_loop: EventLoop,
     /// From 0 on.
     number: usize,
     sockets: UnboundedReceiver<Accepted>,
@@ -80,10 +79,10 @@ pub(crate) struct Acceptor {
     ready: Receiver<()>,
 }
 
-/// A loop on each runtime, for the connections of a table that began at a moment, and where they go in.
+/// Event loops for the connections of a table that began at a moment, and where they go in.
 pub(crate) fn open_loops<R: Clock + Drop>(
     alloc: Global,
-    runtimes: Vec<LocalRuntime>,
+    event_loops: Vec<EventLoop>,
     patience: Patience,
     start: Instant,
     table: &ConnectionTable<R>,
@@ -91,11 +90,11 @@ pub(crate) fn open_loops<R: Clock + Drop>(
     let mut senders = Vec::new(alloc);
     let (is_ready, ready) = bounded(alloc, LOOPS)?;
     let mut loops = Vec::new(alloc);
-    for (number, runtime) in runtimes.into_iter().enumerate() {
+    for (number, event_loop) in event_loops.into_iter().enumerate() {
         let (sender, sockets) = unbounded_channel(alloc)?;
         senders.push(sender)?;
         loops.push(SocketLoop {
-            runtime,
+            event_loop,
             number,
             sockets,
             patience,
@@ -168,53 +167,6 @@ pub(crate) fn end_connections<R: Wait + Clock + Drop>(rt: &R, table: &Connection
     table.end_all();
 }
 
-/// A connection as a task: its end, whatever it is, is the end of the task and of nothing else. It stands on the heap: a
-/// set of tasks moves a task each time it polls it, and keeps a place for as many as it ever had at once.
-#[derive(Drop)]
-pub(crate) struct Served<C> {
-    open: Option<OpenConnection>,
-    connection: Option<Box<C>>,
-}
-
-impl<C: Future> Served<C> {
-    /// A task with nothing to do.
-    fn ended() -> Served<C>
-        ensures { result.connection ≡ None }
-    {
-        Served {
-            open: None,
-            connection: None,
-        }
-    }
-
-    /// None where there is no memory.
-    fn of(alloc: Global, open: OpenConnection, connection: C) -> Mem<Served<C>>
-        requires { C.can_poll connection }
-        ensures { IfOk result (λ served. IfSome served.connection (λ connection. C.can_poll connection.value)) }
-    {
-        let connection = Box::new(alloc, connection)?;
-        Ok(Served {
-            open: Some(open),
-            connection: Some(connection),
-        })
-    }
-}
-
-impl<E: Drop, C: Future<Output = Result<(), E>>> Future for Served<C> {
-    type Output = ();
-
-    ghost can_poll = { λ s. IfSome s.connection (λ connection. C.can_poll connection.value) };
-
-    fn poll(&mut self, cx: &mut Context<'_>) -> Poll<()> {
-        if let Some(connection) = &mut self.connection {
-            let _ = ready!(connection.poll(cx));
-            self.open = None;
-            self.connection = None;
-        }
-        Poll::Ready(())
-    }
-}
-
 /// A connection of a loop.
 #[derive(Drop)]
 pub(crate) struct Arrived {
@@ -224,14 +176,10 @@ pub(crate) struct Arrived {
     number: u64,
 }
 
-/// What makes tasks of a loop's connections. Its loop proves nothing of what they are made of.
-pub(crate) trait MakesTasks<T: Future>: Drop {
-    /// A connection as a task, or without one a task that has ended; none where there is no memory.
-    fn make(&self, arrived: Option<Arrived>) -> Mem<T>
-        ensures { IfOk result T.can_poll };
-}
+/// A connection over a socket as a task.
+type SocketTask<R, S> = ConnectionTask<SocketConnection<R, S>, OpenConnection>;
 
-/// Makes tasks of the connections over sockets, as these streams serve them.
+/// Makes tasks of the connections over sockets, as these streams serve them; of none, a task that has ended.
 pub(crate) struct TaskMaker<R: Wait + Clock + Copy + Drop, S: CallServer<R>> {
     rt: R,
     alloc: Global,
@@ -251,14 +199,14 @@ impl<R: Wait + Clock + Copy + Drop, S: CallServer<R>> Drop for TaskMaker<R, S> {
     }
 }
 
-impl<R, S> MakesTasks<Served<SocketConnection<R, S>>> for TaskMaker<R, S>
+impl<R, S> MakesTasks<Option<Arrived>, SocketTask<R, S>> for TaskMaker<R, S>
 where
     R: Wait + Clock + Copy + Drop,
     S: CallServer<R>,
 {
-    fn make(&self, arrived: Option<Arrived>) -> Mem<Served<SocketConnection<R, S>>> {
+    fn make(&self, arrived: Option<Arrived>) -> Mem<SocketTask<R, S>> {
         let Some(arrived) = arrived else {
-            return Ok(Served::ended());
+            return Ok(ConnectionTask::ended());
         };
         let Arrived {
             open,
@@ -266,9 +214,9 @@ where
             number,
         } = arrived;
         let requests = open.requests(self.rt, self.start);
-        Served::of(
+        ConnectionTask::of(
             self.alloc,
-            open,
+            Some(open),
             self.streams.socket(stream, number, requests)?,
         )
     }
@@ -285,7 +233,7 @@ struct Connections<'a, R: Wait + Drop, S: CallServer<R>, M, T: Future> {
     sockets: UnboundedReceiver<Accepted>,
     losses: Losses,
     reactor: reactor::Handle,
-    tasks: &'a TaskSet<T>,
+    tasks: &'a TaskGroup<T>,
     maker: M,
     beats: Option<Interval>,
     /// None once the loop has said that it is ready.
@@ -296,7 +244,7 @@ impl<R, S, M, T> Future for Connections<'_, R, S, M, T>
 where
     R: Wait + Drop,
     S: CallServer<R>,
-    M: MakesTasks<T>,
+    M: MakesTasks<Option<Arrived>, T>,
     T: Future<Output = ()>,
 {
     type Output = ();
@@ -323,7 +271,7 @@ where
                 stream,
                 number,
             };
-            if !begin(self.tasks, self.maker.make(Some(arrived))) {
+            if !self.tasks.begin(self.maker.make(Some(arrived))) {
                 self.losses.add();
             }
         }
@@ -331,21 +279,11 @@ where
     }
 }
 
-/// Begins to serve a connection; `false` where there is no memory for it.
-fn begin<T: Future<Output = ()>>(tasks: &TaskSet<T>, made: Mem<T>) -> bool
-    requires { IfOk made T.can_poll }
-{
-    match made {
-        Ok(served) => tasks.spawn(served).is_ok(),
-        Err(_) => false,
-    }
-}
-
-/// By what the connections of a loop are served, whose timers are those of its runtime.
+/// By what the connections of an event loop are served, whose timers are its own.
 fn streams_of<R, S>(
     rt: R,
     alloc: Global,
-    runtime: &LocalRuntime,
+    event_loop: &EventLoop,
     server: Arc<S>,
     patience: Patience,
 ) -> io::Result<Streams<R, S, TokioTimer<R>>>
@@ -354,7 +292,7 @@ where
     S: CallServer<R>,
 {
     let keys = RandomState::new(&rt)?;
-    let timers = runtime.handle().time();
+    let timers = event_loop.timers();
     let timer = TokioTimer::new(rt, timers.clone()?);
     let timers = Some(timers.clone()?);
     Ok(Streams::new(rt, alloc, keys, server, timer, timers, patience))
@@ -391,7 +329,7 @@ where
     S: CallServer<R>,
 {
     let SocketLoop {
-        mut runtime,
+        mut event_loop,
         number: _,
         sockets,
         patience,
@@ -399,9 +337,9 @@ where
         losses,
         ready,
     } = own;
-    let streams = streams_of(rt, alloc, &runtime, Arc::try_clone(server)?, patience)?;
-    let reactor = runtime.handle().reactor().clone()?;
-    let beats = beats_of(&rt, &runtime);
+    let streams = streams_of(rt, alloc, &event_loop, Arc::try_clone(server)?, patience)?;
+    let reactor = event_loop.reactor().clone()?;
+    let beats = beats_of(&rt, &event_loop);
     let maker = TaskMaker {
         rt,
         alloc,
@@ -415,13 +353,13 @@ where
         beats,
         ready,
     };
-    run_tasks(rt, &mut runtime, &**server, arriving, maker)
+    run_tasks(rt, &mut event_loop, &**server, arriving, maker)
 }
 
 /// When a loop shows that it moves; none where there is no memory for that.
-fn beats_of<R: Clock>(rt: &R, runtime: &LocalRuntime) -> Option<Interval> {
-    let timers = runtime.handle().time();
-    timers
+fn beats_of<R: Clock>(rt: &R, event_loop: &EventLoop) -> Option<Interval> {
+    event_loop
+        .timers()
         .interval(rt, Duration::from_secs(SECONDS_A_BEAT))
         .ok()
 }
@@ -439,7 +377,7 @@ struct Arriving {
 /// Runs a loop's connections as tasks.
 fn run_tasks<R, S, M, T>(
     rt: R,
-    runtime: &mut LocalRuntime,
+    event_loop: &mut EventLoop,
     server: &S,
     arriving: Arriving,
     maker: M,
@@ -447,7 +385,7 @@ fn run_tasks<R, S, M, T>(
 where
     R: Wait + Clock + RandomSource + AllocGlobal + Copy + Drop,
     S: CallServer<R>,
-    M: MakesTasks<T>,
+    M: MakesTasks<Option<Arrived>, T>,
     T: Future<Output = ()>,
 {
     let Arriving {
@@ -457,9 +395,9 @@ where
         beats,
         ready,
     } = arriving;
-    let tasks = runtime.task_set(&rt)?;
+    let tasks = event_loop.tasks(&rt)?;
     for _ in 0..ROOMS {
-        let _ = begin(&tasks, maker.make(None));
+        let _ = tasks.begin(maker.make(None));
     }
     let connections = Connections {
         rt,
@@ -472,5 +410,5 @@ where
         beats,
         ready: Some(ready),
     };
-    runtime.block_on_with(&rt, &tasks, connections)
+    event_loop.run(&rt, &tasks, connections)
 }

@@ -11,8 +11,10 @@ use crate::streams::Streams;
 use crate::threads::{Ended, are_too_few, run_threads, workers_of};
 use connection_table::{Allowance, LOOPS, Patience, Stopping, TenantBounds};
 use etcd_types::Mem;
+use event_loop::EventLoop;
 use futures::executor::block_on;
 use hyper::rt::NoTimer;
+use pending_calls::Jobs;
 use std::alloc::{AllocError, AllocGlobal};
 use std::hash::RandomState;
 use std::io;
@@ -22,9 +24,8 @@ use std::sync::{Arc, Wait};
 use std::thread::Threads;
 use std::time::{Clock, Instant};
 use tenant_calls::{TenantCalls, TenantKey};
-use tenant_scheduler::{Jobs, Shared, open};
+use tenant_scheduler::{Shared, open};
 use tokio::io::{AsyncRead, AsyncWrite};
-use tokio::runtime::LocalRuntime;
 use tokio::sync::mpsc::UnboundedReceiver;
 
 /// On what terms connections are served.
@@ -55,7 +56,7 @@ impl Drop for Terms {
 
 /// A socket that listens, and what its connections may take.
 pub struct Listening {
-    runtimes: Vec<LocalRuntime>,
+    event_loops: Vec<EventLoop>,
     listener: TcpListener,
     terms: Terms,
     /// How many connections may be open at once, as the system allowed when the socket began to listen.
@@ -65,7 +66,7 @@ pub struct Listening {
 impl Drop for Listening {
     fn drop(self) {
         let Listening {
-            runtimes: _,
+            event_loops: _,
             listener: _,
             terms: _,
             most: _,
@@ -79,11 +80,11 @@ impl Listening {
     where
         R: Threads + Clock + Net + RandomSource + AllocGlobal,
     {
-        let runtimes = make_runtimes(rt)?;
+        let event_loops = make_event_loops(rt)?;
         let listener = bind(rt, address, terms.patience)?;
         let most = terms.open_connections.unwrap_or(most_connections());
         Ok(Listening {
-            runtimes,
+            event_loops,
             listener,
             terms,
             most,
@@ -103,14 +104,14 @@ impl Listening {
         are_too_few(count, LOOPS, self.terms.workers)
     }
 
-    fn into_parts(self) -> (Vec<LocalRuntime>, TcpListener, Terms, usize) {
+    fn into_parts(self) -> (Vec<EventLoop>, TcpListener, Terms, usize) {
         let Listening {
-            runtimes,
+            event_loops,
             listener,
             terms,
             most,
         } = self;
-        (runtimes, listener, terms, most)
+        (event_loops, listener, terms, most)
     }
 }
 
@@ -178,13 +179,13 @@ where
         if listening.needs_more(count) {
             return Err(ServeFault::TooFew);
         }
-        let (runtimes, listener, terms, most) = listening.into_parts();
+        let (event_loops, listener, terms, most) = listening.into_parts();
         let alloc = rt.alloc();
         let start = Instant::now(&rt).map_err(|error| ServeFault::of(&error))?;
         let allowances = terms.allowances.as_slice();
         let of_tenants = terms_of(alloc, allowances)?;
         let table = connections(rt, alloc, start, most, allowances)?;
-        let (acceptor, loops) = open_loops(alloc, runtimes, terms.patience, start, &table)?;
+        let (acceptor, loops) = open_loops(alloc, event_loops, terms.patience, start, &table)?;
         let workers = workers_of(count, loops.len());
         let listener = Arc::new(alloc, listener).map_err(AllocError::from)?;
         let stopping = Stopping::new(Arc::try_clone(&listener)?);
@@ -329,16 +330,16 @@ where
     }
 }
 
-/// A runtime for each loop.
-fn make_runtimes<R>(rt: &R) -> io::Result<Vec<LocalRuntime>>
+/// As many event loops as a server has.
+fn make_event_loops<R>(rt: &R) -> io::Result<Vec<EventLoop>>
 where
     R: Clock + Net + RandomSource + AllocGlobal,
 {
-    let mut runtimes = Vec::new(rt.alloc());
+    let mut event_loops = Vec::new(rt.alloc());
     for _ in 0..LOOPS {
-        runtimes.push(LocalRuntime::new(rt)?)?;
+        event_loops.push(EventLoop::new(rt)?)?;
     }
-    Ok(runtimes)
+    Ok(event_loops)
 }
 
 /// A socket that waits in `accept`, with the longest queue of connections that the system allows, whose peers the

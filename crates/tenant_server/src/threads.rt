@@ -6,6 +6,7 @@ use crate::arrivals::Arrivals;
 use crate::connections::{SocketLoop, serve_connections};
 use crate::fault::ServeFault;
 use fair_turns::BESIDE_WORKERS;
+use pending_calls::Jobs;
 use std::alloc::{AllocGlobal, Global};
 use std::random::RandomSource;
 use std::sync::{Arc, Wait};
@@ -13,7 +14,7 @@ use std::thread;
 use std::thread::{JoinHandle, SpawnError, Threads};
 use std::time::Clock;
 use tenant_calls::TenantCalls;
-use tenant_scheduler::{Jobs, Service, ServingThread, Shared};
+use tenant_scheduler::{Service, ServingThread, Shared};
 use tokio::sync::mpsc::{UnboundedReceiver, unbounded_channel};
 
 /// How many of so many threads are workers, beside so many loops.

@@ -1,7 +1,7 @@
 use Rattle.std.proofs.Common.{◌∙◌, ap, subst, sym}
 use Rattle.fair_turns.specs.Answers.{IsAnswer}
 use Rattle.tenant_scheduler.proofs.MakeLemmas.{made_of}
-use Rattle.tenant_scheduler.proofs.RequestLemmas.{step_told}
+use Rattle.pending_calls.proofs.RequestLemmas.{step_told}
 use Rattle.tenant_scheduler.proofs.caller.Caller.answer_at_once.Goals as goal
 
 pub told-requires : goal.told-requires

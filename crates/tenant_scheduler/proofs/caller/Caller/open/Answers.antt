@@ -1,7 +1,7 @@
 use Rattle.std.proofs.Common.{◌∙◌, ap, subst}
 use Rattle.fair_turns.specs.Answers.{IsAnswer}
 use Rattle.tenant_scheduler.proofs.MakeLemmas.{opened_of}
-use Rattle.tenant_scheduler.proofs.RequestLemmas.{step_told}
+use Rattle.pending_calls.proofs.RequestLemmas.{step_told}
 use Rattle.tenant_scheduler.proofs.caller.Caller.open.Goals as goal
 
 pub answered-requires : goal.answered-requires

@@ -1,6 +1,6 @@
 use Rattle.std.proofs.Common.{refl, subst}
 use Rattle.tenant_scheduler.specs.Makes.{Read, Unread}
-use Rattle.tenant_scheduler.specs.Requests.{IsStepOf, IsUnread}
+use Rattle.pending_calls.specs.Requests.{IsStepOf, IsUnread}
 use Rattle.tenant_scheduler.proofs.worker.WorkerTurn.answer.Goals as goal
 
 pub serve-requires : goal.serve-requires

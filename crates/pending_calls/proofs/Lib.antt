@@ -1,0 +1,2 @@
+-- Proofs of this crate.
+pub mod RequestLemmas

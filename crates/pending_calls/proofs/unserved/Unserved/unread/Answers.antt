@@ -1,0 +1,5 @@
+use Rattle.pending_calls.proofs.RequestLemmas.{unread_told}
+use Rattle.pending_calls.proofs.unserved.Unserved.unread.Goals as goal
+
+pub answered-requires : goal.answered-requires
+answered-requires g c = unread_told c.args.self.request.value c.args.refusal c.refusal_of.result c.requires c.refusal_of.ensures

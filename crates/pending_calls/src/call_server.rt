@@ -1,0 +1,46 @@
+//! How the calls of a connection are served: brief ones at once where that can be, all others by workers.
+ghost use Rattle.pending_calls.specs.Outcomes.{IsServed};
+
+use crate::brief_request::BriefRequest;
+use crate::jobs::Jobs;
+use crate::told::Told;
+use std::sync::Wait;
+
+/// What serves the calls of a thread's connections, however it comes by its tenants: so whoever holds a connection proves nothing
+/// of them. No method gives one of its kind: the prover can't compare such a one where the kind is known.
+pub trait CallServer<R: Wait + Drop>: Drop {
+    /// Where calls wait for a worker.
+    fn jobs(&self) -> &Jobs<R>;
+
+    /// The thread moves.
+    fn beat(&self);
+
+    /// A connection is polled: it may have a brief call served until the next poll.
+    fn begin_poll(&self);
+
+    /// None was served yet since then. Who sends many calls in a row gives way to the others behind each.
+    fn may_serve(&self) -> bool;
+
+    /// Serves a brief call at once, or hands it back as it is: a worker serves it then.
+    fn serve(&self, brief: BriefRequest) -> Result<Told<R>, BriefRequest>
+        ensures { IsServed brief result };
+}
+
+/// They leave all calls to the workers, as a connection needs it that no event loop polls.
+impl<R: Wait + Drop> CallServer<R> for Jobs<R> {
+    fn jobs(&self) -> &Jobs<R> {
+        self
+    }
+
+    fn beat(&self) {}
+
+    fn begin_poll(&self) {}
+
+    fn may_serve(&self) -> bool {
+        true
+    }
+
+    fn serve(&self, brief: BriefRequest) -> Result<Told<R>, BriefRequest> {
+        Err(brief)
+    }
+}

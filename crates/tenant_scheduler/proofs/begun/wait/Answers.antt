@@ -1,7 +1,0 @@
-use Rattle.std.proofs.Common.{false, refl}
-use Rattle.etcd_types.specs.declared.refusal.Refusal.TheVariants.{Memory}
-use Rattle.tenant_scheduler.proofs.RequestLemmas.{unmade_told}
-use Rattle.tenant_scheduler.proofs.begun.wait.Goals as goal
-
-pub returns-in-Err : goal.returns-in-Err
-returns-in-Err g c = unmade_told c.args.asked.request Memory c.refused.result.answer (false, refl) c.refused.ensures
