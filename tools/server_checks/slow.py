@@ -2,12 +2,16 @@
 
 Each test is given the host, and raises `Wrong` where something is not as it is wanted.
 """
+import json
 import time
 
 from shared.http_client import head, path, request
 from shared.report import Wrong, want
 from shared.wanted import (KEY, PUT, READ, REFUSALS, answer_of, created_line, delete_event, done, events_line, granted,
                            header, kept_alive, put_event)
+
+# For how long a clock is looked at.
+CLOCK_SECONDS = 15
 
 
 def a_lease_ends_by_the_clock(host):
@@ -38,6 +42,32 @@ def a_lease_that_is_kept_alive_stays(host):
         client.expect(tenant, "kv/range", READ, done(2))
         time.sleep(6)
         client.expect(tenant, "kv/range", READ, done(3))
+
+
+def left_of_lease(client, tenant):
+    answer = client.call(tenant, "lease/timetolive", '{"ID":"1"}')
+    want(answer.status == 200, f"a time to live is answered {answer.status}")
+    return int(json.loads(answer.body)["TTL"])
+
+
+def the_clock_skips_no_second(host):
+    """What is left of a lease falls by a second at each tick, on each of three tenants: never by none, and by two at the next."""
+    tenants = [host.tenant() for _ in range(3)]
+    with host.connect() as client:
+        for tenant in tenants:
+            client.expect(tenant, "lease/grant", '{"TTL":"100"}', granted(1, 100, 1))
+        left = {tenant: left_of_lease(client, tenant) for tenant in tenants}
+        begun = looked = time.monotonic()
+        while looked < begun + CLOCK_SECONDS:
+            time.sleep(0.05)
+            before, looked = looked, time.monotonic()
+            for tenant in tenants:
+                now = left_of_lease(client, tenant)
+                # Who looks so late may have seen two ticks.
+                want(left[tenant] - now <= 1 or looked - before > 0.5, f"{left[tenant]} seconds were left, and then {now}")
+                left[tenant] = now
+        fell = 100 - min(left.values())
+        want(fell >= CLOCK_SECONDS - 2, f"what was left fell by {fell} seconds in {CLOCK_SECONDS}")
 
 
 def one_byte_a_second_is_answered(host):
@@ -133,7 +163,7 @@ def an_idle_connection_is_let_go(host):
         let_go_after(client, time.monotonic())
 
 
-SLOW = [a_lease_ends_by_the_clock, a_lease_that_is_kept_alive_stays, one_byte_a_second_is_answered,
-        small_pieces_rest_before_they_are_read, a_head_of_many_pieces_is_told_to_continue,
+SLOW = [a_lease_ends_by_the_clock, a_lease_that_is_kept_alive_stays, the_clock_skips_no_second,
+        one_byte_a_second_is_answered, small_pieces_rest_before_they_are_read, a_head_of_many_pieces_is_told_to_continue,
         a_connection_on_which_nothing_comes_is_let_go, half_a_head_is_let_go, a_head_without_an_end_is_let_go,
         an_idle_connection_is_let_go]

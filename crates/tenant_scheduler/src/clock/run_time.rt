@@ -3,12 +3,18 @@ ghost use Rattle.std.specs.Prelude.{◌≡◌, ◌≤◌, ◌+◌, ◌/◌, min,
 ghost use Rattle.std.specs.Duration.{as_nanos, max_nanos};
 ghost use Rattle.tenant_scheduler.specs.ServerTime.{counted, latest, most_ran};
 
-use super::SECONDS_A_TICK;
 use super::server_clock::ServerMoment;
 use std::time::Duration;
 
 /// How many seconds one tick moves a tenant's moment by, at the most.
 const MAX_SECONDS_A_TICK: u64 = 2;
+
+/// How many milliseconds the first tick counts.
+///
+/// Ticks come a second after each other, but for a fraction of a millisecond, or more on a busy machine. So a tenant's time is
+/// always near the middle of a second: near its end the moment would stand still at one tick and skip a second at the next,
+/// and leases of two seconds would end at once.
+const MILLIS_OF_THE_FIRST_TICK: u64 = 1_500;
 
 /// How long a tenant's time has run, as its ticks count it.
 ///
@@ -19,12 +25,12 @@ pub(super) struct RunTime {
     /// When the last tick came, on the server's clock.
     ticked: Option<ServerMoment>,
     ran: Duration,
-    // It runs no faster than the server's clock, but for the second that the first tick counts.
+    // It runs no faster than the server's clock, but for what the first tick counts.
     ghost behind: { as_nanos ran ≤ most_ran ticked },
 }
 
 impl RunTime {
-    /// It begins now; the first tick counts a second.
+    /// It begins now.
     pub(super) fn new() -> RunTime {
         RunTime {
             ticked: None,
@@ -60,7 +66,7 @@ impl RunTime {
     {
         let passed = match self.ticked {
             Some(ticked) => now.since_start().saturating_sub(ticked.since_start()),
-            None => Duration::from_secs(SECONDS_A_TICK),
+            None => Duration::from_millis(MILLIS_OF_THE_FIRST_TICK),
         };
         let most = Duration::from_secs(MAX_SECONDS_A_TICK);
         if passed > most { most } else { passed }

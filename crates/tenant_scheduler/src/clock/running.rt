@@ -38,7 +38,7 @@ pub(crate) struct Running {
 }
 
 impl Running {
-    /// That of the tenant of this number begins now; the first tick counts a second.
+    /// That of the tenant of this number begins now.
     pub(crate) fn new(tenant: u64) -> Running
         ensures { result.tenant ≡ tenant }
     {
