@@ -9,7 +9,7 @@ use std::io;
 use std::net::Net;
 use std::random::RandomSource;
 use std::sync::Wait;
-use std::time::Clock;
+use std::time::{Clock, Duration};
 use tokio::runtime::LocalRuntime;
 use tokio::{reactor, time};
 
@@ -56,7 +56,13 @@ impl EventLoop {
         })
     }
 
-    /// Runs tasks on this thread until a future is ready and the last of them has ended.
+    /// Tasks have so much time to end once the future is ready beside which they run; they are let go then. Else they have as
+    /// long as they take.
+    pub fn limit_the_end(&mut self, time: Duration) {
+        self.runtime.set_shutdown_timeout(Some(time));
+    }
+
+    /// Runs tasks on this thread until a future is ready and the last of them has ended, or has to.
     pub fn run<R, T, F>(&mut self, rt: &R, tasks: &TaskGroup<T>, future: F) -> io::Result<F::Output>
     where
         R: Wait + Clock + RandomSource + AllocGlobal,

@@ -209,6 +209,10 @@ impl<I: Drop, R: Eprint + Copy + Drop> Future for OperatorExchange<I, R> {
 
     fn poll(&mut self, cx: &mut Context<'_>) -> Poll<Result<Response<Full<Bytes>>, hyper::Error>> {
         if self.outcome.is_none() {
+            // Who has no token is not waited for.
+            if let Err(refusal) = self.admitted() {
+                return Poll::Ready(self.respond(Err(refusal)));
+            }
             ready!(self.poll_whole(cx));
             if let Err(refusal) = self.ask() {
                 return Poll::Ready(self.respond(Err(refusal)));

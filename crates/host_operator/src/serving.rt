@@ -24,6 +24,9 @@ use tokio::sync::mpsc::UnboundedReceiver;
 /// How many milliseconds no connection is accepted after one could not be.
 const PAUSE: u64 = 50;
 
+/// How many seconds connections have to end once the server has. One that is in use, as a dashboard's, would never end.
+const SECONDS_AT_THE_END: u64 = 1;
+
 /// Where the operator's connections come in.
 pub struct OperatorSocket {
     event_loop: EventLoop,
@@ -282,6 +285,7 @@ where
     D: TenantDirectory,
 {
     let (mut event_loop, door) = socket.into_parts();
+    event_loop.limit_the_end(Duration::from_secs(SECONDS_AT_THE_END));
     serve_at(rt, alloc, &mut event_loop, &mut operator, door, ended)
 }
 

@@ -1,10 +1,10 @@
 //! How connections come in, until the server ends.
-use crate::connections::{Acceptor, accept_all, end_connections};
+use crate::connections::{Acceptor, accept_all};
 use crate::fault::ServeFault;
 use connection_table::{ConnectionTable, Stopping};
 use std::net::TcpListener;
 use std::sync::{Arc, Wait};
-use std::time::Clock;
+use std::time::{Clock, Duration};
 use std::{io, thread};
 use tenant_calls::TenantKey;
 use tenant_scheduler::Tenants;
@@ -12,6 +12,12 @@ use tokio::sync::mpsc::UnboundedSender;
 
 /// The part of the directory of tenants that is read where the server ends.
 const SHARD: usize = 0;
+
+/// How many milliseconds lie between two looks whether all connections have ended.
+const PAUSE: u64 = 50;
+
+/// How often it is looked: for ten seconds.
+const LOOKS: u32 = 200;
 
 /// What brings connections in.
 #[derive(Drop)]
@@ -38,9 +44,10 @@ impl<R: Wait + Clock + Copy + Drop, K: TenantKey> Arrivals<R, K> {
             tenants,
         } = self;
         let accepted = accept_all(&rt, &listener, &stopping, acceptor, &mut table, connections);
-        if stopping.is_told() {
-            tenants.end_watches(&rt, SHARD);
-            end_connections(&rt, &table);
+        if stopping.is_told() && !end_idle(&rt, &table, &tenants) {
+            // A connection whose watch is open reads nothing, and learns that it has ended by what the watch is told.
+            table.end_all();
+            end_idle(&rt, &table, &tenants);
         }
         accepted
     }
@@ -55,4 +62,21 @@ impl<R: Wait + Clock + Copy + Drop, K: TenantKey> Arrivals<R, K> {
         drop(ending);
         accepted
     }
+}
+
+/// Ends watches, and connections that are idle or come to be, for ten seconds at the most. Whether none is left. A request that
+/// waited behind a watch may open another one, so all are looked for each time.
+fn end_idle<R, K>(rt: &R, table: &ConnectionTable<R>, tenants: &Tenants<R, K>) -> bool
+where
+    R: Wait + Clock + Drop,
+    K: TenantKey,
+{
+    for _ in 0..LOOKS {
+        tenants.end_watches(rt, SHARD);
+        if table.end_idle() == 0 {
+            return true;
+        }
+        thread::sleep(rt, Duration::from_millis(PAUSE));
+    }
+    false
 }

@@ -37,9 +37,6 @@ const ROOMS: usize = 512;
 /// How many seconds lie between two moves by which a loop shows that it is not stuck.
 const SECONDS_A_BEAT: u64 = 1;
 
-/// How often it is looked whether all connections have ended: for ten seconds.
-const LOOKS_AT_THE_END: u32 = 200;
-
 /// A connection that was accepted. It leaves the table before its socket is closed.
 #[derive(Drop)]
 pub(crate) struct Accepted {
@@ -153,18 +150,6 @@ pub(crate) fn accept_all<R: Wait + Clock + Drop>(
         }
     }
     unreachable!()
-}
-
-/// Ends all connections, since the server was told to end: those that are idle at once, the others when their requests are
-/// answered, and what is left after a while all the same.
-pub(crate) fn end_connections<R: Wait + Clock + Drop>(rt: &R, table: &ConnectionTable<R>) {
-    for _ in 0..LOOKS_AT_THE_END {
-        if table.end_idle() == 0 {
-            return;
-        }
-        thread::sleep(rt, Duration::from_millis(PAUSE));
-    }
-    table.end_all();
 }
 
 /// A connection of a loop.
