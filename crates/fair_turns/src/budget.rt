@@ -6,7 +6,7 @@
 //! before it is planned, and is refused where so much is not left; its answer keeps the share of its text. So does a text
 //! of a watch, which is taken later where so much is not left. One that may be longer than the whole budget could never be
 //! taken so: what is not there once it is made is owed, and paid before anything else is given back.
-ghost use Rattle.std.specs.Prelude.{◌≡◌};
+ghost use Rattle.std.specs.Prelude.{◌≡◌, ◌≤◌};
 ghost use Rattle.futures.specs.Task.{IsArmed, Keeps};
 ghost use Rattle.futures.specs.Poll.{OnPending};
 ghost use Rattle.tokio.specs.Locks.{CanAcquire};
@@ -152,12 +152,20 @@ impl Budget {
 
     /// Gives so many bytes back, less what is owed.
     pub fn give_back(&self, bytes: usize) {
-        let owed = self.owed.swap(0, Ordering::SeqCst);
-        let paid = owed.min(bytes);
-        if owed > paid {
-            self.owed.fetch_add(owed - paid, Ordering::SeqCst);
-        }
+        let paid = self.pay(bytes);
         self.left.add_permits(bytes - paid);
+    }
+
+    /// Pays what is owed out of so many bytes, and tells how much that was. It is one step: else who gives back at the
+    /// same moment would find nothing owed.
+    fn pay(&self, bytes: usize) -> usize
+        ensures { result ≤ bytes }
+    {
+        let paid = |owed: usize| Some(owed.saturating_sub(bytes));
+        match self.owed.fetch_update(Ordering::SeqCst, Ordering::SeqCst, paid) {
+            Ok(owed) => owed.min(bytes),
+            Err(_) => 0,
+        }
     }
 
     /// The share of a body of so many bytes at the most, before it is read.
