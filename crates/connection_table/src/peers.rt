@@ -1,5 +1,5 @@
 //! What the system does about a peer that is gone or reads nothing.
-use connection_table::Patience;
+use crate::allowance::Patience;
 use libc::net as c;
 use std::io;
 use std::net::TcpListener;
@@ -10,7 +10,7 @@ const LONGEST_SILENCE: u32 = 32_767;
 
 /// Has the system give up peers of a listener's connections, which take its options over: those that take nothing of
 /// what waits to be sent, and those that are silent and don't say that they are still there.
-pub(crate) fn give_up(listener: &TcpListener, patience: Patience) -> io::Result<()> {
+pub fn give_up(listener: &TcpListener, patience: Patience) -> io::Result<()> {
     let fd = listener.as_raw_fd();
     let millis = value(patience.answer.saturating_mul(1000));
     let seconds = value(patience.silence.min(LONGEST_SILENCE));

@@ -14,14 +14,24 @@ const MILLIS_A_REST: u64 = 250;
 
 /// What a connection's bodies are timed by.
 #[derive(Drop)]
-pub(crate) struct BodyTimer {
-    pub(crate) timers: Handle,
-    pub(crate) patience: Duration,
+pub struct BodyTimer {
+    pub timers: Handle,
+    pub patience: Duration,
+}
+
+impl BodyTimer {
+    /// The same for another connection; none where there is no memory.
+    pub fn share(&self) -> Option<BodyTimer> {
+        Some(BodyTimer {
+            timers: self.timers.clone().ok()?,
+            patience: self.patience,
+        })
+    }
 }
 
 /// The wait for the next piece of a body, which has a timer once a piece did not come at once.
 #[derive(Drop)]
-pub(crate) struct Stall<R> {
+pub struct Stall<R> {
     rt: R,
     timer: Option<BodyTimer>,
     sleep: Option<Sleep>,
@@ -29,7 +39,7 @@ pub(crate) struct Stall<R> {
 
 impl<R: Clock + Drop> Stall<R> {
     /// Of a connection without a timer, the next piece is waited for however long that takes.
-    pub(crate) fn new(rt: R, timer: Option<BodyTimer>) -> Stall<R> {
+    pub fn new(rt: R, timer: Option<BodyTimer>) -> Stall<R> {
         Stall {
             rt,
             timer,
@@ -38,7 +48,7 @@ impl<R: Clock + Drop> Stall<R> {
     }
 
     /// A piece came, and the next one has its time anew.
-    pub(crate) fn relent(&mut self) {
+    pub fn relent(&mut self) {
         if let Some(timer) = &self.timer {
             let patience = timer.patience;
             self.wait_for(patience);
@@ -58,13 +68,13 @@ impl<R: Clock + Drop> Stall<R> {
     }
 
     /// The next piece is left where it is for a while.
-    pub(crate) fn rest(&mut self) {
+    pub fn rest(&mut self) {
         self.begin();
         self.wait_for(Duration::from_millis(MILLIS_A_REST));
     }
 
     /// No piece is there: ready once the time for it is over.
-    pub(crate) fn poll_over(&mut self, cx: &mut Context<'_>) -> Poll<()>
+    pub fn poll_over(&mut self, cx: &mut Context<'_>) -> Poll<()>
         requires { IsArmed cx.old }
         ensures registered { OnPending result (IsArmed cx.new) }
         ensures kept { Keeps cx.old cx.new }
@@ -77,7 +87,7 @@ impl<R: Clock + Drop> Stall<R> {
     }
 
     /// Ready once a rest is over; at once where there is no timer.
-    pub(crate) fn poll_rest(&mut self, cx: &mut Context<'_>) -> Poll<()>
+    pub fn poll_rest(&mut self, cx: &mut Context<'_>) -> Poll<()>
         ensures registered { OnPending result (IsArmed cx.new) }
         ensures kept { Keeps cx.old cx.new }
     {

@@ -2,7 +2,7 @@
 //!
 //! 1. Hyper reads a head, and `Gateway::call` begins an `Exchange` (`exchange`). `route` says which call it is, of which
 //!    tenant (`routing`), whose the connection is from then on. The body is read (`reading`), whether the request is to be
-//!    refused or not; one that stops coming ends its connection (`stall`). What it is told uses up its `Unanswered`.
+//!    refused or not; one that stops coming ends its connection. What it is told uses up its `Unanswered`.
 //! 2. `Begun::new` hands the call to the scheduler, where a brief one is answered at once; for any other answer the exchange
 //!    waits, and `respond` makes a response of it (`response`). The body of a watch's response goes on with the texts of its
 //!    watch. Behind each brief call, and each piece of what is long, a connection gives way to the others of its loop
@@ -21,7 +21,6 @@ mod piece;
 mod reading;
 mod response;
 mod routing;
-mod stall;
 
 pub use connection::{ClientConnection, Http};
 pub use exchange::{Exchange, Gateway};

@@ -10,10 +10,10 @@ ghost use Rattle.gateway_http.specs.Readings.{IsKept, IsLost, ReadsOn, ReadsWhol
 ghost use Rattle.gateway_http.specs.Requests.{IsCoded, IsLossOf, IsPlain, IsTakenUp, loss_told, most_of};
 
 use crate::giving_way::polls_for;
-use crate::stall::Stall;
 use bytes::Bytes;
 use etcd_types::Refusal;
 use etcd_types::limits::MAX_BODY;
+use event_loop::Stall;
 use fair_turns::{BodyShare, SHORT, TreeWeight};
 use futures::ready;
 use futures::task::{Context, Poll};

@@ -6,7 +6,7 @@ ghost use Rattle.hyper.specs.ServerDispatch.{Runs};
 use crate::requests::{OperatorExchange, OperatorGateway};
 use bytes::Bytes;
 use connection_table::Patience;
-use event_loop::EventLoop;
+use event_loop::{BodyTimer, EventLoop};
 use futures::Future;
 use futures::task::{Context, Poll};
 use http_body_util::Full;
@@ -23,14 +23,18 @@ use std::rt::Clock;
 use tokio::io::{AsyncRead, AsyncWrite};
 use tokio::net::TcpStream;
 
-/// How heads are read and answers are written.
+/// How heads and bodies are read and answers are written.
 pub(crate) struct OperatorHttp<R: Clock + Copy + Drop> {
     builder: http1::Builder<TokioTimer<R>>,
+    bodies: BodyTimer,
 }
 
 impl<R: Clock + Copy + Drop> Drop for OperatorHttp<R> {
     fn drop(self) {
-        let OperatorHttp { builder: _ } = self;
+        let OperatorHttp {
+            builder: _,
+            bodies: _,
+        } = self;
     }
 }
 
@@ -46,7 +50,18 @@ impl<R: Clock + RandomSource + Copy + Drop> OperatorHttp<R> {
         let timers = event_loop.timers().clone()?;
         let mut builder = http1::Builder::new(alloc, keys).timer(TokioTimer::new(rt, timers));
         builder.header_read_timeout(Some(patience.for_head()));
-        Ok(OperatorHttp { builder })
+        let bodies = BodyTimer {
+            timers: event_loop.timers().clone()?,
+            patience: patience.for_body(),
+        };
+        Ok(OperatorHttp { builder, bodies })
+    }
+}
+
+impl<R: Clock + Copy + Drop> OperatorHttp<R> {
+    /// What a connection's bodies are timed by; none where there is no memory to share it.
+    pub(crate) fn body_timer(&self) -> Option<BodyTimer> {
+        self.bodies.share()
     }
 }
 

@@ -10,6 +10,7 @@ use crate::calls::OperatorRefusal;
 use bytes::Bytes;
 use etcd_types::Mem;
 use etcd_types::limits::MAX_CONFIG;
+use event_loop::{BodyTimer, Stall};
 use futures::channel::oneshot;
 use futures::task::{Context, Poll};
 use futures::{Future, ready};
@@ -21,6 +22,7 @@ use hyper::service::Service;
 use hyper::{Request, Response, StatusCode};
 use std::alloc::{AllocError, Global};
 use std::mem;
+use std::rt::Clock;
 use std::sync::Arc;
 use tokio::sync::mpsc::error::SendError;
 use tokio::sync::mpsc::{UnboundedReceiver, UnboundedSender, unbounded_channel};
@@ -137,6 +139,8 @@ pub(crate) struct OperatorGateway<R: Drop> {
     pub(crate) alloc: Global,
     /// None where there was no memory to share it.
     pub(crate) entrance: Option<Arc<OperatorEntrance>>,
+    /// The same of what bodies are timed by.
+    pub(crate) bodies: Option<BodyTimer>,
 }
 
 impl<R: Drop> Drop for OperatorGateway<R> {
@@ -145,6 +149,7 @@ impl<R: Drop> Drop for OperatorGateway<R> {
             rt: _,
             alloc: _,
             entrance: _,
+            bodies: _,
         } = self;
     }
 }
@@ -156,6 +161,7 @@ pub(crate) struct OperatorExchange<I, R: Drop> {
     entrance: Option<Arc<OperatorEntrance>>,
     parts: Parts,
     body: Limited<Incoming<I>>,
+    stall: Stall<R>,
     read: Vec<u8>,
     /// The body is read on and thrown away.
     lost: Option<OperatorRefusal>,
@@ -171,6 +177,7 @@ impl<I: Drop, R: Drop> Drop for OperatorExchange<I, R> {
             entrance: _,
             parts: _,
             body: _,
+            stall: _,
             read: _,
             lost: _,
             outcome: _,
@@ -178,7 +185,7 @@ impl<I: Drop, R: Drop> Drop for OperatorExchange<I, R> {
     }
 }
 
-impl<I: Drop, R: Eprint + Copy + Drop> Service<Request<Incoming<I>>> for OperatorGateway<R> {
+impl<I: Drop, R: Clock + Eprint + Copy + Drop> Service<Request<Incoming<I>>> for OperatorGateway<R> {
     type Response = Response<Full<Bytes>>;
 
     type Error = hyper::Error;
@@ -190,6 +197,10 @@ impl<I: Drop, R: Eprint + Copy + Drop> Service<Request<Incoming<I>>> for Operato
             Some(entrance) => Arc::try_clone(entrance).ok(),
             None => None,
         };
+        let bodies = match &self.bodies {
+            Some(bodies) => bodies.share(),
+            None => None,
+        };
         let (parts, body) = req.into_parts();
         OperatorExchange {
             rt: self.rt,
@@ -197,6 +208,7 @@ impl<I: Drop, R: Eprint + Copy + Drop> Service<Request<Incoming<I>>> for Operato
             entrance,
             parts,
             body: Limited::new(body, MAX_CONFIG),
+            stall: Stall::new(self.rt, bodies),
             read: Vec::new(self.alloc),
             lost: None,
             outcome: None,
@@ -204,7 +216,7 @@ impl<I: Drop, R: Eprint + Copy + Drop> Service<Request<Incoming<I>>> for Operato
     }
 }
 
-impl<I: Drop, R: Eprint + Copy + Drop> Future for OperatorExchange<I, R> {
+impl<I: Drop, R: Clock + Eprint + Copy + Drop> Future for OperatorExchange<I, R> {
     type Output = Result<Response<Full<Bytes>>, hyper::Error>;
 
     fn poll(&mut self, cx: &mut Context<'_>) -> Poll<Result<Response<Full<Bytes>>, hyper::Error>> {
@@ -223,14 +235,19 @@ impl<I: Drop, R: Eprint + Copy + Drop> Future for OperatorExchange<I, R> {
     }
 }
 
-impl<I: Drop, R: Eprint + Copy + Drop> OperatorExchange<I, R> {
-    /// Ready once the body is read, or can't be read on: then it is lost.
+impl<I: Drop, R: Clock + Eprint + Copy + Drop> OperatorExchange<I, R> {
+    /// Ready once the body is read, or can't be read on, or its next piece took too long: then it is lost.
     fn poll_whole(&mut self, cx: &mut Context<'_>) -> Poll<()>
         ensures registered { OnPending result (IsArmed cx.new) }
         ensures kept { Keeps cx.old cx.new }
     {
         for _ in 0..PIECES_A_POLL {
-            let piece = ready!(self.body.poll_frame(cx));
+            let Poll::Ready(piece) = self.body.poll_frame(cx) else {
+                ready!(self.stall.poll_over(cx));
+                self.lost = Some(OperatorRefusal::Unreadable);
+                return Poll::Ready(());
+            };
+            self.stall.relent();
             if self.take(piece) {
                 return Poll::Ready(());
             }

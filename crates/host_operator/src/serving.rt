@@ -4,7 +4,7 @@ use crate::connection::{OperatorConnection, OperatorHttp};
 use crate::directory::TenantDirectory;
 use crate::operator::Operator;
 use crate::requests::{OperatorEntrance, OperatorGateway, OperatorOutcome, OperatorRequest};
-use connection_table::Patience;
+use connection_table::{Patience, give_up};
 use etcd_types::Mem;
 use event_loop::{ConnectionTask, EventLoop, MakesTasks, TaskGroup};
 use futures::task::{Context, Poll};
@@ -68,9 +68,10 @@ impl Door {
         token: Option<Vec<u8>>,
         patience: Patience,
     ) -> io::Result<Door> {
-        let listener = mio::net::TcpListener::bind(rt, config.listen)?;
+        let listener = net::TcpListener::from(mio::net::TcpListener::bind(rt, config.listen)?);
+        give_up(&listener, patience)?;
         Ok(Door {
-            listener: net::TcpListener::from(listener),
+            listener,
             token,
             patience,
         })
@@ -192,6 +193,7 @@ impl<R: Clock + Eprint + Copy + Drop> MakesTasks<TcpStream, OperatorTask<R>> for
             rt: self.rt,
             alloc: self.alloc,
             entrance: OperatorEntrance::share(&self.entrance),
+            bodies: self.http.body_timer(),
         };
         let connection = OperatorConnection::new(&self.http, stream, gateway);
         ConnectionTask::of(self.alloc, Counted::of(&self.open), connection)

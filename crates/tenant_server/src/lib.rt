@@ -3,8 +3,7 @@
 //! 1. `Listening::bind` listens, and `Opened` runs a thread for each way to call tenants (`server`, `threads`). Connections are
 //!    accepted (`arrivals`), as many as there may be (`admission`), and dealt out to four event loops, each a thread on which
 //!    its connections stay (`connections`). Each is served as `serve_one` serves one over any stream (`streams`). One whose
-//!    peer sends byte by byte rests before it is read (`pacing`). The system gives up peers that are gone or read nothing
-//!    (`peers`).
+//!    peer sends byte by byte rests before it is read (`pacing`). The system gives up peers that are gone or read nothing.
 //! 2. A connection's requests are `gateway_http`'s, and which thread serves which tenant when is `tenant_scheduler`'s.
 //! 3. Where tenants come and go meanwhile, the main thread does the work of whoever takes them in and out, and another one
 //!    accepts connections (`arrivals`).
@@ -15,7 +14,6 @@ mod arrivals;
 mod connections;
 mod fault;
 mod pacing;
-mod peers;
 mod server;
 mod streams;
 mod threads;

@@ -6,10 +6,9 @@ use crate::admission::{connections, connections_of_tenant, most_connections, ter
 use crate::arrivals::Arrivals;
 use crate::connections::{SocketLoop, open_loops};
 use crate::fault::ServeFault;
-use crate::peers::give_up;
 use crate::streams::Streams;
 use crate::threads::{Ended, are_too_few, run_threads, workers_of};
-use connection_table::{Allowance, LOOPS, Patience, Stopping, TenantBounds};
+use connection_table::{Allowance, LOOPS, Patience, Stopping, TenantBounds, give_up};
 use etcd_types::Mem;
 use event_loop::EventLoop;
 use futures::executor::block_on;
