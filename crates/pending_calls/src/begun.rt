@@ -39,6 +39,7 @@ impl<R: Wait + Clock + Drop> Begun<R> {
         if asked.request().len() > SHORT {
             return wait(rt, alloc, jobs, asked, None);
         }
+        server.begin_read();
         match asked.request().read(alloc) {
             Ok(step) if step.is_brief() => match server.serve(BriefRequest { asked, step }) {
                 Ok(told) => Begun::Answered(told),

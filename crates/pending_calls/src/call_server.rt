@@ -15,11 +15,14 @@ pub trait CallServer<R: Wait + Drop>: Drop {
     /// The thread moves.
     fn beat(&self);
 
-    /// A connection is polled: it may have a brief call served until the next poll.
+    /// A connection is polled: one short body may be read, and its call served, until the next poll.
     fn begin_poll(&self);
 
-    /// None was served yet since then. Who sends many calls in a row gives way to the others behind each.
+    /// None was read yet since then. Who sends many calls in a row gives way to the others behind each.
     fn may_serve(&self) -> bool;
+
+    /// A short body is to be read to its step, which may take as long as to serve it, also where it is refused.
+    fn begin_read(&self);
 
     /// Serves a brief call at once, or hands it back as it is: a worker serves it then.
     fn serve(&self, brief: BriefRequest) -> Result<Told<R>, BriefRequest>
@@ -39,6 +42,8 @@ impl<R: Wait + Drop> CallServer<R> for Jobs<R> {
     fn may_serve(&self) -> bool {
         true
     }
+
+    fn begin_read(&self) {}
 
     fn serve(&self, brief: BriefRequest) -> Result<Told<R>, BriefRequest> {
         Err(brief)

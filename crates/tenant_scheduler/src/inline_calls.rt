@@ -34,8 +34,8 @@ pub struct InlineCalls<R: Wait + Drop, C: TenantCalls> {
     /// Where calls wait that are not served here.
     jobs: Jobs<R>,
     thread: Mutex<ServingThread<R, C>>,
-    /// A call was served in the poll at hand.
-    has_served: AtomicBool,
+    /// A short body was read in the poll at hand.
+    has_read: AtomicBool,
 }
 
 impl<R: Wait + Drop, C: TenantCalls> Drop for InlineCalls<R, C> {
@@ -46,7 +46,7 @@ impl<R: Wait + Drop, C: TenantCalls> Drop for InlineCalls<R, C> {
             shard: _,
             jobs: _,
             thread: _,
-            has_served: _,
+            has_read: _,
         } = self;
     }
 }
@@ -66,7 +66,7 @@ impl<R: Wait + Clock + Copy + Drop, C: TenantCalls> InlineCalls<R, C> {
             shard: number,
             jobs,
             thread: Mutex::new(thread),
-            has_served: AtomicBool::new(false),
+            has_read: AtomicBool::new(false),
         }
     }
 
@@ -78,7 +78,7 @@ impl<R: Wait + Clock + Copy + Drop, C: TenantCalls> InlineCalls<R, C> {
             shard: _,
             jobs: _,
             thread,
-            has_served: _,
+            has_read: _,
         } = self;
         thread.into_inner().into_calls()
     }
@@ -94,15 +94,18 @@ impl<R: Wait + Clock + Copy + Drop, C: TenantCalls> CallServer<R> for InlineCall
     }
 
     fn begin_poll(&self) {
-        self.has_served.store(false, Ordering::Relaxed);
+        self.has_read.store(false, Ordering::Relaxed);
     }
 
     fn may_serve(&self) -> bool {
-        !self.has_served.load(Ordering::Relaxed)
+        !self.has_read.load(Ordering::Relaxed)
+    }
+
+    fn begin_read(&self) {
+        self.has_read.store(true, Ordering::Relaxed);
     }
 
     fn serve(&self, brief: BriefRequest) -> Result<Told<R>, BriefRequest> {
-        self.has_served.store(true, Ordering::Relaxed);
         let mut thread = self.thread.lock(&self.rt);
         serve_brief(self.alloc, self.shard, &mut *thread, brief)
     }
