@@ -7,8 +7,8 @@ use std::alloc::Global;
 
 impl Machine {
     /// A bound in bytes of what a step's plan and its answer's text may take, where they may be long; a weight of 0 is
-    /// that of a step whose answer is short. It need not be more exact than to be no more than `enough`. It promises
-    /// nothing beyond that, and no answer depends on it.
+    /// that of a step whose answer is short. It need not be more exact than to be no more than `enough`; of a transaction that
+    /// weighs more it is the most that a number says. It promises nothing beyond that, and no answer depends on it.
     pub fn weight(&self, alloc: Global, step: &Step, enough: u64) -> Mem<u64> {
         match step {
             Step::Range(request) => self.store.weight(alloc, request, enough),
@@ -66,14 +66,18 @@ fn delete_weight(store: &Store, request: &DeleteReq, enough: u64) -> u64 {
 
 /// That of a branch, whose answers are held at once. Each operation that gives rows may give all that is put beside it.
 fn branch_weight(alloc: Global, store: &Store, ops: &[Op], enough: u64) -> Mem<u64> {
-    let enough = enough / (ops.len() as u64).max(1);
+    let part = enough / (ops.len() as u64).max(1);
     let put = weight_put(ops);
     let mut weight = 0u64;
     for op in ops {
-        let of_op = op_weight(alloc, store, op, enough)?;
+        let of_op = op_weight(alloc, store, op, part)?;
         weight = weight.saturating_add(of_op);
         if of_op > 0 {
             weight = weight.saturating_add(put);
+        }
+        // What is too heavy already is not weighed on: its tenant waits meanwhile.
+        if weight > enough {
+            return Ok(u64::MAX);
         }
     }
     Ok(weight)
