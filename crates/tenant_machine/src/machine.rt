@@ -1,5 +1,5 @@
 //! One tenant's machine.
-ghost use Rattle.std.specs.Prelude.{◌≡◌, ◌≢◌, ◌+◌, ◌-◌, ◌≤◌, ◌≤ℤ◌, ℕ, pos, true, IfOk};
+ghost use Rattle.std.specs.Prelude.{◌≡◌, ◌≢◌, ◌+◌, ◌-◌, ◌≤◌, ◌≤ℤ◌, ℕ, length, pos, true, IfOk};
 ghost use Rattle.etcd_types.specs.Limits.{last_revision, max_quota, min_quota};
 ghost use Rattle.etcd_types.specs.declared.reply.Reply.TheVariants.{Refused};
 ghost use Rattle.etcd_types.specs.declared.refusal.Refusal.TheVariants.{Memory};
@@ -174,6 +174,13 @@ impl Machine {
         ensures { result ≡ self.now.store.kept.compacted }
     {
         self.store.compacted()
+    }
+
+    /// How many leases there are.
+    pub fn lease_count(&self) -> usize
+        ensures { result ≡ length self.now.leases.leases }
+    {
+        self.leases.len()
     }
 
     /// Makes changes one more revision, after which so many cells are in use.

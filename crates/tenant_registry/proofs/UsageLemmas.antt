@@ -4,12 +4,11 @@ use Rattle.std.proofs.Common.{◌≡◌, ◌∙◌, ◌*◌, ap, subst, refl, �
 use Rattle.std.specs.Prelude.{Result, Ok, Err, IfOk}
 use Rattle.std.specs.declared.alloc.AllocError.{AllocError}
 use Rattle.std.proofs.lemmas.Bool.{le-ltb}
-use Rattle.std.proofs.lemmas.List.{length-map}
 use Rattle.std.proofs.Math.Nat.{mul-div_cancel_left}
 use Rattle.etcd_types.specs.Limits.{cell_bytes}
 use Rattle.etcd_types.specs.Steps.{may_add}
 use Rattle.etcd_types.specs.declared.step.Step.{Step}
-use Rattle.etcd_types.specs.declared.step.Step.TheVariants.{Leases, Status}
+use Rattle.etcd_types.specs.declared.step.Step.TheVariants.{Status}
 use Rattle.etcd_types.specs.declared.refusal.Refusal.{Refusal}
 use Rattle.etcd_types.specs.declared.refusal.Refusal.TheVariants.{Compacted, Future, NoSpace}
 use Rattle.etcd_types.specs.declared.reply.Reply.TheVariants.{Refused}
@@ -47,7 +46,7 @@ answered S step first found keeps reads_only =
     ∙ ap (λ (l : Option Refusal). within_quota history S step (decided history S step (first_refusal (None ∷ l ∷ []))) l) found
     ∙ ap (λ b. if b && nat_lt S.quota (used history (outcome history S step).state) then record { state = record S { alarm = true }; reply = Refused NoSpace } else outcome history S step) reads_only)
 
--- ---- what each of the four replies tells
+-- ---- what each of the three replies tells
 
 readable : (S : State History) → IsState S → look_up history S count_of_keys ≡ None
 readable S sound =
@@ -61,9 +60,6 @@ of_status S u = record u { revision = pos (current S.store); quota = cell_bytes 
 abbrev of_keys : State History → Usage → Usage
 of_keys S u = record u { keys = length (history_rows S.store (is_in (0 ∷ []) (0 ∷ [])) (current S.store)) }
 
-abbrev of_leases : State History → Usage → Usage
-of_leases S u = record u { leases = length (map (λ l. l.id) S.leases) }
-
 abbrev of_alarm : State History → Usage → Usage
 of_alarm S u = record u { no_space = S.alarm }
 
@@ -73,24 +69,20 @@ told_status S u = ap (with_told u) (answered S Status (no_early _ _) refl refl r
 told_keys : (S : State History) (u : Usage) → IsState S → with_told u (machine S count_of_keys).reply ≡ of_keys S u
 told_keys S u sound = ap (with_told u) (answered S count_of_keys (no_early _ _) (readable S sound) refl refl)
 
-told_leases : (S : State History) (u : Usage) → with_told u (machine S Leases).reply ≡ of_leases S u
-told_leases S u = ap (with_told u) (answered S Leases (no_early _ _) refl refl refl)
-
 told_alarm : (S : State History) (u : Usage) → with_told u (machine S raised_alarms).reply ≡ of_alarm S u
 told_alarm S u = ap (with_told u) (answered S raised_alarms (no_early _ _) refl refl refl)
 
--- ---- all four
+-- ---- all together
 
 in_cells : (n : ℕ) → cell_bytes * n / cell_bytes ≡ n
 in_cells n = mul-div_cancel_left n (omega arith)
 
-pub uses_told : (opening : Opening) (m : MachineState) (a b c d e : Usage) → TakesOver m Status a b → TakesOver m count_of_keys b c → TakesOver m Leases c d → TakesOver m raised_alarms d e → a.cluster ≡ opening.cluster → a.first ≡ opening.first → a.compacted ≡ m.store.kept.compacted → (S : State History) → Holds S (tenant m) → UsesOf opening S e
-uses_told opening m a b c d e status keys leases alarm cluster first old S holds =
-    let same : e ≡ of_alarm S (of_leases S (of_keys S (of_status S a))) =
-    alarm S holds ∙ told_alarm S d
-    ∙ ap (of_alarm S) (leases S holds ∙ told_leases S c
-    ∙ ap (of_leases S) (keys S holds ∙ told_keys S b holds.sound
-    ∙ ap (of_keys S) (status S holds ∙ told_status S a)))
+pub uses_told : (opening : Opening) (m : MachineState) (a b c d : Usage) → TakesOver m Status a b → TakesOver m count_of_keys b c → TakesOver m raised_alarms c d → a.cluster ≡ opening.cluster → a.first ≡ opening.first → a.compacted ≡ m.store.kept.compacted → a.leases ≡ length m.leases.leases → (S : State History) → Holds S (tenant m) → UsesOf opening S d
+uses_told opening m a b c d status keys alarm cluster first old count S holds =
+    let same : d ≡ of_alarm S (of_keys S (of_status S a)) =
+    alarm S holds ∙ told_alarm S c
+    ∙ ap (of_alarm S) (keys S holds ∙ told_keys S b holds.sound
+    ∙ ap (of_keys S) (status S holds ∙ told_status S a))
     in record {
       cluster = ap (λ u. u.cluster) same ∙ cluster;
       first = ap (λ u. u.first) same ∙ first;
@@ -99,7 +91,7 @@ uses_told opening m a b c d e status keys leases alarm cluster first old S holds
       revision = ap (λ u. u.revision) same;
       compacted = ap (λ u. u.compacted) same ∙ old ∙ ap (λ t. t.store.compacted) holds.same;
       keys = ap (λ u. u.keys) same;
-      leases = ap (λ u. u.leases) same ∙ length-map S.leases (λ l. l.id);
+      leases = ap (λ u. u.leases) same ∙ count ∙ ap (λ t. length t.leases) holds.same;
       no_space = ap (λ u. u.no_space) same;
     }
 

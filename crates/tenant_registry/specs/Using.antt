@@ -8,7 +8,7 @@ use Rattle.etcd_types.specs.declared.kv.SortTarget.TheVariants.{Key}
 use Rattle.etcd_types.specs.declared.step.Step.{Step}
 use Rattle.etcd_types.specs.declared.step.Step.TheVariants as step
 use Rattle.etcd_types.specs.declared.reply.Reply.{Reply}
-use Rattle.etcd_types.specs.declared.reply.Reply.TheVariants.{Alarms, Leases, Range, Status}
+use Rattle.etcd_types.specs.declared.reply.Reply.TheVariants.{Alarms, Range, Status}
 use Rattle.etcd_model.specs.declared.state.History.{History}
 use Rattle.etcd_model.specs.declared.state.State.{State}
 use Rattle.etcd_model.specs.Held.{Holds}
@@ -83,7 +83,6 @@ with_told u (Status header size in_use) = record u {
   cells = in_use / cell_bytes;
 }
 with_told u (Range header count kvs more) = record u { keys = count }
-with_told u (Leases header ids) = record u { leases = length ids }
 with_told u (Alarms header no_space) = record u { no_space = no_space }
 with_told u reply = u
 

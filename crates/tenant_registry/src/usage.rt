@@ -43,7 +43,8 @@ pub struct Usage {
 }
 
 impl Usage {
-    /// What a machine tells of itself, by steps that are planned and not made, and so many segments.
+    /// What a machine tells of itself, mostly by steps that are planned and not made, and so many segments. It lists neither
+    /// keys nor leases.
     pub(crate) fn of(
         alloc: Global,
         opening: Opening,
@@ -65,12 +66,11 @@ impl Usage {
             revision: 0,
             compacted: machine.compacted(),
             keys: 0,
-            leases: 0,
+            leases: machine.lease_count() as u64,
             no_space: false,
         };
         usage.ask(alloc, machine, Step::Status)?;
         usage.ask(alloc, machine, count_of_keys(alloc)?)?;
-        usage.ask(alloc, machine, Step::Leases)?;
         usage.ask(alloc, machine, raised_alarms())?;
         Ok(usage)
     }
@@ -112,7 +112,6 @@ impl Usage {
                 self.cells = in_use / CELL_BYTES;
             }
             Reply::Range { count, .. } => self.keys = *count,
-            Reply::Leases { ids, .. } => self.leases = ids.as_slice().len() as u64,
             Reply::Alarms { no_space, .. } => self.no_space = *no_space,
             _ => {}
         }
