@@ -1,5 +1,5 @@
 //! The answers about leases.
-ghost use Rattle.std.specs.Prelude.{◌≡◌, ◌++◌, IfOk, OnOk, codes, false, string_bytes};
+ghost use Rattle.std.specs.Prelude.{◌≡◌, ◌++◌, IfOk, OnOk, codes, false};
 ghost use Rattle.serde_json.specs.Written.{compact_text};
 ghost use Rattle.etcd_model.specs.ReplyText.{granted_data, header_member, lease_data, leases_data};
 ghost use Rattle.etcd_model.specs.ReplyText.{signed_member, time_to_live_data};
@@ -7,22 +7,23 @@ ghost use Rattle.gateway_text.specs.Wrote.{WroteMembers};
 
 use crate::list::{WriteItem, write_item, write_list};
 use crate::member::write_signed;
+use crate::text::push_str;
 use etcd_types::{Header, List, Mem};
 
 impl WriteItem for i64 {
     ghost data_of = { lease_data };
 
-    fn write(&self, out: &mut String) -> Mem<()> {
-        out.push_str("{")?;
+    fn write(&self, out: &mut Vec<u8>) -> Mem<()> {
+        push_str(out, "{")?;
         write_signed(out, false, "ID", self)?;
-        out.push_str("}")?;
+        push_str(out, "}")?;
         Ok(())
     }
 }
 
 /// Writes the members of the answer to a grant or a keepalive.
-pub(crate) fn write_lease(out: &mut String, header: &Header, id: &i64, ttl: &i64) -> Mem<bool>
-    ensures { IfOk result (λ after. WroteMembers (string_bytes out.old) false (string_bytes out.new) after
+pub(crate) fn write_lease(out: &mut Vec<u8>, header: &Header, id: &i64, ttl: &i64) -> Mem<bool>
+    ensures { IfOk result (λ after. WroteMembers out.old.items false out.new.items after
         (λ rest. signed_member (codes "ID") id.now
         (signed_member (codes "TTL") ttl.now (header_member header.now rest)))) }
 {
@@ -32,46 +33,46 @@ pub(crate) fn write_lease(out: &mut String, header: &Header, id: &i64, ttl: &i64
 }
 
 /// Writes the answer to a grant.
-pub(crate) fn write_granted(out: &mut String, header: &Header, id: &i64, ttl: &i64) -> Mem<()>
-    ensures { OnOk result (string_bytes out.new ≡ string_bytes out.old
+pub(crate) fn write_granted(out: &mut Vec<u8>, header: &Header, id: &i64, ttl: &i64) -> Mem<()>
+    ensures { OnOk result (out.new.items ≡ out.old.items
         ++ compact_text (granted_data header.now id.now ttl.now)) }
 {
-    out.push_str("{")?;
+    push_str(out, "{")?;
     write_lease(out, header, id, ttl)?;
-    out.push_str("}")?;
+    push_str(out, "}")?;
     Ok(())
 }
 
 /// Writes how long a lease lives, and its keys.
 pub(crate) fn write_time_to_live(
-    out: &mut String,
+    out: &mut Vec<u8>,
     header: &Header,
     id: &i64,
     ttl: &i64,
     granted_ttl: &i64,
     keys: &[List<u8>],
 ) -> Mem<()>
-    ensures { OnOk result (string_bytes out.new ≡ string_bytes out.old
+    ensures { OnOk result (out.new.items ≡ out.old.items
         ++ compact_text (time_to_live_data header.now id.now ttl.now granted_ttl.now keys.now)) }
 {
-    out.push_str("{")?;
+    push_str(out, "{")?;
     let later = write_signed(out, false, "ID", id)?;
     let later = write_signed(out, later, "TTL", ttl)?;
     let later = write_signed(out, later, "grantedTTL", granted_ttl)?;
     let later = write_item(out, later, "header", header)?;
     write_list(out, later, "keys", keys)?;
-    out.push_str("}")?;
+    push_str(out, "}")?;
     Ok(())
 }
 
 /// Writes the leases that there are.
-pub(crate) fn write_leases(out: &mut String, header: &Header, ids: &[i64]) -> Mem<()>
-    ensures { OnOk result (string_bytes out.new ≡ string_bytes out.old
+pub(crate) fn write_leases(out: &mut Vec<u8>, header: &Header, ids: &[i64]) -> Mem<()>
+    ensures { OnOk result (out.new.items ≡ out.old.items
         ++ compact_text (leases_data header.now ids.now)) }
 {
-    out.push_str("{")?;
+    push_str(out, "{")?;
     let later = write_item(out, false, "header", header)?;
     write_list(out, later, "leases", ids)?;
-    out.push_str("}")?;
+    push_str(out, "}")?;
     Ok(())
 }

@@ -12,6 +12,7 @@ mod responses;
 mod rows;
 mod size;
 mod streams;
+mod text;
 
 pub use law::answers_read_back;
 pub use refusal::{MEMORY_TEXT, memory_text};

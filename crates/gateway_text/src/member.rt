@@ -4,7 +4,7 @@
 //! Where a value is zero, false or empty, the member is left out.
 #![tactic(auto, using(crate::proofs::WroteLemmas::wrote_value))]
 
-ghost use Rattle.std.specs.Prelude.{◌≡◌, ◌++◌, IsTrue, IfOk, OnOk, string_bytes};
+ghost use Rattle.std.specs.Prelude.{◌≡◌, ◌++◌, ◌∷◌, [], IsTrue, IfOk, OnOk};
 ghost use Rattle.serde_json.specs.Data.{string, number, unsigned, member as with_member};
 ghost use Rattle.serde_json.specs.Written.{comma_if, compact_text};
 ghost use Rattle.etcd_model.specs.ReplyText.{signed_member, unsigned_member, bytes_data, bytes_member};
@@ -12,49 +12,58 @@ ghost use Rattle.etcd_model.specs.ReplyText.{flag_member};
 ghost use Rattle.gateway_text.specs.Plain.{is_plain};
 ghost use Rattle.gateway_text.specs.Wrote.{WroteMembers, name_text};
 
-use base64::engine::general_purpose::STANDARD;
+use crate::text::{push_base64, push_str};
 use etcd_types::Mem;
 
 /// Writes a comma, where something stands before.
-pub(crate) fn write_comma(out: &mut String, later: bool) -> Mem<()>
-    ensures { OnOk result (string_bytes out.new ≡ string_bytes out.old ++ comma_if later) }
+pub(crate) fn write_comma(out: &mut Vec<u8>, later: bool) -> Mem<()>
+    ensures { OnOk result (out.new.items ≡ out.old.items ++ comma_if later) }
 {
     if later {
-        out.push_str(",")?;
+        push_str(out, ",")?;
     }
     Ok(())
 }
 
-/// Writes a member's name and the colon after it.
-pub(crate) fn write_name(out: &mut String, later: bool, name: &str) -> Mem<()>
-    requires { IsTrue (is_plain name.now) }
-    ensures { OnOk result (string_bytes out.new
-        ≡ string_bytes out.old ++ name_text later name.now) }
+/// Writes the quote before a name, and a comma where a member stands before.
+fn write_quote(out: &mut Vec<u8>, later: bool) -> Mem<()>
+    ensures { OnOk result (out.new.items ≡ out.old.items ++ (comma_if later ++ 34 ∷ [])) }
 {
-    write_comma(out, later)?;
-    out.push_str("\"")?;
-    out.push_str(name)?;
-    out.push_str("\":")?;
+    if later {
+        push_str(out, ",\"")
+    } else {
+        push_str(out, "\"")
+    }
+}
+
+/// Writes a member's name and the colon after it.
+pub(crate) fn write_name(out: &mut Vec<u8>, later: bool, name: &str) -> Mem<()>
+    requires { IsTrue (is_plain name.now) }
+    ensures { OnOk result (out.new.items ≡ out.old.items ++ name_text later name.now) }
+{
+    write_quote(out, later)?;
+    push_str(out, name)?;
+    push_str(out, "\":")?;
     Ok(())
 }
 
 /// Writes a text that needs no escape, between its quotes.
-fn write_quoted(out: &mut String, text: &str) -> Mem<()>
+fn write_quoted(out: &mut Vec<u8>, text: &str) -> Mem<()>
     requires { IsTrue (is_plain text.now) }
-    ensures { OnOk result (string_bytes out.new
-        ≡ string_bytes out.old ++ compact_text (string text.now)) }
+    ensures { OnOk result (out.new.items
+        ≡ out.old.items ++ compact_text (string text.now)) }
 {
-    out.push_str("\"")?;
-    out.push_str(text)?;
-    out.push_str("\"")?;
+    push_str(out, "\"")?;
+    push_str(out, text)?;
+    push_str(out, "\"")?;
     Ok(())
 }
 
 /// Writes a text that needs no escape.
-pub(crate) fn write_text(out: &mut String, later: bool, name: &str, text: &str) -> Mem<bool>
+pub(crate) fn write_text(out: &mut Vec<u8>, later: bool, name: &str, text: &str) -> Mem<bool>
     requires name { IsTrue (is_plain name.now) }
     requires text { IsTrue (is_plain text.now) }
-    ensures { IfOk result (λ after. WroteMembers (string_bytes out.old) later (string_bytes out.new) after
+    ensures { IfOk result (λ after. WroteMembers out.old.items later out.new.items after
         (with_member name.now (string text.now))) }
 {
     write_name(out, later, name)?;
@@ -64,9 +73,9 @@ pub(crate) fn write_text(out: &mut String, later: bool, name: &str, text: &str) 
 
 /// Writes a 64-bit number, which is a string of its digits.
 #[tactic(auto, using(crate::proofs::PlainLemmas::plain_signed))]
-pub(crate) fn write_signed(out: &mut String, later: bool, name: &str, n: &i64) -> Mem<bool>
+pub(crate) fn write_signed(out: &mut Vec<u8>, later: bool, name: &str, n: &i64) -> Mem<bool>
     requires { IsTrue (is_plain name.now) }
-    ensures { IfOk result (λ after. WroteMembers (string_bytes out.old) later (string_bytes out.new) after
+    ensures { IfOk result (λ after. WroteMembers out.old.items later out.new.items after
         (signed_member name.now n.now)) }
 {
     if *n == 0 {
@@ -78,9 +87,9 @@ pub(crate) fn write_signed(out: &mut String, later: bool, name: &str, n: &i64) -
 
 /// Writes a 64-bit number without a sign, which is a string of its digits.
 #[tactic(auto, using(crate::proofs::PlainLemmas::plain_decimal))]
-pub(crate) fn write_unsigned(out: &mut String, later: bool, name: &str, n: u64) -> Mem<bool>
+pub(crate) fn write_unsigned(out: &mut Vec<u8>, later: bool, name: &str, n: u64) -> Mem<bool>
     requires { IsTrue (is_plain name.now) }
-    ensures { IfOk result (λ after. WroteMembers (string_bytes out.old) later (string_bytes out.new) after
+    ensures { IfOk result (λ after. WroteMembers out.old.items later out.new.items after
         (unsigned_member name.now n)) }
 {
     if n == 0 {
@@ -91,32 +100,32 @@ pub(crate) fn write_unsigned(out: &mut String, later: bool, name: &str, n: u64) 
 }
 
 /// Writes a small number, which is a JSON number.
-pub(crate) fn write_number(out: &mut String, later: bool, name: &str, n: u64) -> Mem<bool>
+pub(crate) fn write_number(out: &mut Vec<u8>, later: bool, name: &str, n: u64) -> Mem<bool>
     requires { IsTrue (is_plain name.now) }
-    ensures { IfOk result (λ after. WroteMembers (string_bytes out.old) later (string_bytes out.new) after
+    ensures { IfOk result (λ after. WroteMembers out.old.items later out.new.items after
         (with_member name.now (number (unsigned n)))) }
 {
     let mut buffer = itoa::Buffer::new();
     write_name(out, later, name)?;
-    out.push_str(buffer.format(n))?;
+    push_str(out, buffer.format(n))?;
     Ok(true)
 }
 
 /// Writes bytes as a string of base64.
-pub(crate) fn write_base64(out: &mut String, bytes: &[u8]) -> Mem<()>
-    ensures { OnOk result (string_bytes out.new
-        ≡ string_bytes out.old ++ compact_text (bytes_data bytes.now)) }
+pub(crate) fn write_base64(out: &mut Vec<u8>, bytes: &[u8]) -> Mem<()>
+    ensures { OnOk result (out.new.items
+        ≡ out.old.items ++ compact_text (bytes_data bytes.now)) }
 {
-    out.push_str("\"")?;
-    STANDARD.encode_string(bytes, out)?;
-    out.push_str("\"")?;
+    push_str(out, "\"")?;
+    push_base64(out, bytes)?;
+    push_str(out, "\"")?;
     Ok(())
 }
 
 /// Writes bytes, which are a string of base64.
-pub(crate) fn write_bytes(out: &mut String, later: bool, name: &str, bytes: &[u8]) -> Mem<bool>
+pub(crate) fn write_bytes(out: &mut Vec<u8>, later: bool, name: &str, bytes: &[u8]) -> Mem<bool>
     requires { IsTrue (is_plain name.now) }
-    ensures { IfOk result (λ after. WroteMembers (string_bytes out.old) later (string_bytes out.new) after
+    ensures { IfOk result (λ after. WroteMembers out.old.items later out.new.items after
         (bytes_member name.now bytes.now)) }
 {
     if bytes.is_empty() {
@@ -128,15 +137,15 @@ pub(crate) fn write_bytes(out: &mut String, later: bool, name: &str, bytes: &[u8
 }
 
 /// Writes what is true.
-pub(crate) fn write_flag(out: &mut String, later: bool, name: &str, flag: bool) -> Mem<bool>
+pub(crate) fn write_flag(out: &mut Vec<u8>, later: bool, name: &str, flag: bool) -> Mem<bool>
     requires { IsTrue (is_plain name.now) }
-    ensures { IfOk result (λ after. WroteMembers (string_bytes out.old) later (string_bytes out.new) after
+    ensures { IfOk result (λ after. WroteMembers out.old.items later out.new.items after
         (flag_member name.now flag)) }
 {
     if !flag {
         return Ok(later);
     }
     write_name(out, later, name)?;
-    out.push_str("true")?;
+    push_str(out, "true")?;
     Ok(true)
 }

@@ -1,9 +1,10 @@
 //! The answers that refuse.
-ghost use Rattle.std.specs.Prelude.{◌≡◌, ◌++◌, OnOk, string_bytes};
+ghost use Rattle.std.specs.Prelude.{◌≡◌, ◌++◌, OnOk};
 ghost use Rattle.serde_json.specs.Written.{compact_text};
 ghost use Rattle.etcd_model.specs.ReplyText.{memory_answer, refusal_data};
 
 use crate::member::{write_number, write_text};
+use crate::text::push_str;
 use etcd_types::{Mem, Refusal};
 
 /// The body where memory for a body is wanting.
@@ -19,15 +20,15 @@ pub fn memory_text() -> &'static [u8]
 
 /// Writes a refusal's code and its text, which stands twice.
 #[tactic(auto, using(crate::proofs::PlainLemmas::plain_refusal))]
-pub(crate) fn write_refusal(out: &mut String, refusal: Refusal) -> Mem<()>
-    ensures { OnOk result (string_bytes out.new ≡ string_bytes out.old
+pub(crate) fn write_refusal(out: &mut Vec<u8>, refusal: Refusal) -> Mem<()>
+    ensures { OnOk result (out.new.items ≡ out.old.items
         ++ compact_text (refusal_data refusal)) }
 {
     let text = refusal.text();
-    out.push_str("{")?;
+    push_str(out, "{")?;
     let later = write_number(out, false, "code", refusal.code())?;
     let later = write_text(out, later, "error", text)?;
     write_text(out, later, "message", text)?;
-    out.push_str("}")?;
+    push_str(out, "}")?;
     Ok(())
 }

@@ -1,5 +1,5 @@
 //! The status and the text of a reply.
-ghost use Rattle.std.specs.Prelude.{◌≡◌, ◌++◌, IfOk, OnOk, codes, false, string_bytes};
+ghost use Rattle.std.specs.Prelude.{◌≡◌, ◌++◌, IfOk, OnOk, codes, false};
 ghost use Rattle.serde_json.specs.Written.{compact_text};
 ghost use Rattle.etcd_model.specs.ReplyText.{alarm_list, alarms_data, bare_data, list_member, reply_body};
 ghost use Rattle.etcd_model.specs.ReplyText.{reply_status, status_data};
@@ -12,6 +12,7 @@ use crate::refusal::write_refusal;
 use crate::responses::write_key_reply;
 use crate::size::empty_text;
 use crate::streams::write_stream_reply;
+use crate::text::push_str;
 use etcd_types::{Header, Mem, Reply};
 use std::alloc::Global;
 
@@ -22,7 +23,7 @@ pub fn write_reply(alloc: Global, reply: &Reply) -> Mem<(u16, Vec<u8>)>
 {
     let mut out = empty_text(alloc, reply)?;
     write_body(&mut out, reply)?;
-    Ok((status_of(reply), out.into_bytes()))
+    Ok((status_of(reply), out))
 }
 
 /// The status of HTTP.
@@ -37,8 +38,8 @@ fn status_of(reply: &Reply) -> u16
 }
 
 /// Writes a reply's body.
-fn write_body(out: &mut String, reply: &Reply) -> Mem<()>
-    ensures { OnOk result (string_bytes out.new ≡ string_bytes out.old ++ reply_body reply.now) }
+fn write_body(out: &mut Vec<u8>, reply: &Reply) -> Mem<()>
+    ensures { OnOk result (out.new.items ≡ out.old.items ++ reply_body reply.now) }
 {
     match reply {
         Reply::Range { .. } | Reply::Put { .. } | Reply::Delete { .. } | Reply::Txn { .. } => {
@@ -73,48 +74,51 @@ fn write_body(out: &mut String, reply: &Reply) -> Mem<()>
 }
 
 /// Writes an answer that is a header alone.
-fn write_bare(out: &mut String, header: &Header) -> Mem<()>
-    ensures { OnOk result (string_bytes out.new ≡ string_bytes out.old
+fn write_bare(out: &mut Vec<u8>, header: &Header) -> Mem<()>
+    ensures { OnOk result (out.new.items ≡ out.old.items
         ++ compact_text (bare_data header.now)) }
 {
-    out.push_str("{")?;
+    push_str(out, "{")?;
     write_item(out, false, "header", header)?;
-    out.push_str("}")?;
+    push_str(out, "}")?;
     Ok(())
 }
 
 /// Writes the alarms that there are.
-fn write_alarms(out: &mut String, header: &Header, no_space: bool) -> Mem<()>
-    ensures { OnOk result (string_bytes out.new ≡ string_bytes out.old
+fn write_alarms(out: &mut Vec<u8>, header: &Header, no_space: bool) -> Mem<()>
+    ensures { OnOk result (out.new.items ≡ out.old.items
         ++ compact_text (alarms_data header.now no_space)) }
 {
-    out.push_str("{")?;
+    push_str(out, "{")?;
     let later = write_alarm(out, no_space)?;
     write_item(out, later, "header", header)?;
-    out.push_str("}")?;
+    push_str(out, "}")?;
     Ok(())
 }
 
 /// Writes the list of the one alarm that there is, if it is raised.
-fn write_alarm(out: &mut String, no_space: bool) -> Mem<bool>
-    ensures { IfOk result (λ after. WroteMembers (string_bytes out.old) false (string_bytes out.new) after
+fn write_alarm(out: &mut Vec<u8>, no_space: bool) -> Mem<bool>
+    ensures { IfOk result (λ after. WroteMembers out.old.items false out.new.items after
         (list_member (λ alarm. alarm) (codes "alarms") (alarm_list no_space))) }
 {
     if no_space {
-        out.push_str("\"alarms\":[{\"alarm\":\"NOSPACE\",\"memberID\":\"1\"}]")?;
+        push_str(
+            out,
+            "\"alarms\":[{\"alarm\":\"NOSPACE\",\"memberID\":\"1\"}]",
+        )?;
     }
     Ok(no_space)
 }
 
 /// Writes how much room a tenant has, and how much is in use.
-fn write_status(out: &mut String, header: &Header, size: u64, in_use: u64) -> Mem<()>
-    ensures { OnOk result (string_bytes out.new ≡ string_bytes out.old
+fn write_status(out: &mut Vec<u8>, header: &Header, size: u64, in_use: u64) -> Mem<()>
+    ensures { OnOk result (out.new.items ≡ out.old.items
         ++ compact_text (status_data header.now size in_use)) }
 {
-    out.push_str("{")?;
+    push_str(out, "{")?;
     let later = write_unsigned(out, false, "dbSize", size)?;
     let later = write_unsigned(out, later, "dbSizeInUse", in_use)?;
     write_item(out, later, "header", header)?;
-    out.push_str("}")?;
+    push_str(out, "}")?;
     Ok(())
 }

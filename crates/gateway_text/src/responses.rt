@@ -1,5 +1,5 @@
 //! The answers to reads and writes of keys, alone and within the answer to a transaction.
-ghost use Rattle.std.specs.Prelude.{◌≡◌, ◌++◌, IsTrue, OnOk, string_bytes};
+ghost use Rattle.std.specs.Prelude.{◌≡◌, ◌++◌, IsTrue, OnOk};
 ghost use Rattle.serde_json.specs.Data.{object};
 ghost use Rattle.serde_json.specs.Written.{compact_text};
 ghost use Rattle.etcd_model.specs.ReplyText.{delete_members, put_members, range_members, reply_body};
@@ -10,13 +10,14 @@ use crate::header::InnerHeader;
 use crate::list::{WriteItem, write_item, write_list};
 use crate::member::{write_flag, write_unsigned};
 use crate::rows::write_row;
+use crate::text::push_str;
 use etcd_types::{Header, KeyValue, Mem, OpReply, Reply};
 
 /// Writes the answer to a read or a write of keys.
 #[tactic(auto, unfolding(etcd_model::specs::ReplyText::range_data, etcd_model::specs::ReplyText::put_data, etcd_model::specs::ReplyText::delete_data))]
-pub(crate) fn write_key_reply(out: &mut String, reply: &Reply) -> Mem<()>
+pub(crate) fn write_key_reply(out: &mut Vec<u8>, reply: &Reply) -> Mem<()>
     requires { IsTrue (is_key_reply reply.now) }
-    ensures { OnOk result (string_bytes out.new ≡ string_bytes out.old ++ reply_body reply.now) }
+    ensures { OnOk result (out.new.items ≡ out.old.items ++ reply_body reply.now) }
 {
     match reply {
         Reply::Range {
@@ -42,71 +43,71 @@ pub(crate) fn write_key_reply(out: &mut String, reply: &Reply) -> Mem<()>
 
 /// Writes the answer to a range.
 fn write_range<H: WriteItem>(
-    out: &mut String,
+    out: &mut Vec<u8>,
     header: &H,
     count: u64,
     kvs: &[KeyValue],
     more: bool,
 ) -> Mem<()>
-    ensures { OnOk result (string_bytes out.new ≡ string_bytes out.old
+    ensures { OnOk result (out.new.items ≡ out.old.items
         ++ compact_text (object (range_members (H.data_of header.now) count kvs.now more))) }
 {
-    out.push_str("{")?;
+    push_str(out, "{")?;
     let later = write_unsigned(out, false, "count", count)?;
     let later = write_item(out, later, "header", header)?;
     let later = write_list(out, later, "kvs", kvs)?;
     write_flag(out, later, "more", more)?;
-    out.push_str("}")?;
+    push_str(out, "}")?;
     Ok(())
 }
 
 /// Writes the answer to a put.
-fn write_put<H: WriteItem>(out: &mut String, header: &H, prev_kv: &Option<KeyValue>) -> Mem<()>
-    ensures { OnOk result (string_bytes out.new ≡ string_bytes out.old
+fn write_put<H: WriteItem>(out: &mut Vec<u8>, header: &H, prev_kv: &Option<KeyValue>) -> Mem<()>
+    ensures { OnOk result (out.new.items ≡ out.old.items
         ++ compact_text (object (put_members (H.data_of header.now) prev_kv.now))) }
 {
-    out.push_str("{")?;
+    push_str(out, "{")?;
     let later = write_item(out, false, "header", header)?;
     write_row(out, later, "prev_kv", prev_kv)?;
-    out.push_str("}")?;
+    push_str(out, "}")?;
     Ok(())
 }
 
 /// Writes the answer to a delete.
 fn write_delete<H: WriteItem>(
-    out: &mut String,
+    out: &mut Vec<u8>,
     header: &H,
     deleted: u64,
     prev_kvs: &[KeyValue],
 ) -> Mem<()>
-    ensures { OnOk result (string_bytes out.new ≡ string_bytes out.old
+    ensures { OnOk result (out.new.items ≡ out.old.items
         ++ compact_text (object (delete_members (H.data_of header.now) deleted prev_kvs.now))) }
 {
-    out.push_str("{")?;
+    push_str(out, "{")?;
     let later = write_unsigned(out, false, "deleted", deleted)?;
     let later = write_item(out, later, "header", header)?;
     write_list(out, later, "prev_kvs", prev_kvs)?;
-    out.push_str("}")?;
+    push_str(out, "}")?;
     Ok(())
 }
 
 /// Writes the answer to a transaction.
-fn write_txn(out: &mut String, header: &Header, succeeded: bool, responses: &[OpReply]) -> Mem<()>
-    ensures { OnOk result (string_bytes out.new ≡ string_bytes out.old
+fn write_txn(out: &mut Vec<u8>, header: &Header, succeeded: bool, responses: &[OpReply]) -> Mem<()>
+    ensures { OnOk result (out.new.items ≡ out.old.items
         ++ compact_text (txn_data header.now succeeded responses.now)) }
 {
-    out.push_str("{")?;
+    push_str(out, "{")?;
     let later = write_item(out, false, "header", header)?;
     let later = write_list(out, later, "responses", responses)?;
     write_flag(out, later, "succeeded", succeeded)?;
-    out.push_str("}")?;
+    push_str(out, "}")?;
     Ok(())
 }
 
 impl WriteItem for OpReply {
     ghost data_of = { response_data };
 
-    fn write(&self, out: &mut String) -> Mem<()> {
+    fn write(&self, out: &mut Vec<u8>) -> Mem<()> {
         match self {
             OpReply::Range {
                 revision,
@@ -114,15 +115,15 @@ impl WriteItem for OpReply {
                 kvs,
                 more,
             } => {
-                out.push_str("{\"response_range\":")?;
+                push_str(out, "{\"response_range\":")?;
                 write_range(out, &InnerHeader(revision), *count, kvs.as_slice(), *more)?;
-                out.push_str("}")?;
+                push_str(out, "}")?;
                 Ok(())
             }
             OpReply::Put { revision, prev_kv } => {
-                out.push_str("{\"response_put\":")?;
+                push_str(out, "{\"response_put\":")?;
                 write_put(out, &InnerHeader(revision), prev_kv)?;
-                out.push_str("}")?;
+                push_str(out, "}")?;
                 Ok(())
             }
             OpReply::Delete {
@@ -130,9 +131,9 @@ impl WriteItem for OpReply {
                 deleted,
                 prev_kvs,
             } => {
-                out.push_str("{\"response_delete_range\":")?;
+                push_str(out, "{\"response_delete_range\":")?;
                 write_delete(out, &InnerHeader(revision), *deleted, prev_kvs.as_slice())?;
-                out.push_str("}")?;
+                push_str(out, "}")?;
                 Ok(())
             }
         }

@@ -2,7 +2,7 @@
 //!
 //! The sizes are upper estimates: each number counts as the longest there is, and each member
 //! counts even where it is left out.
-ghost use Rattle.std.specs.Prelude.{◌≡◌, ◌-◌, ◌^◌, ℕ, [], min, sum_by, string_bytes, string_capacity, IfOk};
+ghost use Rattle.std.specs.Prelude.{◌≡◌, ◌-◌, ◌^◌, ℕ, [], min, sum_by, vec_capacity, IfOk};
 ghost use Rattle.gateway_text.specs.Room.{body_room, bytes_room, event_room, key_room, lease_room, op_room, row_room};
 ghost use Rattle.gateway_text.specs.Room.{some_room};
 
@@ -33,11 +33,11 @@ trait TextSize {
 }
 
 /// A text with nothing in it, and with room for the body of a reply and for no more.
-pub(crate) fn empty_text(alloc: Global, reply: &Reply) -> Mem<String>
-    ensures none { IfOk result (λ out. string_bytes out ≡ []) }
-    ensures room { IfOk result (λ out. string_capacity out ≡ min (body_room reply.now) (2 ^ 64 - 1)) }
+pub(crate) fn empty_text(alloc: Global, reply: &Reply) -> Mem<Vec<u8>>
+    ensures none { IfOk result (λ out. out.items ≡ []) }
+    ensures room { IfOk result (λ out. vec_capacity out ≡ min (body_room reply.now) (2 ^ 64 - 1)) }
 {
-    String::with_capacity(alloc, body_size(reply))
+    Vec::with_capacity(alloc, body_size(reply))
 }
 
 /// How many bytes the body of a reply has at most.

@@ -1,11 +1,12 @@
 //! The answers of watches and of keepalives: each lies in a `result` and ends a line.
-ghost use Rattle.std.specs.Prelude.{◌≡◌, ◌++◌, IsTrue, OnOk, string_bytes};
+ghost use Rattle.std.specs.Prelude.{◌≡◌, ◌++◌, IsTrue, OnOk};
 ghost use Rattle.etcd_model.specs.ReplyText.{canceled_data, created_data, events_data, is_stream_reply};
 ghost use Rattle.etcd_model.specs.ReplyText.{kept_alive_data, reply_body, stream_text};
 
 use crate::leases::write_lease;
 use crate::list::{write_item, write_list};
 use crate::member::{write_flag, write_signed};
+use crate::text::push_str;
 use etcd_types::{Event, Header, Mem, Reply};
 
 /// What stands before the members of a `result`.
@@ -14,9 +15,9 @@ const RESULT_BEGIN: &str = "{\"result\":{";
 const RESULT_END: &str = "}}\n";
 
 /// Writes an answer of a watch or a keepalive.
-pub(crate) fn write_stream_reply(out: &mut String, reply: &Reply) -> Mem<()>
+pub(crate) fn write_stream_reply(out: &mut Vec<u8>, reply: &Reply) -> Mem<()>
     requires { IsTrue (is_stream_reply reply.now) }
-    ensures { OnOk result (string_bytes out.new ≡ string_bytes out.old ++ reply_body reply.now) }
+    ensures { OnOk result (out.new.items ≡ out.old.items ++ reply_body reply.now) }
 {
     match reply {
         Reply::Created {
@@ -41,57 +42,57 @@ pub(crate) fn write_stream_reply(out: &mut String, reply: &Reply) -> Mem<()>
 }
 
 /// Writes the first answer of a watch.
-fn write_created(out: &mut String, header: &Header, watch_id: &i64) -> Mem<()>
-    ensures { OnOk result (string_bytes out.new ≡ string_bytes out.old
+fn write_created(out: &mut Vec<u8>, header: &Header, watch_id: &i64) -> Mem<()>
+    ensures { OnOk result (out.new.items ≡ out.old.items
         ++ stream_text (created_data header.now watch_id.now)) }
 {
-    out.push_str(RESULT_BEGIN)?;
+    push_str(out, RESULT_BEGIN)?;
     let later = write_flag(out, false, "created", true)?;
     let later = write_item(out, later, "header", header)?;
     write_signed(out, later, "watch_id", watch_id)?;
-    out.push_str(RESULT_END)?;
+    push_str(out, RESULT_END)?;
     Ok(())
 }
 
 /// Writes events, or that there are none up to a revision.
-fn write_events(out: &mut String, header: &Header, watch_id: &i64, events: &[Event]) -> Mem<()>
-    ensures { OnOk result (string_bytes out.new ≡ string_bytes out.old
+fn write_events(out: &mut Vec<u8>, header: &Header, watch_id: &i64, events: &[Event]) -> Mem<()>
+    ensures { OnOk result (out.new.items ≡ out.old.items
         ++ stream_text (events_data header.now watch_id.now events.now)) }
 {
-    out.push_str(RESULT_BEGIN)?;
+    push_str(out, RESULT_BEGIN)?;
     let later = write_list(out, false, "events", events)?;
     let later = write_item(out, later, "header", header)?;
     write_signed(out, later, "watch_id", watch_id)?;
-    out.push_str(RESULT_END)?;
+    push_str(out, RESULT_END)?;
     Ok(())
 }
 
 /// Writes the last answer of a watch.
 fn write_canceled(
-    out: &mut String,
+    out: &mut Vec<u8>,
     header: &Header,
     watch_id: &i64,
     compact_revision: &i64,
 ) -> Mem<()>
-    ensures { OnOk result (string_bytes out.new ≡ string_bytes out.old
+    ensures { OnOk result (out.new.items ≡ out.old.items
         ++ stream_text (canceled_data header.now watch_id.now compact_revision.now)) }
 {
-    out.push_str(RESULT_BEGIN)?;
+    push_str(out, RESULT_BEGIN)?;
     let later = write_flag(out, false, "canceled", true)?;
     let later = write_signed(out, later, "compact_revision", compact_revision)?;
     let later = write_item(out, later, "header", header)?;
     write_signed(out, later, "watch_id", watch_id)?;
-    out.push_str(RESULT_END)?;
+    push_str(out, RESULT_END)?;
     Ok(())
 }
 
 /// Writes the answer to a keepalive.
-fn write_kept_alive(out: &mut String, header: &Header, id: &i64, ttl: &i64) -> Mem<()>
-    ensures { OnOk result (string_bytes out.new ≡ string_bytes out.old
+fn write_kept_alive(out: &mut Vec<u8>, header: &Header, id: &i64, ttl: &i64) -> Mem<()>
+    ensures { OnOk result (out.new.items ≡ out.old.items
         ++ stream_text (kept_alive_data header.now id.now ttl.now)) }
 {
-    out.push_str(RESULT_BEGIN)?;
+    push_str(out, RESULT_BEGIN)?;
     write_lease(out, header, id, ttl)?;
-    out.push_str(RESULT_END)?;
+    push_str(out, RESULT_END)?;
     Ok(())
 }
