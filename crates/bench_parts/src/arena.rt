@@ -4,8 +4,8 @@ mod placing;
 mod reading;
 mod record;
 
+use crate::timing::{print_heading, print_times};
 use anyhow::Result;
-use bench_work::{print_heading, print_times};
 use placing::Placing;
 use reading::Reading;
 use std::alloc::Global;

@@ -5,8 +5,8 @@ mod inserting;
 mod numbers;
 mod searching;
 
+use crate::timing::{print_heading, print_times_among};
 use anyhow::Result;
-use bench_work::{print_heading, print_times_among};
 use both::Both;
 use inserting::Inserting;
 use searching::Searching;

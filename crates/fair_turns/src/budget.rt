@@ -162,7 +162,10 @@ impl Budget {
         ensures { result ≤ bytes }
     {
         let paid = |owed: usize| Some(owed.saturating_sub(bytes));
-        match self.owed.fetch_update(Ordering::SeqCst, Ordering::SeqCst, paid) {
+        match self
+            .owed
+            .fetch_update(Ordering::SeqCst, Ordering::SeqCst, paid)
+        {
             Ok(owed) => owed.min(bytes),
             Err(_) => 0,
         }

@@ -185,7 +185,8 @@ impl<I: Drop, R: Drop> Drop for OperatorExchange<I, R> {
     }
 }
 
-impl<I: Drop, R: Clock + Eprint + Copy + Drop> Service<Request<Incoming<I>>> for OperatorGateway<R> {
+impl<I: Drop, R: Clock + Eprint + Copy + Drop> Service<Request<Incoming<I>>>
+    for OperatorGateway<R> {
     type Response = Response<Full<Bytes>>;
 
     type Error = hyper::Error;

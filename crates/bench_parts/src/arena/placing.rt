@@ -2,8 +2,8 @@
 ghost use Rattle.std.specs.Prelude.{◌≡◌, ◌+◌};
 
 use crate::arena::record::{CELLS, FIELDS, KEY, SEGMENTS, VALUE};
+use crate::timing::Work;
 use anyhow::{Result, bail};
-use bench_work::Work;
 use cell_arena::{Kind, Region};
 use segment_pool::Stock;
 use std::alloc::Global;

@@ -3,8 +3,8 @@ ghost use Rattle.std.specs.Prelude.{IsSome};
 ghost use Rattle.std.specs.FinMap as map;
 
 use crate::arena::record::{CELLS, FIELDS, KEY, SEGMENTS, VALUE};
+use crate::timing::Work;
 use anyhow::Result;
-use bench_work::Work;
 use cell_arena::{Kind, Region};
 use etcd_types::CellNo;
 use segment_pool::Stock;

@@ -1,7 +1,7 @@
 //! A request's body that is read.
 use crate::gateway::by_values::read;
+use crate::timing::Work;
 use anyhow::{Result, bail};
-use bench_work::Work;
 use etcd_types::{Call, Step};
 use gateway_json::read_step;
 use std::alloc::Global;

@@ -1,7 +1,7 @@
 //! A reply whose body is written.
 use crate::gateway::by_values::write;
+use crate::timing::Work;
 use anyhow::Result;
-use bench_work::Work;
 use etcd_types::Reply;
 use gateway_text::write_reply;
 use std::alloc::Global;

@@ -1,8 +1,8 @@
 //! Putting a number between the items, and taking it away again. Each begins with a search.
 use crate::lists::below::Below;
 use crate::lists::both::{Both, place_of};
+use crate::timing::Work;
 use anyhow::{Result, bail};
-use bench_work::Work;
 use std::alloc::Global;
 
 /// The insert into a list and into a vector.

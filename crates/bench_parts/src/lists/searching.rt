@@ -1,8 +1,8 @@
 //! Looking for an item. What is found is tested, so that no search is left out as unused.
 use crate::lists::below::Below;
 use crate::lists::both::{Both, place_of};
+use crate::timing::Work;
 use anyhow::{Result, bail};
-use bench_work::Work;
 use std::alloc::Global;
 
 /// The search of a list and of a vector.

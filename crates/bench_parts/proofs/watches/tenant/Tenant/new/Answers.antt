@@ -1,5 +1,5 @@
 use Rattle.std.proofs.Common.{◌≡◌, ◌+◌, rules}
-use Rattle.bench_store.proofs.watches.tenant.Tenant.new.Goals as goal
+use Rattle.bench_parts.proofs.watches.tenant.Tenant.new.Goals as goal
 
 pub invariant_of-result : goal.invariant_of-result
 invariant_of-result c =

@@ -1,7 +1,7 @@
 //! Putting keys.
 use crate::store::filled::{Filled, next_of};
+use crate::timing::Work;
 use anyhow::Result;
-use bench_work::Work;
 use etcd_types::PutReq;
 use std::alloc::Global;
 

@@ -1,7 +1,7 @@
 //! Work that is done in two ways, and how it is timed.
 ghost use Rattle.std.specs.Prelude.{◌<◌};
 
-use crate::times::Times;
+use crate::timing::times::Times;
 use anyhow::{Result, bail};
 use std::alloc::Global;
 use std::time::{CpuClock, Duration};
@@ -10,7 +10,7 @@ use std::time::{CpuClock, Duration};
 const ROUNDS: u32 = 9;
 
 /// Work that is done in two ways.
-pub trait Work {
+pub(crate) trait Work {
     type Output: PartialEq + Drop;
 
     /// Does the work once our way.

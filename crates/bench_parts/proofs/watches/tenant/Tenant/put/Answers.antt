@@ -1,5 +1,5 @@
 use Rattle.std.proofs.Common.{◌≡◌, ◌+◌, rules}
-use Rattle.bench_store.proofs.watches.tenant.Tenant.put.Goals as goal
+use Rattle.bench_parts.proofs.watches.tenant.Tenant.put.Goals as goal
 
 pub invariant_of-self : goal.invariant_of-self
 invariant_of-self c =

@@ -1,7 +1,7 @@
 //! Reading one key.
 use crate::store::filled::{Filled, Row, copy_row, next_of, row_of};
+use crate::timing::Work;
 use anyhow::Result;
-use bench_work::Work;
 use etcd_types::RangeReq;
 use std::alloc::Global;
 

@@ -4,7 +4,7 @@ use std::env;
 use std::rt::Env;
 
 /// Whether the program's first argument names the part.
-pub fn is_asked(rt: &(impl Env + Alloc), part: &str) -> Result<bool> {
+pub(crate) fn is_asked(rt: &(impl Env + Alloc), part: &str) -> Result<bool> {
     let mut words = env::args(rt)?;
     let _program = words.next();
     match words.next() {
@@ -14,7 +14,7 @@ pub fn is_asked(rt: &(impl Env + Alloc), part: &str) -> Result<bool> {
 }
 
 /// Prints how a program is called: its name and what its argument can be.
-pub fn print_usage(rt: &impl Print, call: &str) -> Result<()> {
+pub(crate) fn print_usage(rt: &impl Print, call: &str) -> Result<()> {
     println!(rt; "usage: {call}")?;
     Ok(())
 }

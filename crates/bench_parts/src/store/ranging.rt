@@ -1,8 +1,8 @@
 //! Reading many keys that follow one another.
 use crate::store::filled::{Filled, Row, copy_row, next_of, row_of};
 use crate::store::keys::ROWS;
+use crate::timing::Work;
 use anyhow::Result;
-use bench_work::Work;
 use etcd_types::RangeReq;
 use std::alloc::Global;
 

@@ -1,14 +1,14 @@
 //! The lines that a program prints.
 ghost use Rattle.std.specs.Prelude.{◌<◌};
 
-use crate::times::Times;
-use crate::work::{Work, measure};
+use crate::timing::times::Times;
+use crate::timing::work::{Work, measure};
 use anyhow::Result;
 use std::alloc::Global;
 use std::time::CpuClock;
 
 /// Prints what stands above the lines: what our way is called, and the other one.
-pub fn print_heading(rt: &impl Print, ours: &str, other: &str) -> Result<()> {
+pub(crate) fn print_heading(rt: &impl Print, ours: &str, other: &str) -> Result<()> {
     println!(rt;
         "{:<40}{:>12}{:>12}{:>10}",
         "nanoseconds", ours, other, "ratio"
@@ -17,7 +17,7 @@ pub fn print_heading(rt: &impl Print, ours: &str, other: &str) -> Result<()> {
 }
 
 /// Measures some work, and prints its line.
-pub fn print_times<W: Work>(
+pub(crate) fn print_times<W: Work>(
     rt: &(impl Print + CpuClock + Alloc<A = Global>),
     name: &str,
     work: &mut W,
@@ -30,7 +30,7 @@ pub fn print_times<W: Work>(
 }
 
 /// The same of work among so many items, whose number ends the name.
-pub fn print_times_among<W: Work>(
+pub(crate) fn print_times_among<W: Work>(
     rt: &(impl Print + CpuClock + Alloc<A = Global>),
     name: &str,
     count: u32,
