@@ -8,6 +8,7 @@ pub mod Recorded
 pub mod Placed
 pub mod Counted
 pub mod Logged
+pub mod FewRows
 pub mod ReadingCells
 pub mod ReadingRows
 pub mod NewestRows
@@ -23,5 +24,7 @@ pub mod PendingPuts
 pub mod PendingDeletes
 pub mod PendingRows
 pub mod MixingPuts
+pub mod Overlaid
+pub mod PendingOverlaid
 pub mod PendingRanges
 pub mod Grown

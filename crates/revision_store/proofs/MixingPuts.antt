@@ -24,7 +24,7 @@ use Rattle.model_laws.proofs.RecordedLaws.{all_append, all_weaker}
 use Rattle.model_laws.proofs.RowLaws.{by_key_total, has_key, rows_by_their_keys, rows_rise}
 use Rattle.model_laws.proofs.SortingLaws.{already_in_order}
 use Rattle.range_rows.specs.Taking.{HaveOwnKeys}
-use Rattle.revision_store.specs.Mixing.{by_cell, is_put_to, unput_cells}
+use Rattle.revision_store.specs.Mixing.{by_cell, is_put_to, unput_cells, unput_rows}
 use Rattle.revision_store.specs.Pending.{AreRows, IsPending, is_erased, left_cells, put_row, row_put_to, rows_at}
 use Rattle.revision_store.specs.Plans.{change_in, key_at}
 use Rattle.revision_store.specs.Ranging.{rows_of}
@@ -68,12 +68,9 @@ put_over key rows o =
       | false ↦ λ t. refl
     ] refl
 
-abbrev pub unput : List KeyValue → List KeyValue → List KeyValue
-unput puts rows = filter (λ row. not (is_put_to puts row.key)) rows
-
-puts_in_order : (rows puts : List KeyValue) → IsStrictlySortedBy by_key rows → fold (put_in by_key) rows puts ≡ in_order by_key (unput puts rows ++ puts)
+pub puts_in_order : (rows puts : List KeyValue) → IsStrictlySortedBy by_key rows → fold (put_in by_key) rows puts ≡ in_order by_key (unput_rows puts rows ++ puts)
 puts_in_order rows puts up =
-    let rest : List KeyValue = unput puts rows in
+    let rest : List KeyValue = unput_rows puts rows in
     let still : IsStrictlySortedBy by_key rest = IsStrictlySortedBy-filter by_key (λ row. not (is_put_to puts row.key)) rows up in
     rows_by_their_keys (fold (put_in by_key) rows puts) (fold (put_in by_key) rest puts) (sorted_all puts rows up) (sorted_all puts rest still) (λ k.
     find_put_all k puts rows
@@ -91,16 +88,16 @@ other_key row (z ∷ zs) h =
     let parts = or_parts (bytes_eq z.key row.key) (is_put_to zs row.key) h in
     ((eq_by_cmp_equiv by_key_total).symm row z ∙ sym (bytes_eq-key_cmp z.key row.key) ∙ parts.0, other_key row zs parts.1)
 
-own_both : (rows more : List KeyValue) → IsStrictlySortedBy by_key rows → HaveOwnKeys more → HaveOwnKeys (unput more rows ++ more)
+pub own_both : (rows more : List KeyValue) → IsStrictlySortedBy by_key rows → HaveOwnKeys more → HaveOwnKeys (unput_rows more rows ++ more)
 unfolding IsStrictlySortedBy IsDistinct
 own_both [] more up own = own
 own_both (row ∷ rows) more up own =
     let rest = own_both rows more up.1 own in
-    elim (is_put_to more row.key) as (λ b. is_put_to more row.key ≡ b → HaveOwnKeys (cond (not b) (row ∷ unput more rows) (unput more rows) ++ more)) [
+    elim (is_put_to more row.key) as (λ b. is_put_to more row.key ≡ b → HaveOwnKeys (cond (not b) (row ∷ unput_rows more rows) (unput_rows more rows) ++ more)) [
       | true ↦ λ t. rest
       | false ↦ λ t. (
-        all_append (λ z. eq_by_cmp by_key row z ≡ false) (unput more rows) more
-            (all_weaker (λ z. by_key row z ≡ Less) (λ z. eq_by_cmp by_key row z ≡ false) (λ z less. ap is_eq less) (unput more rows) (all_kept (λ z. by_key row z ≡ Less) (λ z. not (is_put_to more z.key)) rows up.0))
+        all_append (λ z. eq_by_cmp by_key row z ≡ false) (unput_rows more rows) more
+            (all_weaker (λ z. by_key row z ≡ Less) (λ z. eq_by_cmp by_key row z ≡ false) (λ z less. ap is_eq less) (unput_rows more rows) (all_kept (λ z. by_key row z ≡ Less) (λ z. not (is_put_to more z.key)) rows up.0))
             (other_key row more t),
         rest,
       )
@@ -143,7 +140,7 @@ puts_own store (w ∷ ws) once =
 
 -- ---- under cells
 
-cells_rise : (store : StoreState) (cs : List ℕ) (rs : List KeyValue) → Under (row_at (cells store)) cs rs → IsStrictlySortedBy by_key rs → IsStrictlySortedBy (by_cell (cells store)) cs
+pub cells_rise : (store : StoreState) (cs : List ℕ) (rs : List KeyValue) → Under (row_at (cells store)) cs rs → IsStrictlySortedBy by_key rs → IsStrictlySortedBy (by_cell (cells store)) cs
 unfolding IsStrictlySortedBy
 cells_rise store [] rs e up = tt
 cells_rise store (c ∷ cs) [] e up = let bad : ⊥ = cc in absurd bad
@@ -170,6 +167,9 @@ module _ (store : StoreState) (ws : List Write) (places : List ℕ) (deletes : L
   abbrev kept_rows : List KeyValue
   kept_rows = left store ws places deletes is key end
 
+  pub puts_have_own_keys : HaveOwnKeys all_puts
+  puts_have_own_keys = distinct_kept (eq_by_cmp by_key) (λ row. inside store ws places deletes is key end row.key) (rows_at ws places) (subst HaveOwnKeys (sym is.puts) (puts_own store ws is.plan.once))
+
   kept_rise : IsStrictlySortedBy by_key kept_rows
   kept_rise = IsStrictlySortedBy-filter by_key (λ row. not (is_erased deletes row.key)) shown (rows_rise store.kept.changes is.sound.kept.own store.kept.current (inside store ws places deletes is key end))
 
@@ -193,13 +193,12 @@ module _ (store : StoreState) (ws : List Write) (places : List ℕ) (deletes : L
   pub are_mixed : (cs kept rest : List ℕ) → Under (row_at (cells store)) cs shown → kept ≡ left_cells (cells store) deletes cs → rest ≡ unput_cells (cells store) all_puts kept → AreMixed rest all_puts
   are_mixed cs kept rest under e f =
       let at = row_at (cells store) in
-      let others : List KeyValue = unput all_puts kept_rows in
+      let others : List KeyValue = unput_rows all_puts kept_rows in
       let under_rest : Under at rest others = ap (map at) f ∙ under_kept store (λ k. not (is_put_to all_puts k)) kept kept_rows (kept_under cs kept under e) in
       let same : others ≡ rows_of (cells store) rest = filter_map-is at rest others (sym under_rest) in
-      let own : HaveOwnKeys all_puts = distinct_kept (eq_by_cmp by_key) (λ row. inside store ws places deletes is key end row.key) (rows_at ws places) (subst HaveOwnKeys (sym is.puts) (puts_own store ws is.plan.once)) in
       record {
         there = under_rows at rest others under_rest;
         ascend = subst (IsStrictlySortedBy by_key) same (IsStrictlySortedBy-filter by_key (λ row. not (is_put_to all_puts row.key)) kept_rows kept_rise);
-        own = subst (λ rs. HaveOwnKeys (rs ++ all_puts)) same (own_both kept_rows all_puts kept_rise own);
+        own = subst (λ rs. HaveOwnKeys (rs ++ all_puts)) same (own_both kept_rows all_puts kept_rise puts_have_own_keys);
         is_read = ap (λ rs. in_order by_key (rs ++ all_puts)) (sym same) ∙ sym (puts_in_order kept_rows all_puts kept_rise) ∙ sym (rows_are store ws places deletes is key end);
       }

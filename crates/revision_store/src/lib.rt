@@ -9,6 +9,7 @@ mod heads;
 mod keys;
 mod log;
 mod mixing;
+mod overlaying;
 mod pending;
 mod pending_deletes;
 mod pending_puts;

@@ -3,12 +3,12 @@
 //! The order is two lists: the settled changes, and after them the recent ones. What is settled is a put that a
 //! compaction left as the first of its key. A later compaction drops it only if its key has changed again since, and
 //! such a change is among the recent ones. So a compaction has to visit the recent changes alone.
-ghost use Rattle.std.specs.Prelude.{◌≡◌, ℕ, ◌+◌, ◌*◌, ◌%◌, ◌<◌, ◌≤◌, ◌^◌, ◌∷◌, [], List, IfOk, IsSome, None};
+ghost use Rattle.std.specs.Prelude.{◌≡◌, ℕ, ◌+◌, ◌*◌, ◌%◌, ◌<◌, ◌≤◌, ◌^◌, ◌∷◌, [], Bool, List, IfOk, IsSome, None, length};
 ghost use Rattle.std.specs.Iterator.{AlwaysYields, IsFinite};
 ghost use Rattle.std.specs.List.{AllByRecursion};
 ghost use Rattle.std.specs.FinMap as finite;
 ghost use Rattle.cell_arena.specs.Loan.{IsLent, Settles, DrawsFor, DrawsNone, IsBusy, returned};
-ghost use Rattle.etcd_model.specs.Changes.{OwnRow, Rises, kept};
+ghost use Rattle.etcd_model.specs.Changes.{OwnRow, Rises, kept, rows};
 ghost use Rattle.etcd_model.specs.Store.{record_cells};
 ghost use Rattle.key_index.specs.Compaction.{IsCompacted};
 ghost use Rattle.revision_store.specs.Recorded.{cells_of, leases_of, with_lease_cell, without_lease_cell};
@@ -224,6 +224,14 @@ impl Log {
         ensures own { AllByRecursion OwnRow self.now.changes }
         ensures space { self.now.free + record_cells self.now.changes + self.now.lease_cells
             ≡ 64 * self.now.share.reserved }
+    {
+        let _ = &self.recent;
+    }
+
+    /// No interval has more rows than a quota can have cells. Nothing is done: a caller knows it from here on.
+    pub(crate) fn use_few_rows(&self)
+        ensures { (interval : List ℕ → Bool) (revision : ℕ)
+            → length (rows interval revision self.now.changes) ≤ 2 ^ 20 }
     {
         let _ = &self.recent;
     }

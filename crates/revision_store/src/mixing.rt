@@ -76,7 +76,7 @@ fn wanted_puts<'a>(
 
 /// What is given of the rows under some cells, which ascend by key, and of those of some puts, where all
 /// pass the filters. Of those under cells in the order of keys no more are read than are given.
-fn mixed_given(
+pub(crate) fn mixed_given(
     alloc: Global,
     log: &Log,
     request: &RangeReq,

@@ -13,6 +13,7 @@ ghost use Rattle.revision_store.specs.Pending.{changes_key, pending_reads, puts_
 
 use crate::growing::make_room;
 use crate::mixing::mixed_reply;
+use crate::overlaying::{needs_first, overlaid_reply};
 use crate::pending_deletes::left_cells;
 use crate::pending_puts::{puts_in, puts_of, unput_cells};
 use crate::plan::{Plan, Write};
@@ -102,7 +103,8 @@ impl<'a> Pending<'a> {
         range_reply(alloc, &store.log, request, cells, self.current())
     }
 
-    /// The same of the newest rows with the puts that are pending among them.
+    /// The same of the newest rows with the puts that are pending among them. Where nothing is deleted and the first of
+    /// them will do, no more of the store's are listed than are given and put.
     fn mixed_range(&self, alloc: Global, request: &RangeReq) -> Mem<OpReply>
         ensures { IfOk result
             (λ reply. reply
@@ -113,6 +115,11 @@ impl<'a> Pending<'a> {
         let range_end = request.range_end.as_slice();
         let store = self.store;
         let puts = puts_of(alloc, self.plan.writes(), &self.puts, key, range_end)?;
+        if self.deletes.is_empty() && needs_first(request) {
+            store.log.use_few_rows();
+            let cells = store.log.newest_cells(key, range_end);
+            return overlaid_reply(alloc, &store.log, request, cells, &puts, self.current());
+        }
         let live = store.log.newest_list(alloc, key, range_end)?;
         let left = left_cells(alloc, &store.log, live, &self.deletes)?;
         let left = unput_cells(&store.log, left, &puts);

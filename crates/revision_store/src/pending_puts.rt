@@ -70,12 +70,24 @@ pub(crate) fn unput_cells(log: &Log, mut cells: Vec<CellNo>, puts: &[&KeyValue])
     ensures { result.items
         ≡ unput_cells (cells_of log.now.records) (map (λ row. row.now) puts.now) cells.items }
 {
+    take_away(log, &mut cells, puts);
+    cells
+}
+
+/// Of some cells, which ascend by key, takes those away whose keys some rows have. It takes no memory, and looks at
+/// few of the cells.
+pub(crate) fn take_away(log: &Log, cells: &mut Vec<CellNo>, puts: &[&KeyValue])
+    requires rows { AreRows (cells_of log.now.records) cells.old.items }
+    requires ascend { IsStrictlySortedBy (by_cell (cells_of log.now.records)) cells.old.items }
+    ensures cells { cells.new.items
+        ≡ unput_cells (cells_of log.now.records) (map (λ row. row.now) puts.now) cells.old.items }
+    ensures room { vec_capacity cells.new ≡ vec_capacity cells.old }
+{
     for put in puts {
-        if let Some(place) = place_of(log, &cells, put.key.as_slice()) {
+        if let Some(place) = place_of(log, cells, put.key.as_slice()) {
             cells.remove(place);
         }
     }
-    cells
 }
 
 /// Where the cell of a key stands among cells that ascend by key, if it is there.

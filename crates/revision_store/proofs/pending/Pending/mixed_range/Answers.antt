@@ -1,6 +1,8 @@
-use Rattle.std.proofs.Common.{◌≡◌, ◌++◌, ◌∙◌, List, ap, map, subst, sym}
+use Rattle.std.proofs.Common.{◌≡◌, ◌++◌, ◌∙◌, ◌≤◌, ◌^◌, List, ap, arith, length, map, subst, sym}
 use Rattle.std.specs.Borrow.{Bor}
-use Rattle.std.specs.Prelude.{filter}
+use Rattle.std.specs.Prelude.{filter, vec_len}
+use Rattle.std.proofs.lemmas.Bool.{eqb-true}
+use Rattle.std.proofs.lemmas.List.{length-map}
 use Rattle.std.proofs.lemmas.Result.{IfOk-weaker}
 use Rattle.etcd_types.specs.declared.key_value.KeyValue.{KeyValue}
 use Rattle.etcd_model.specs.Changes.{rows}
@@ -8,13 +10,14 @@ use Rattle.etcd_model.specs.Interval.{is_in}
 use Rattle.etcd_model.specs.Order.{by_key, in_order}
 use Rattle.etcd_model.specs.Ranges.{range_reply}
 use Rattle.range_rows.specs.Taking.{HaveOwnKeys}
-use Rattle.revision_store.specs.Mixing.{unput_cells}
+use Rattle.revision_store.specs.Mixing.{overlaid as overlay, unput_cells}
 use Rattle.revision_store.specs.Pending.{is_row_in, left_cells, rows_at}
 use Rattle.revision_store.specs.Ranging.{rows_of}
 use Rattle.revision_store.specs.Recorded.{cells_of}
 use Rattle.revision_store.specs.Stored.{StoreState, cells, changes_of, look, row_at}
 use Rattle.revision_store.proofs.MixingPuts.{AreMixed, are_mixed, kept_are_rows, kept_ascend}
 use Rattle.revision_store.proofs.PendingDeletes.{Under, under_rows}
+use Rattle.revision_store.proofs.PendingOverlaid.{AreOverlaid, are_overlaid}
 use Rattle.revision_store.proofs.pending.Pending.mixed_range.Goals as goal
 
 pub left_cells-requires-clause-rows : goal.left_cells-requires-clause-rows
@@ -148,12 +151,73 @@ returns c =
     let q = c.args.request.now in
     let R = look store (changes_of store ws) in
     let others : map (λ (row : Bor KeyValue). row.now) c.deref-4.result.now ≡ all = ap (map (λ (row : Bor KeyValue). row.now)) c.deref-4.ensures.value ∙ puts in
-    let now : c.current.result ≡ R.current = rw (← c.self.view_is) at c.current.ensures.current in
+    let now : c.current-2.result ≡ R.current = rw (← c.self.view_is) at c.current-2.ensures.current in
     let same : in_order by_key (rows_of (cells store) rest ++ map (λ (row : Bor KeyValue). row.now) c.deref-4.result.now) ≡ R.rows q.key q.range_end =
     ap (λ ps. in_order by_key (rows_of (cells store) rest ++ ps)) others ∙ mixed.is_read
     ∙ ap (λ k. R.rows k end) c.as_slice-key.ensures ∙ ap (R.rows q.key) c.as_slice-range_end.ensures in
     rw (← c.self.view_is)
-    (IfOk-weaker c.mixed_reply.result (λ reply. reply ≡ range_reply c.current.result q (in_order by_key (rows_of (cells store) rest ++ map (λ (row : Bor KeyValue). row.now) c.deref-4.result.now)))
+    (IfOk-weaker c.mixed_reply.result (λ reply. reply ≡ range_reply c.current-2.result q (in_order by_key (rows_of (cells store) rest ++ map (λ (row : Bor KeyValue). row.now) c.deref-4.result.now)))
     (λ reply. reply ≡ range_reply R.current q (R.rows q.key q.range_end))
     (λ reply h. h ∙ ap (λ n. range_reply n q (in_order by_key (rows_of (cells store) rest ++ map (λ (row : Bor KeyValue). row.now) c.deref-4.result.now))) now ∙ ap (range_reply R.current q) same)
     (rw records at c.mixed_reply.ensures))
+
+-- ---- and nothing is deleted, and the first ones are given
+
+pub overlaid_reply-requires : goal.overlaid_reply-requires
+overlaid_reply-requires c =
+    let store = c.self.inside.store.now in
+    let ws = c.self.inside.plan in
+    let places = c.self.inside.puts.items in
+    let deletes = map (λ d. d.now) c.self.inside.deletes.items in
+    let key = c.as_slice-key.result.now in
+    let end = c.as_slice-range_end.result.now in
+    let cs = c.newest_cells-cells.result in
+    let records : c.store.inside.log.records ≡ store.records = ap (λ (s : StoreState). s.records) c.store.view_is in
+    let current : c.store.inside.current ≡ store.kept.current = ap (λ (s : StoreState). s.kept.current) c.store.view_is in
+    let changes : c.store.inside.log.changes ≡ store.kept.changes = ap (λ (s : StoreState). s.kept.changes) c.store.view_is in
+    let under : Under (row_at (cells store)) cs (rows (is_in key end) store.kept.current store.kept.changes) = rw (records, changes, current) at (c.newest_cells-cells.ensures c.store.inside.current c.store.invariant.up) in
+    let empty : vec_len c.self.inside.deletes ≡ 0 = eqb-true (vec_len c.self.inside.deletes) 0 (sym c.is_empty.ensures ∙ c.if-is_empty.true) in
+    let none : length deletes ≡ 0 = omega (arith, empty, c.self.inside.deletes.ok.0, length-map c.self.inside.deletes.items (λ d. d.now)) in
+    let all : List KeyValue = filter (is_row_in key end) (rows_at ws places) in
+    let over : List KeyValue = map (λ (row : Bor KeyValue). row.now) c.deref-then-needs_first.result.now in
+    let puts : over ≡ all = ap (map (λ (row : Bor KeyValue). row.now)) c.deref-then-needs_first.ensures.value ∙ (rw (c.writes.ensures, c.deref.ensures.value) at c.in_ok-puts.ensures.puts) in
+    let overlaid : AreOverlaid store ws places deletes c.self.invariant key end cs over = subst (AreOverlaid store ws places deletes c.self.invariant key end cs) (sym puts) (are_overlaid store ws places deletes c.self.invariant key end cs under none) in
+    let short : length (rows (is_in key end) store.kept.current store.kept.changes) ≤ 2 ^ 20 = rw changes at (c.use_few_rows.ensures (is_in key end) store.kept.current) in
+    record {
+      rows = rw records overlaid.there;
+      ascend = rw records overlaid.ascend;
+      few = omega (arith, overlaid.long, short);
+      own = overlaid.own;
+      tell = rw records overlaid.tell;
+      first = sym c.needs_first.ensures ∙ c.if-needs_first.true;
+      revision = c.current.ensures.short;
+    }
+
+pub returns-then-needs_first : goal.returns-then-needs_first
+returns-then-needs_first c =
+    let store = c.self.inside.store.now in
+    let ws = c.self.inside.plan in
+    let places = c.self.inside.puts.items in
+    let deletes = map (λ d. d.now) c.self.inside.deletes.items in
+    let key = c.as_slice-key.result.now in
+    let end = c.as_slice-range_end.result.now in
+    let cs = c.newest_cells-cells.result in
+    let records : c.store.inside.log.records ≡ store.records = ap (λ (s : StoreState). s.records) c.store.view_is in
+    let current : c.store.inside.current ≡ store.kept.current = ap (λ (s : StoreState). s.kept.current) c.store.view_is in
+    let changes : c.store.inside.log.changes ≡ store.kept.changes = ap (λ (s : StoreState). s.kept.changes) c.store.view_is in
+    let under : Under (row_at (cells store)) cs (rows (is_in key end) store.kept.current store.kept.changes) = rw (records, changes, current) at (c.newest_cells-cells.ensures c.store.inside.current c.store.invariant.up) in
+    let empty : vec_len c.self.inside.deletes ≡ 0 = eqb-true (vec_len c.self.inside.deletes) 0 (sym c.is_empty.ensures ∙ c.if-is_empty.true) in
+    let none : length deletes ≡ 0 = omega (arith, empty, c.self.inside.deletes.ok.0, length-map c.self.inside.deletes.items (λ d. d.now)) in
+    let all : List KeyValue = filter (is_row_in key end) (rows_at ws places) in
+    let over : List KeyValue = map (λ (row : Bor KeyValue). row.now) c.deref-then-needs_first.result.now in
+    let puts : over ≡ all = ap (map (λ (row : Bor KeyValue). row.now)) c.deref-then-needs_first.ensures.value ∙ (rw (c.writes.ensures, c.deref.ensures.value) at c.in_ok-puts.ensures.puts) in
+    let overlaid : AreOverlaid store ws places deletes c.self.invariant key end cs over = subst (AreOverlaid store ws places deletes c.self.invariant key end cs) (sym puts) (are_overlaid store ws places deletes c.self.invariant key end cs under none) in
+    let q = c.args.request.now in
+    let R = look store (changes_of store ws) in
+    let now : c.current.result ≡ R.current = rw (← c.self.view_is) at c.current.ensures.current in
+    let shown : List KeyValue = in_order by_key (overlay over (rows_of (cells store) cs)) in
+    let same : shown ≡ R.rows q.key q.range_end = overlaid.is_read ∙ ap (λ k. R.rows k end) c.as_slice-key.ensures ∙ ap (R.rows q.key) c.as_slice-range_end.ensures in
+    rw (← c.self.view_is)
+    (IfOk-weaker c.overlaid_reply.result (λ reply. reply ≡ range_reply c.current.result q shown) (λ reply. reply ≡ range_reply R.current q (R.rows q.key q.range_end))
+    (λ reply h. h ∙ ap (λ n. range_reply n q shown) now ∙ ap (range_reply R.current q) same)
+    (rw records at c.overlaid_reply.ensures.reply))
