@@ -26,5 +26,8 @@ pub mod PendingRows
 pub mod MixingPuts
 pub mod Overlaid
 pub mod PendingOverlaid
+pub mod LatestCells
+pub mod LatestRows
+pub mod LatestGiven
 pub mod PendingRanges
 pub mod Grown

@@ -7,6 +7,7 @@ mod cutting;
 mod growing;
 mod heads;
 mod keys;
+mod latest;
 mod log;
 mod mixing;
 mod overlaying;

@@ -15,6 +15,7 @@ ghost use Rattle.revision_store.specs.Recorded.{cells_of, leases_of, with_lease_
 ghost use Rattle.revision_store.specs.Logged.{empty_log, used_in};
 ghost use Rattle.revision_store.specs.Plans.{head_deletes};
 ghost use Rattle.revision_store.specs.Appending.{CanAppend, Appends};
+ghost use Rattle.revision_store.specs.Latest.{OwnRevision};
 ghost use Rattle.revision_store.specs.Stored.{RowsStay};
 
 use crate::cutting::cut;
@@ -224,6 +225,13 @@ impl Log {
         ensures own { AllByRecursion OwnRow self.now.changes }
         ensures space { self.now.free + record_cells self.now.changes + self.now.lease_cells
             ≡ 64 * self.now.share.reserved }
+    {
+        let _ = &self.recent;
+    }
+
+    /// Each row has the revision of the change that left it. Nothing is done: a caller knows it from here on.
+    pub(crate) fn use_own_revisions(&self)
+        ensures { AllByRecursion OwnRevision self.now.changes }
     {
         let _ = &self.recent;
     }

@@ -18,6 +18,7 @@ ghost use Rattle.revision_store.specs.Room.{most_room};
 ghost use Rattle.revision_store.specs.Stored.{reads, row_at};
 
 use crate::growing::Growing;
+use crate::latest::gives_last;
 use crate::log::Log;
 use crate::rows::{first_cells, keys_under, rows_under};
 use crate::store::Store;
@@ -66,6 +67,11 @@ impl Store {
         let revision = self.revision_read(request.revision);
         if revision == self.current() {
             let cells = self.log.newest_cells(key, range_end);
+            if gives_last(request) {
+                if let Some(reply) = self.last_reply(alloc, request, cells.len(), current)? {
+                    return Ok(reply);
+                }
+            }
             return walked_reply(alloc, &self.log, request, cells, current);
         }
         if request.count_only {

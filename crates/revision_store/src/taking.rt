@@ -47,7 +47,7 @@ pub(crate) fn first_rows(
 }
 
 /// The row under a cell, with its value where the range needs that.
-fn row_read(alloc: Global, log: &Log, request: &RangeReq, cell: CellNo) -> Mem<KeyValue>
+pub(crate) fn row_read(alloc: Global, log: &Log, request: &RangeReq, cell: CellNo) -> Mem<KeyValue>
     requires { IsSome (row_at (cells_of log.now.records) cell) }
     ensures { IfOk result
         (λ row. option_map (read request.now) (row_at (cells_of log.now.records) cell) ≡ Some row) }

@@ -14,6 +14,7 @@ use Rattle.revision_store.specs.Stored.{StoreState, reads, row_at}
 use Rattle.revision_store.specs.Ranging.{rows_of}
 use Rattle.range_rows.proofs.RangingAnswers.{answer_counted}
 use Rattle.range_rows.proofs.RangingCells.{all_show, filter_map-is}
+use Rattle.revision_store.proofs.PendingDeletes.{under_length}
 use Rattle.revision_store.proofs.RangingReads.{rows_live}
 use Rattle.revision_store.proofs.store.Store.range_at.Goals as goal
 
@@ -92,3 +93,16 @@ returns-then-revision-current-clause-reply c =
     IfOk-weaker c.walked_reply.result (λ reply. reply ≡ range_reply c.args.current q (rows_of cells cs)) (λ reply. reply ≡ op_reply (reads store) c.args.current (RangeOp q))
     (λ reply h. h ∙ ap (range_reply c.args.current q) read)
     c.walked_reply.ensures.reply
+
+-- ---- and the rows that changed last are given
+
+pub last_reply-requires-clause-count : goal.last_reply-requires-clause-count
+last_reply-requires-clause-count c =
+    let q = c.args.request.now in
+    let cells = cells_of c.self.inside.log.records in
+    let under = c.newest_cells-cells.ensures c.self.inside.current c.self.invariant.up in
+    let kept : rows (is_in c.as_slice-key.result.now c.as_slice-range_end.result.now) c.self.inside.current c.self.inside.log.changes ≡ rows (is_in q.key q.range_end) c.args.self.now.kept.current c.args.self.now.kept.changes =
+    ap (λ (s : StoreState). rows (is_in c.as_slice-key.result.now c.as_slice-range_end.result.now) s.kept.current s.kept.changes) c.self.view_is
+    ∙ ap (λ k. rows (is_in k c.as_slice-range_end.result.now) c.args.self.now.kept.current c.args.self.now.kept.changes) c.as_slice-key.ensures
+    ∙ ap (λ k. rows (is_in q.key k) c.args.self.now.kept.current c.args.self.now.kept.changes) c.as_slice-range_end.ensures in
+    c.len.ensures ∙ under_length (row_at cells) c.newest_cells-cells.result _ under ∙ ap length kept
