@@ -22,10 +22,15 @@ key_room key = QUOTES + bytes_room key
 abbrev pub lease_room : ℤ → ℕ
 lease_room id = LEASE
 
--- a row, and one that may be there
+-- a row
 abbrev pub row_room : KeyValue → ℕ
 row_room row = ROW + bytes_room row.key + bytes_room row.value
 
+-- a row, by the lengths of its key and its value
+abbrev pub lengths_room : ℕ → ℕ → ℕ
+lengths_room key value = ROW + encoded_size key true + encoded_size value true
+
+-- a row that may be there
 abbrev pub some_room : Option KeyValue → ℕ
 some_room (Some row) = row_room row
 some_room None = 0

@@ -2,6 +2,7 @@
 #![tactic(auto)]
 
 mod header;
+mod in_place;
 mod law;
 mod leases;
 mod list;
@@ -14,6 +15,7 @@ mod size;
 mod streams;
 mod text;
 
+pub use in_place::write_range;
 pub use law::answers_read_back;
 pub use refusal::{MEMORY_TEXT, memory_text};
 pub use replies::write_reply;

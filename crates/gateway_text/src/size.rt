@@ -2,12 +2,15 @@
 //!
 //! The sizes are upper estimates: each number counts as the longest there is, and each member
 //! counts even where it is left out.
-ghost use Rattle.std.specs.Prelude.{◌≡◌, ◌-◌, ◌^◌, ℕ, [], min, sum_by, vec_capacity, IfOk};
-ghost use Rattle.gateway_text.specs.Room.{body_room, bytes_room, event_room, key_room, lease_room, op_room, row_room};
-ghost use Rattle.gateway_text.specs.Room.{some_room};
+ghost use Rattle.std.specs.Prelude.{◌≡◌, ◌-◌, ◌^◌, ℕ, Bool, [], min, sum_by, true, vec_capacity, IfOk};
+ghost use Rattle.base64.specs.Rfc4648.{encoded_size};
+ghost use Rattle.etcd_types.specs.declared.reply.Header.{Header};
+ghost use Rattle.etcd_types.specs.declared.reply.Reply.TheVariants.{Range};
+ghost use Rattle.gateway_text.specs.Room.{body_room, bytes_room, event_room, key_room, lease_room};
+ghost use Rattle.gateway_text.specs.Room.{lengths_room, op_room, row_room, some_room};
 
 use base64::encoded_len;
-use etcd_types::{Event, KeyValue, List, Mem, OpReply, Reply};
+use etcd_types::{Event, KeyValue, List, Mem, OpReply, Reply, RowsInPlace};
 use std::alloc::Global;
 
 /// The longest reply with no rows and no lists.
@@ -40,6 +43,16 @@ pub(crate) fn empty_text(alloc: Global, reply: &Reply) -> Mem<Vec<u8>>
     Vec::with_capacity(alloc, body_size(reply))
 }
 
+/// A text with nothing in it, and with room for the answer to a range, which is that of its reply.
+/// No row is read.
+pub(crate) fn empty_range_text<S: RowsInPlace>(alloc: Global, rows: &S) -> Mem<Vec<u8>>
+    ensures none { IfOk result (λ out. out.items ≡ []) }
+    ensures room { (header : Header) → (count : ℕ) → (more : Bool) → IfOk result (λ out. vec_capacity out
+        ≡ min (body_room (Range header count (S.rows rows.now) more)) (2 ^ 64 - 1)) }
+{
+    Vec::with_capacity(alloc, REPLY.saturating_add(rows_size(rows)))
+}
+
 /// How many bytes the body of a reply has at most.
 fn body_size(reply: &Reply) -> usize
     ensures { result ≡ min (body_room reply.now) (2 ^ 64 - 1) }
@@ -68,6 +81,18 @@ fn list_size<T: TextSize>(items: &[T]) -> usize
     size
 }
 
+/// As `list_size`, of rows that are not read.
+fn rows_size<S: RowsInPlace>(rows: &S) -> usize
+    ensures { result ≡ min (sum_by row_room (S.rows rows.now)) (2 ^ 64 - 1) }
+{
+    let mut size = 0usize;
+    for place in 0..rows.len() {
+        let (key, value) = rows.lengths(place);
+        size = size.saturating_add(lengths_size(key, value));
+    }
+    size
+}
+
 fn row_size(row: &Option<KeyValue>) -> usize
     ensures { result ≡ min (some_room row.now) (2 ^ 64 - 1) }
 {
@@ -77,10 +102,24 @@ fn row_size(row: &Option<KeyValue>) -> usize
     }
 }
 
+/// A row's size, by the lengths of its key and its value.
+fn lengths_size(key: usize, value: usize) -> usize
+    ensures { result ≡ min (lengths_room key value) (2 ^ 64 - 1) }
+{
+    ROW.saturating_add(encoded_size_of(key))
+        .saturating_add(encoded_size_of(value))
+}
+
 fn base64_size(bytes: &[u8]) -> usize
     ensures { result ≡ min (bytes_room bytes.now) (2 ^ 64 - 1) }
 {
-    encoded_len(bytes.len(), true).unwrap_or(usize::MAX)
+    encoded_size_of(bytes.len())
+}
+
+fn encoded_size_of(length: usize) -> usize
+    ensures { result ≡ min (encoded_size length true) (2 ^ 64 - 1) }
+{
+    encoded_len(length, true).unwrap_or(usize::MAX)
 }
 
 impl TextSize for i64 {
@@ -103,8 +142,7 @@ impl TextSize for KeyValue {
     ghost room_of = { row_room };
 
     fn text_size(&self) -> usize {
-        ROW.saturating_add(base64_size(self.key.as_slice()))
-            .saturating_add(base64_size(self.value.as_slice()))
+        lengths_size(self.key.as_slice().len(), self.value.as_slice().len())
     }
 }
 
