@@ -1,4 +1,5 @@
 mod Writing
+mod InPlaceRows
 mod KeysRead
 mod Left
 pub mod RowsLeft
@@ -17,6 +18,7 @@ pub mod ComparingReads
 pub mod Costs
 pub mod Walked
 pub mod RangingReads
+pub mod GivenCells
 pub mod MixingCells
 pub mod PendingStores
 pub mod PendingReads

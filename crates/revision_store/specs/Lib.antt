@@ -8,6 +8,7 @@ pub mod Appending
 pub mod Pending
 pub mod Ranging
 pub mod Mixing
+pub mod InPlace
 pub mod Latest
 pub mod Comparing
 pub mod Merging

@@ -4,8 +4,10 @@
 mod changes;
 mod comparing;
 mod cutting;
+mod finding;
 mod growing;
 mod heads;
+mod in_place;
 mod keys;
 mod latest;
 mod log;
@@ -30,6 +32,8 @@ mod walking;
 mod weighing;
 
 pub use comparing::holds;
+pub use finding::FoundRange;
+pub use in_place::FoundRows;
 pub use keys::lies_in;
 pub use pending::Pending;
 pub use plan::Plan;

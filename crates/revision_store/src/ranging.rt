@@ -17,6 +17,7 @@ ghost use Rattle.revision_store.specs.Recorded.{cells_of};
 ghost use Rattle.revision_store.specs.Room.{most_room};
 ghost use Rattle.revision_store.specs.Stored.{reads, row_at};
 
+use crate::finding::walked_cells;
 use crate::growing::Growing;
 use crate::latest::gives_last;
 use crate::log::Log;
@@ -180,11 +181,10 @@ fn first_reply(
         (λ reply. reply
         ≡ range_reply revision request.now (rows_of (cells_of log.now.records) cells.entry)) }
 {
-    let count = cells.len();
-    let more = is_cut(request, count);
-    let first = first_cells(alloc, cells, limit_of(request, count))?;
-    let kvs = rows_given(alloc, log, request, first)?;
-    Ok(reply_of(revision, count as u64, kvs, more))
+    let found = walked_cells(alloc, log, request, cells)?;
+    let rows = rows_read(alloc, log, request, &found.cells)?;
+    let kvs = shown(alloc, request, rows);
+    Ok(reply_of(revision, found.count, kvs, found.more))
 }
 
 /// The answer of a range.
