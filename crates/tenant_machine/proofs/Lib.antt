@@ -5,6 +5,7 @@ pub mod DecidingSpace
 pub mod DecidingTxns
 pub mod EarlyRefusals
 pub mod Holding
+mod FindingRows
 mod KeysFew
 mod KeysFollow
 mod KeepingLeases

@@ -7,6 +7,7 @@
 mod attaching;
 mod deciding;
 mod ending;
+mod finding;
 mod leasing;
 mod machine;
 mod maintenance;
@@ -16,6 +17,8 @@ mod reserving;
 mod watching;
 mod weighing;
 
+pub use finding::FoundAnswer;
 pub use machine::{Machine, segments_for};
 pub use planned::Planned;
+pub use revision_store::FoundRows;
 pub use watch_sync::Hint;
