@@ -6,7 +6,9 @@ use Rattle.std.specs.Str.{bytes_eq}
 use Rattle.std.specs.Cmp.Lexicographic.{bytes_decides}
 use Rattle.std.proofs.lemmas.Bool.{true≢false}
 use Rattle.etcd_types.specs.declared.step.Step.{Step}
-use Rattle.etcd_types.specs.declared.step.Step.TheVariants.{DropWatch, Tick, CatchUp}
+use Rattle.etcd_types.specs.declared.kv.RangeReq.{RangeReq}
+use Rattle.etcd_types.specs.declared.reply.Reply.{Reply}
+use Rattle.etcd_types.specs.declared.step.Step.TheVariants.{DropWatch, Range, Tick, CatchUp}
 use Rattle.etcd_types.specs.declared.refusal.Refusal.{Refusal}
 use Rattle.etcd_types.specs.declared.refusal.Refusal.TheVariants.{Memory, NoTenant}
 use Rattle.etcd_types.specs.declared.reply.Reply.TheVariants.{Refused}
@@ -22,6 +24,7 @@ use Rattle.etcd_model.specs.Tenant.{Outcome}
 use Rattle.etcd_model.proofs.QuietSteps.{catch_up_is_done, drop_is_done, tick_is_done}
 use Rattle.tenant_machine.specs.Tenants.{tenant}
 use Rattle.tenant_machine.specs.Plans.{Plan, takes_memory}
+use Rattle.tenant_machine.specs.declared.planned.Effect.TheVariants.{Nothing}
 use Rattle.steps_core.specs.Hosts.{HostState, HoldsAt, IsSureAt, PlansAt, CommitsAt, machine_at, has_tenant}
 use Rattle.steps_core.specs.Hosts.{unplanned}
 use Rattle.steps_core.proofs.Runs.{sure_at}
@@ -141,6 +144,34 @@ step_untold h t step p a at unfixed is = record {
   where
     unanswered : is_unanswered a ≡ true
     unanswered = ap is_unanswered is
+
+-- a range for which, or for whose text, there is no memory
+pub range_untold : (h : HostState) (t : List ℕ) (q : RangeReq) (a : Answer) → a ≡ memory_answer → Answers h (Stepped t (Range q)) a h
+range_untold h t q a is = record {
+  own = λ u S mine answered held. absurd (true≢false (sym unanswered ∙ answered));
+  none = λ apart. (refl, λ answered. absurd (true≢false (sym unanswered ∙ answered)));
+  memory = λ unanswered. (refl, is);
+  sure = λ u S mine takes held. absurd (true≢false (sym takes));
+  others = λ u apart. refl;
+  same = record { names = refl; reserved = refl; segments = refl };
+}
+  where
+    unanswered : is_unanswered a ≡ true
+    unanswered = ap is_unanswered is
+
+-- a plan that changes nothing leaves the host as it is
+commits_nothing : (h : HostState) (t : List ℕ) (reply : Reply) → CommitsAt h t (record { effect = Nothing; reply = reply }) h
+commits_nothing h t reply = record {
+  own = λ m at. (m, at, refl);
+  others = record {
+    machines = λ u differ. refl;
+    same = record { names = refl; reserved = refl; segments = refl };
+  };
+}
+
+-- a range whose plan would be this one
+pub range_made : (h : HostState) (t : List ℕ) (q : RangeReq) (reply : Reply) (a : Answer) → PlansAt h t (Range q) (record { effect = Nothing; reply = reply }) → a ≡ text reply → Answers h (Stepped t (Range q)) a h
+range_made h t q reply a at is = step_made h h t (Range q) _ a at (commits_nothing h t reply) is
 
 -- a step that has no plan
 pub step_unplanned : (h : HostState) (t : List ℕ) (step : Step) (r : Refusal) (a : Answer) → r ≡ unplanned h t

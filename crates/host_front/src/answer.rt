@@ -3,11 +3,13 @@ ghost use Rattle.std.specs.Prelude.{◌≡◌, IfOk, IsOk, true};
 ghost use Rattle.etcd_model.specs.ReplyText.{memory_answer, text};
 ghost use Rattle.host_front.specs.Answering.{has_fixed_text, Refuses};
 ghost use Rattle.host_front.specs.Bodies.{body_bytes};
+ghost use Rattle.tenant_machine.specs.Finding.{found_reply};
 
 use etcd_types::{Mem, Refusal, Reply};
-use gateway_text::{memory_text, write_reply};
+use gateway_text::{memory_text, write_range, write_reply};
 use std::alloc::Global;
 use std::marker::Model;
+use tenant_machine::FoundAnswer;
 
 /// A body's bytes.
 #[derive(Drop)]
@@ -62,6 +64,23 @@ impl Answer {
                 })
             }
         }
+    }
+
+    /// The text of a range's answer whose rows lie in their cells. It fails only for want of memory.
+    pub(crate) fn of_found(alloc: Global, found: &FoundAnswer<'_>) -> Mem<Answer>
+        ensures { IfOk result (λ answer. answer ≡ text (found_reply found.now)) }
+    {
+        let (status, body) = write_range(
+            alloc,
+            &found.header,
+            found.count,
+            &found.rows,
+            found.more,
+        )?;
+        Ok(Answer {
+            status,
+            body: Body::Made(body),
+        })
     }
 
     /// A refusal, or want of memory for its text.

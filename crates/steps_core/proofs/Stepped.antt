@@ -1,11 +1,16 @@
 -- A plan that is committed is a step of the tenant.
 use Rattle.std.proofs.Common.{◌≡◌, ◌≢◌, ◌∙◌, sym, ap, subst, refl, ℕ, List, Option, is_some, true, false, true≢false}
-use Rattle.std.specs.Prelude.{if◌then◌else◌}
+use Rattle.std.specs.Prelude.{if◌then◌else◌, IfOk, IfSome, Result, Ok, Err, Some, None}
+use Rattle.std.specs.declared.alloc.AllocError.{AllocError}
+use Rattle.etcd_types.specs.declared.kv.RangeReq.{RangeReq}
 use Rattle.etcd_types.specs.declared.step.Step.{Step}
 use Rattle.etcd_types.specs.declared.reply.Reply.{Reply}
 use Rattle.etcd_types.specs.declared.reply.Reply.TheVariants.{Refused}
 use Rattle.etcd_types.specs.declared.refusal.Refusal.{Refusal}
 use Rattle.etcd_types.specs.declared.refusal.Refusal.TheVariants.{NoTenant, Memory}
+use Rattle.etcd_types.specs.declared.step.Step.TheVariants.{Range}
+use Rattle.tenant_machine.specs.Finding.{found_plan}
+use Rattle.tenant_machine.specs.declared.finding.FoundAnswer.{FoundAnswer}
 use Rattle.tenant_machine.specs.Tenants.{MachineState}
 use Rattle.tenant_machine.specs.Plans.{Plan, Plans, IsAfter, Steps}
 use Rattle.steps_core.specs.Hosts.{HostState, machine_at, unplanned, IsSureAt, PlansAt, CommitsAt, StepsAt}
@@ -54,3 +59,10 @@ refused_at h t step r err sure = record {
   sure = λ at. absurd (true≢false (sym (sure at)));
   others = record { machines = λ u differ. refl; same = record { names = refl; reserved = refl; segments = refl } };
 }
+
+-- what a machine finds is what its host has planned
+pub found_at : (h : HostState) (name : List ℕ) (q : RangeReq) (m : MachineState) → machine_at h name ≡ Some m → (told : Result (Option FoundAnswer) AllocError)
+    → IfOk told (λ found. IfSome found (λ answer. Plans m (Range q) (found_plan answer))) → IfOk told (λ found. IfSome found (λ answer. PlansAt h name (Range q) (found_plan answer)))
+found_at h name q m is (Ok (Some answer)) plans = record { fits = record { machine = m; is = is; fits = tt }; plans = plans }
+found_at h name q m is (Ok None) plans = plans
+found_at h name q m is (Err e) plans = plans

@@ -1,17 +1,19 @@
 //! All tenants, by name, over one pool.
-ghost use Rattle.std.specs.Prelude.{◌≡◌, ◌≤◌, IfOk, IfErr, IsOk, OnErr, length, vec_len, []};
+ghost use Rattle.std.specs.Prelude.{◌≡◌, ◌≤◌, IfOk, IfErr, IfSome, IsOk, OnErr, length, vec_len, []};
+ghost use Rattle.etcd_types.specs.declared.step.Step.TheVariants.{Range};
+ghost use Rattle.tenant_machine.specs.Finding.{found_plan};
 ghost use Rattle.steps_core.specs.Hosts.{has_tenant, unplanned, IsSureAt};
 ghost use Rattle.steps_core.specs.Hosts.{FitsAt, PlansAt, CommitsAt, StepsAt};
 ghost use Rattle.steps_core.specs.Isolation.{step_turns, IsIsolated};
 
 use crate::tenant::{Tenant, serve};
 use etcd_types::limits::MAX_SEGMENTS;
-use etcd_types::{Mem, Refusal, Reply, Step};
+use etcd_types::{Mem, RangeReq, Refusal, Reply, Step};
 use indexmap::IndexMap;
 use segment_pool::{Desk, Pool, Ticket};
 use std::alloc::Global;
 use std::marker::Model;
-use tenant_machine::Planned;
+use tenant_machine::{FoundAnswer, Planned};
 
 /// Many tenants over one pool of segments.
 #[derive(Drop)]
@@ -70,6 +72,23 @@ impl Host {
             },
             None => Err(Refusal::NoTenant),
         }
+    }
+
+    /// A tenant's answer to a range whose rows lie in their cells; none if the range is planned as any other step is, or no
+    /// such tenant is there. An error is want of memory.
+    pub fn find_rows(
+        &self,
+        alloc: Global,
+        tenant: &[u8],
+        request: &RangeReq,
+    ) -> Mem<Option<FoundAnswer<'_>>>
+        ensures { IfOk result (λ found. IfSome found
+            (λ answer. PlansAt self.now tenant.now (Range request.now) (found_plan answer))) }
+    {
+        let Some(found) = self.tenants.get(tenant) else {
+            return Ok(None);
+        };
+        found.machine.find_rows(alloc, request)
     }
 
     /// Makes what was planned for a tenant, of the host as it was then. It takes no memory and cannot

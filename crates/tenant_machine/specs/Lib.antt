@@ -3,3 +3,4 @@ pub mod Tenants
 pub mod Plans
 pub mod Deciding
 pub mod Reserving
+pub mod Finding

@@ -1,9 +1,8 @@
 //! Ranges whose rows are found, and not made.
 ghost use Rattle.std.specs.Prelude.{IfOk, IfSome};
-ghost use Rattle.etcd_types.specs.declared.reply.Reply.TheVariants.{Range as RangeReply};
 ghost use Rattle.etcd_types.specs.declared.step.Step.TheVariants.{Range};
+ghost use Rattle.tenant_machine.specs.Finding.{found_plan};
 ghost use Rattle.tenant_machine.specs.Plans.{Plans};
-ghost use Rattle.tenant_machine.specs.declared.planned.Effect.TheVariants.{Nothing};
 
 use crate::machine::Machine;
 use etcd_types::{Header, Mem, RangeReq};
@@ -26,11 +25,7 @@ impl Machine {
     /// counts or that has another order is `None`, which takes no memory: `plan` answers it.
     pub fn find_rows(&self, alloc: Global, request: &RangeReq) -> Mem<Option<FoundAnswer<'_>>>
         ensures { IfOk result
-            (λ found. IfSome found (λ answer. Plans self.now (Range request.now)
-            (record {
-              effect = Nothing;
-              reply = RangeReply answer.header answer.count answer.rows answer.more;
-            }))) }
+            (λ found. IfSome found (λ answer. Plans self.now (Range request.now) (found_plan answer))) }
     {
         if request.key.as_slice().is_empty() {
             return Ok(None);

@@ -2,7 +2,7 @@ use Rattle.std.proofs.Common.{◌∙◌, ap}
 use Rattle.etcd_model.specs.ReplyText.{text}
 use Rattle.host_front.specs.Answering.{has_fixed_text}
 use Rattle.host_front.proofs.Answered.{step_made, step_unplanned, step_untold}
-use Rattle.host_front.proofs.front.Front.step.Goals as goal
+use Rattle.host_front.proofs.front.Front.plan_step.Goals as goal
 
 pub returns : goal.returns
 returns c =
