@@ -1,12 +1,13 @@
 -- What lies under a lock stays so over a step.
 use Rattle.std.specs.Prelude.{◌≢◌, ℤ, pos, negsuc, ◌≤ℤ◌, Result, Ok, Err, IfOk, OnOk, is_err}
 use Rattle.std.specs.List.{AllByRecursion}
+use Rattle.std.specs.declared.alloc.AllocError.{AllocError}
 use Rattle.std.proofs.Common.{◌≡◌, ◌∙◌, ◌==◌, ◌+◌, ◌*◌, ◌/◌, ◌<◌, ◌≤◌, sym, ap, subst, refl, ℕ, Bool, true, false, cond, nat_lt, length, List, [], ◌∷◌, ◌++◌, Option, Some, None, Vec, append_assoc, max, arith}
 use Rattle.std.proofs.lemmas.Bool.Decides.{nat_tests}
 use Rattle.std.proofs.lemmas.Int.{ints}
 use Rattle.std.proofs.lemmas.List.{append-nil, map-append, length-append}
 use Rattle.std.specs.List.Sorted.{IsPermutation}
-use Rattle.std.proofs.lemmas.List.Sorted.{IsPermutation-append_comm, IsPermutation-append_left, IsPermutation-append_right, IsPermutation-trans}
+use Rattle.std.proofs.lemmas.List.Sorted.{IsPermutation-append_comm, IsPermutation-append_left, IsPermutation-append_right, IsPermutation-refl, IsPermutation-trans}
 use Rattle.cell_arena.specs.Loan.{Loan, Share, IsLent, Settles, returned, segments_for, undrawn}
 use Rattle.cell_arena.specs.Segments.{numbers_of}
 use Rattle.cell_arena.specs.declared.segments.Segment.{Segment}
@@ -24,6 +25,7 @@ use Rattle.tenant_machine.specs.Reserving.{resized}
 use Rattle.tenant_machine.specs.Tenants.{MachineState, tenant}
 use Rattle.tenant_machine.specs.Reserving.{reservation, roomier, with_quota}
 use Rattle.tenant_machine.specs.Plans.{Plan, Plans, IsAfter, Steps}
+use Rattle.tenant_machine.specs.declared.planned.Effect.TheVariants.{Nothing}
 use Rattle.tenant_audit.specs.declared.audit.Entry.{Entry}
 use Rattle.tenant_audit.specs.declared.audit.Opening.{Opening}
 use Rattle.tenant_registry.specs.declared.kept.Served.{Served}
@@ -214,6 +216,30 @@ serves old m n a b left rest seat step p reply told turn served view kept plans 
       segments = settles.numbers;
     } in
     subst (λ (o : Content). Serves o seat step served (record { machine = n; audit = b; left = rest })) view there
+
+-- where nothing moved, all is settled
+nothing_moved : (m : Share) (from : Loan) → Settles m from m from
+nothing_moved m from = record {
+  rooms = refl;
+  reserved = refl;
+  left = refl;
+  room = refl;
+  numbers = IsPermutation-refl (from.numbers ++ m.numbers);
+  others = refl;
+}
+
+-- a range whose plan would be this one and changes nothing, once the audit is full
+pub serves_found : (old : Content) (m : MachineState) (a : Log) (left : StockState) (seat number : ℕ) (step : Step) (reply : Reply) (told : Result Served AllocError)
+    → record { machine = m; audit = a; left = left } ≡ old → IsKept m a left → Plans old.machine step (record { effect = Nothing; reply = reply }) → turn_of old.audit ≡ None → number ≡ a.opening.number
+    → IfOk told (λ served. served.receipt ≡ slip_of number seat None step reply) → IfOk told (λ served. served.mine ≡ None) → IfOk told (λ served. Serves old seat step served old)
+serves_found old m a left seat number step reply (Ok served) view kept plans full same receipt mine =
+    let planned : Plans m step (record { effect = Nothing; reply = reply }) = subst (λ (o : Content). Plans o.machine step (record { effect = Nothing; reply = reply })) (sym view) plans in
+    let shut : turn_of a ≡ None = subst (λ (o : Content). turn_of o.audit ≡ None) (sym view) full in
+    let slip = receipt ∙ ap (λ n. slip_of n seat None step reply) same in
+    subst (λ (o : Content). Serves old seat step served o) view
+    (serves old m m a a left left seat step (record { effect = Nothing; reply = reply }) reply reply None served view kept planned refl refl (sym shut) refl slip mine
+    (ap (λ t. with_entry_at t a (entry seat step reply)) (sym shut)) (nothing_moved m.store.share (loan_of left)))
+serves_found old m a left seat number step reply (Err e) view kept plans full same receipt mine = mine
 
 -- what a step under the lock is to its caller
 pub is_served : {E : Type 0} (old new : Option Content) (opening : Opening) (seat : ℕ) (step : Step) (r : Result Served E) → IfOk r (λ served. ServesThere old opening seat step served new) → IfOk r (λ served. IsServed opening seat step served)

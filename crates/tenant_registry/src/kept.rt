@@ -10,9 +10,11 @@ ghost use Rattle.cell_arena.specs.Loan.{segments_for};
 ghost use Rattle.etcd_model.specs.Held.{Holds};
 ghost use Rattle.etcd_types.specs.Limits.{max_quota};
 ghost use Rattle.tenant_machine.specs.Reserving.{reservation};
+ghost use Rattle.tenant_machine.specs.Finding.{found_plan, found_reply};
+ghost use Rattle.tenant_machine.specs.Plans.{Plans};
 ghost use Rattle.tenant_machine.specs.Tenants.{IsHintOf, tenant};
 ghost use Rattle.tenant_rules.specs.declared.fault.OperatorFault.TheVariants.{Short};
-ghost use Rattle.tenant_audit.specs.Audits.{IsAllowed, IsLawful, entry_at, opened_log, opening_of};
+ghost use Rattle.tenant_audit.specs.Audits.{IsAllowed, IsLawful, entry_at, opened_log, opening_of, turn_of};
 ghost use Rattle.tenant_audit.specs.Receipts.{slip_of};
 ghost use Rattle.tenant_registry.specs.Keeping.{segments_of};
 ghost use Rattle.tenant_registry.specs.Removing.{GivesBack};
@@ -25,14 +27,14 @@ use crate::replies::{is_cancel, refusal_of, slot_of, told_revision};
 use crate::usage::Usage;
 pub use ended::Ended;
 use etcd_types::{Mem, Refusal, Reply, Step};
-use gateway_text::write_reply;
+use gateway_text::{write_range, write_reply};
 use prepared::prepared;
 pub use resized::Resized;
 use segment_pool::Stock;
 use std::alloc::{AllocError, Global};
 use std::marker::Model;
 use tenant_audit::{Audit, Entry, Opening, Seat};
-use tenant_machine::{Hint, Machine, segments_for};
+use tenant_machine::{FoundAnswer, Hint, Machine, segments_for};
 use tenant_rules::OperatorFault;
 
 /// What a call was answered. Only `Kept::serve` makes one.
@@ -188,6 +190,37 @@ impl Receipt {
     }
 }
 
+impl Receipt {
+    /// That of a range whose rows lie in their cells, with its text. It has no turn.
+    fn of_found(
+        alloc: Global,
+        number: u64,
+        seat: u8,
+        step: Step,
+        found: &FoundAnswer<'_>,
+    ) -> Mem<Receipt>
+        ensures { IfOk result
+            (λ receipt. receipt ≡ slip_of number seat None step (found_reply found.now)) }
+    {
+        let told = write_range(alloc, &found.header, found.count, &found.rows, found.more);
+        let Ok((status, body)) = told else {
+            drop(step);
+            return Err(AllocError);
+        };
+        Ok(Receipt {
+            number,
+            seat,
+            turn: None,
+            step,
+            status,
+            body,
+            slot: None,
+            canceled: false,
+            refusal: None,
+        })
+    }
+}
+
 /// A step that was served. It can't be let go, so that no step is served which no seat keeps.
 pub struct Served {
     receipt: Receipt,
@@ -211,6 +244,25 @@ impl Served {
         let receipt = Receipt::of(alloc, number, seat, turn, step, reply)?;
         let mine = Entry::copy_at(alloc, turn, seat, &receipt.step, reply)?;
         Ok(Served { receipt, mine })
+    }
+
+    /// What a seat's call is given of a range, of which no entry is kept.
+    fn of_found(
+        alloc: Global,
+        number: u64,
+        seat: u8,
+        step: Step,
+        found: &FoundAnswer<'_>,
+    ) -> Mem<Served>
+        ensures receipt { IfOk result
+            (λ served. served.receipt ≡ slip_of number seat None step (found_reply found.now)) }
+        ensures mine { IfOk result (λ served. served.mine ≡ None) }
+    {
+        let receipt = Receipt::of_found(alloc, number, seat, step, found)?;
+        Ok(Served {
+            receipt,
+            mine: None,
+        })
     }
 
     /// What the caller is answered.
@@ -348,6 +400,21 @@ impl Kept {
         ensures ok { IfOk result (λ served. Serves self.old seat step served self.new) }
         ensures err { OnErr result (self.new ≡ self.old) }
     {
+        let Ok(found) = self.find(&step) else {
+            drop(step);
+            return Err(AllocError);
+        };
+        if let Some(answer) = found {
+            return Served::of_found(self.alloc, self.audit.number(), seat, step, &answer);
+        }
+        self.serve_planned(seat, step)
+    }
+
+    /// The same of a step that is planned, and then committed.
+    fn serve_planned(&mut self, seat: u8, step: Step) -> Mem<Served>
+        ensures ok { IfOk result (λ served. Serves self.old seat step served self.new) }
+        ensures err { OnErr result (self.new ≡ self.old) }
+    {
         let Ok(planned) = self.machine.plan(self.alloc, &step) else {
             drop(step);
             return Err(AllocError);
@@ -361,6 +428,21 @@ impl Kept {
         let reply = self.machine.commit(&mut self.left, planned);
         self.audit.keep(seat, kept, reply);
         Ok(served)
+    }
+
+    /// A range's answer whose rows lie in their cells, where no entry is kept of the step; none if it is planned as any other
+    /// step is.
+    fn find(&self, step: &Step) -> Mem<Option<FoundAnswer<'_>>>
+        ensures found { IfOk result (λ found. IfSome found
+            (λ answer. Plans self.now.machine step.now (found_plan answer))) }
+        ensures full { IfOk result (λ found. IfSome found (λ _. turn_of self.now.audit ≡ None)) }
+    {
+        match step {
+            Step::Range(request) if self.audit.next_turn().is_none() => {
+                self.machine.find_rows(self.alloc, request)
+            }
+            _ => Ok(None),
+        }
     }
 
     /// Its current revision.

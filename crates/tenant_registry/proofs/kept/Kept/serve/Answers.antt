@@ -1,16 +1,14 @@
-use Rattle.std.proofs.Common.{◌∙◌, sym, refl}
-use Rattle.tenant_registry.proofs.KeptLemmas.{kept_step, serves}
+use Rattle.std.proofs.Common.{◌≡◌, IfSome, None, subst}
+use Rattle.tenant_machine.specs.Finding.{found_plan, found_reply}
+use Rattle.tenant_machine.specs.Plans.{Plans}
+use Rattle.tenant_audit.specs.Audits.{turn_of}
+use Rattle.tenant_registry.proofs.KeptLemmas.{serves_found}
 use Rattle.tenant_registry.proofs.kept.Kept.serve.Goals as goal
 
-pub invariant_of-self : goal.invariant_of-self
-invariant_of-self c = record {
-  kept = kept_step c.self.inside.machine c.commit-reply.new.self c.self.inside.audit c.keep.new.self c.self.inside.left c.commit-reply.new.segments c.args.seat c.args.step c.in-Ok.planned c.commit-reply.result
-      c.self.invariant.kept c.in-Ok.ensures.plans c.commit-reply.ensures.after c.commit-reply.ensures.reply c.commit-reply.ensures.settles (c.keep.ensures c.args.step c.in-Ok-prepared.ensures.kept);
-  reserved = c.self.invariant.reserved ∙ sym c.commit-reply.ensures.settles.reserved;
-}
-
-pub returns-clause-ok : goal.returns-clause-ok
-returns-clause-ok c =
-    serves c.args.self.now c.self.inside.machine c.commit-reply.new.self c.self.inside.audit c.keep.new.self c.self.inside.left c.commit-reply.new.segments c.args.seat c.args.step c.in-Ok.planned
-    c.commit-reply.result c.reply-told.result.now _ _ c.self.view_is c.self.invariant.kept c.in-Ok.ensures.plans c.commit-reply.ensures.after c.commit-reply.ensures.reply refl c.reply-told.ensures
-    c.in-Ok-prepared.ensures.receipt c.in-Ok-prepared.ensures.mine (c.keep.ensures c.args.step c.in-Ok-prepared.ensures.kept) c.commit-reply.ensures.settles
+pub returns-in-Some-clause-ok : goal.returns-in-Some-clause-ok
+returns-in-Some-clause-ok c =
+    let old = c.args.self.now in
+    let plans = subst (λ found. IfSome found (λ answer. Plans old.machine c.args.step (found_plan answer))) c.in-Some.is c.in-Ok.ensures.found in
+    let full = subst (λ found. IfSome found (λ _. turn_of old.audit ≡ None)) c.in-Some.is c.in-Ok.ensures.full in
+    serves_found old c.self.inside.machine c.self.inside.audit c.self.inside.left c.args.seat c.number.result c.args.step (found_reply c.in-Some.answer) c.of_found.result c.self.view_is c.self.invariant.kept
+    plans full c.number.ensures c.of_found.ensures.receipt c.of_found.ensures.mine
