@@ -1,9 +1,6 @@
 -- Adding a tenant keeps what holds of the host.
-use Rattle.std.proofs.Common.{◌≡◌, ◌∙◌, sym, ap, subst, refl, ℕ, ◌+◌, ◌<◌, ◌≤◌, Bool, true, false, not, ◌&&◌, ◌||◌, ◌^◌, cond, List, [], ◌∷◌, ◌++◌, Option, None, Some, is_some, Vec, map, nat_eq, nat_le, nat_lt, sum_by, length, set, get_or, slice_get, true≢false, arith}
-use Rattle.std.specs.Str.{bytes_eq}
-use Rattle.std.specs.Map.{lookup, values_of}
-use Rattle.indexmap.specs.IndexMap.{insert_entry}
-use Rattle.indexmap.proofs.MapLemmas.{absent_from_lookup, insert_entry-absent}
+use Rattle.std.proofs.Common.{◌≡◌, ◌∙◌, sym, ap, subst, refl, ℕ, ◌+◌, ◌<◌, ◌≤◌, Bool, true, false, not, ◌&&◌, ◌||◌, ◌^◌, List, [], ◌∷◌, ◌++◌, None, Some, Vec, map, nat_eq, nat_le, nat_lt, sum_by, length, set, get_or, slice_get, true≢false, arith}
+use Rattle.std.specs.Map.{values_of}
 use Rattle.std.specs.List.{AllByRecursion, IsDistinct}
 use Rattle.std.proofs.lemmas.Bool.{ne_eqb, leb-true}
 use Rattle.std.proofs.lemmas.Bool.Decides.{nat_tests}
@@ -21,7 +18,7 @@ use Rattle.steps_core.specs.Hosts.{HostState, machine_at, reserved_segments}
 use Rattle.steps_core.specs.Sound.{Agrees, IsIdle, IsHost, host_of, ticket_number, drawn_by, reserved_by}
 use Rattle.tenant_rules.specs.Rules.{first_fault, within_limits}
 use Rattle.steps_core.specs.Adding.{Adds}
-use Rattle.etcd_model.proofs.NamedLaws.{test, lookup_last, lookup_others}
+use Rattle.etcd_model.proofs.NamedLaws.{lookup_last, lookup_others}
 use Rattle.steps_core.proofs.Served.{reserved_shown}
 use Rattle.steps_core.proofs.Lists.{all-push, values_push, sum_push, distinct_push, held_apart, held_still}
 

@@ -1,15 +1,12 @@
 -- The end of a tenant keeps what holds of the host.
-use Rattle.std.proofs.Common.{◌≡◌, ◌≢◌, ◌∙◌, sym, ap, subst, refl, ℕ, ◌+◌, Bool, true, false, not, cond, List, [], ◌∷◌, Option, None, Some, Vec, map, nat_eq, set, slice_get, sum_by, arith}
-use Rattle.std.specs.Prelude.{if◌then◌else◌}
+use Rattle.std.proofs.Common.{◌≡◌, ◌≢◌, ◌∙◌, sym, ap, subst, refl, ℕ, ◌+◌, Bool, true, false, cond, List, [], ◌∷◌, Option, None, Some, Vec, map, nat_eq, set, slice_get, sum_by, arith}
 use Rattle.std.specs.Str.{bytes_eq}
 use Rattle.std.specs.Option.{option_map, unwrap_or}
 use Rattle.std.specs.Map.{lookup, remove_entry, values_of}
 use Rattle.std.specs.List.{AllByRecursion, IsDistinct}
 use Rattle.std.proofs.lemmas.Map.Entries.{sum_by-remove_entry}
 use Rattle.segment_pool.specs.declared.desk.Desk.{Desk}
-use Rattle.tenant_machine.specs.Tenants.{MachineState}
 use Rattle.steps_core.specs.declared.tenant.Tenant.{Tenant}
-use Rattle.tenant_rules.specs.declared.fault.OperatorFault.TheVariants.{Name, NoTenant}
 use Rattle.steps_core.specs.Hosts.{HostState, machine_at, reserved_segments}
 use Rattle.steps_core.specs.Sound.{Agrees, IsHost, LeavesNone, host_of, ticket_number, drawn_by, reserved_by}
 use Rattle.steps_core.specs.Reserving.{reserved_at}

@@ -7,13 +7,11 @@ use Rattle.std.specs.List.{AllByRecursion, IsDistinct}
 use Rattle.std.proofs.lemmas.Bool.{leb-true}
 use Rattle.std.proofs.lemmas.Bool.Decides.{nat_tests}
 use Rattle.std.proofs.lemmas.Map.Entries.{sum_by-set_value}
-use Rattle.cell_arena.specs.Loan.{segments_for}
 use Rattle.etcd_model.specs.Pool.{PoolState, IsHeld}
 use Rattle.segment_pool.specs.declared.desk.Desk.{Desk}
 use Rattle.tenant_machine.specs.Tenants.{MachineState}
 use Rattle.tenant_machine.specs.Reserving.{reservation}
 use Rattle.steps_core.specs.declared.tenant.Tenant.{Tenant}
-use Rattle.tenant_rules.specs.declared.fault.OperatorFault.{OperatorFault}
 use Rattle.tenant_rules.specs.declared.fault.OperatorFault.TheVariants.{Name, Limits, NoTenant, Short}
 use Rattle.steps_core.specs.Hosts.{HostState, machine_at, names_of, reserved_segments}
 use Rattle.steps_core.specs.Sound.{Agrees, IsIdle, IsHost, CanReserve, Reserves, host_of, ticket_number, drawn_by, reserved_by}

@@ -1,6 +1,6 @@
 -- What a machine tells of its use is that of the state that it holds.
 use Rattle.std.specs.Prelude.{◌&&◌, nat_lt, ◌/◌, pos, if◌then◌else◌}
-use Rattle.std.proofs.Common.{◌≡◌, ◌∙◌, ◌*◌, ap, subst, refl, ℕ, Bool, true, false, [], ◌∷◌, length, map, Option, Some, None, arith}
+use Rattle.std.proofs.Common.{◌≡◌, ◌∙◌, ◌*◌, ap, subst, refl, ℕ, Bool, true, false, [], ◌∷◌, length, Option, Some, None, arith}
 use Rattle.std.specs.Prelude.{Result, Ok, Err, IfOk}
 use Rattle.std.specs.declared.alloc.AllocError.{AllocError}
 use Rattle.std.proofs.lemmas.Bool.{le-ltb}

@@ -1,6 +1,8 @@
 //! What lies under a tenant's lock, how a step is served there, and another quota.
 mod ended;
+mod found;
 mod prepared;
+mod reading;
 mod resized;
 
 ghost use Rattle.std.specs.Prelude.{◌≡◌, ◌+◌, ◌++◌, ◌≤◌, true, false, None, IfErr, IfOk, IfSome, IsOk, OnOk, OnErr};
@@ -10,31 +12,27 @@ ghost use Rattle.cell_arena.specs.Loan.{segments_for};
 ghost use Rattle.etcd_model.specs.Held.{Holds};
 ghost use Rattle.etcd_types.specs.Limits.{max_quota};
 ghost use Rattle.tenant_machine.specs.Reserving.{reservation};
-ghost use Rattle.tenant_machine.specs.Finding.{found_plan, found_reply};
-ghost use Rattle.tenant_machine.specs.Plans.{Plans};
-ghost use Rattle.tenant_machine.specs.Tenants.{IsHintOf, tenant};
+ghost use Rattle.tenant_machine.specs.Tenants.{tenant};
 ghost use Rattle.tenant_rules.specs.declared.fault.OperatorFault.TheVariants.{Short};
-ghost use Rattle.tenant_audit.specs.Audits.{IsAllowed, IsLawful, entry_at, opened_log, opening_of, turn_of};
+ghost use Rattle.tenant_audit.specs.Audits.{IsAllowed, IsLawful, entry_at, opened_log, opening_of};
 ghost use Rattle.tenant_audit.specs.Receipts.{slip_of};
 ghost use Rattle.tenant_registry.specs.Keeping.{segments_of};
 ghost use Rattle.tenant_registry.specs.Removing.{GivesBack};
 ghost use Rattle.tenant_registry.specs.Resizing.{HoldsSame, Resizes, Stays, lacks_segments, unresized};
 ghost use Rattle.tenant_audit.specs.Seats.{AddsCall, AddsMissed, HasRoomOn, call};
-ghost use Rattle.tenant_registry.specs.Serving.{IsRevisionIn, Serves};
-ghost use Rattle.tenant_registry.specs.Using.{HasSegments, IsUsageIn};
+ghost use Rattle.tenant_registry.specs.Serving.{Serves};
 
-use crate::replies::{is_cancel, refusal_of, slot_of, told_revision};
-use crate::usage::Usage;
+use crate::replies::{is_cancel, refusal_of, slot_of};
 pub use ended::Ended;
 use etcd_types::{Mem, Refusal, Reply, Step};
-use gateway_text::{write_range, write_reply};
+use gateway_text::write_reply;
 use prepared::prepared;
 pub use resized::Resized;
 use segment_pool::Stock;
 use std::alloc::{AllocError, Global};
 use std::marker::Model;
 use tenant_audit::{Audit, Entry, Opening, Seat};
-use tenant_machine::{FoundAnswer, Hint, Machine, segments_for};
+use tenant_machine::{Machine, segments_for};
 use tenant_rules::OperatorFault;
 
 /// What a call was answered. Only `Kept::serve` makes one.
@@ -190,37 +188,6 @@ impl Receipt {
     }
 }
 
-impl Receipt {
-    /// That of a range whose rows lie in their cells, with its text. It has no turn.
-    fn of_found(
-        alloc: Global,
-        number: u64,
-        seat: u8,
-        step: Step,
-        found: &FoundAnswer<'_>,
-    ) -> Mem<Receipt>
-        ensures { IfOk result
-            (λ receipt. receipt ≡ slip_of number seat None step (found_reply found.now)) }
-    {
-        let told = write_range(alloc, &found.header, found.count, &found.rows, found.more);
-        let Ok((status, body)) = told else {
-            drop(step);
-            return Err(AllocError);
-        };
-        Ok(Receipt {
-            number,
-            seat,
-            turn: None,
-            step,
-            status,
-            body,
-            slot: None,
-            canceled: false,
-            refusal: None,
-        })
-    }
-}
-
 /// A step that was served. It can't be let go, so that no step is served which no seat keeps.
 pub struct Served {
     receipt: Receipt,
@@ -244,25 +211,6 @@ impl Served {
         let receipt = Receipt::of(alloc, number, seat, turn, step, reply)?;
         let mine = Entry::copy_at(alloc, turn, seat, &receipt.step, reply)?;
         Ok(Served { receipt, mine })
-    }
-
-    /// What a seat's call is given of a range, of which no entry is kept.
-    fn of_found(
-        alloc: Global,
-        number: u64,
-        seat: u8,
-        step: Step,
-        found: &FoundAnswer<'_>,
-    ) -> Mem<Served>
-        ensures receipt { IfOk result
-            (λ served. served.receipt ≡ slip_of number seat None step (found_reply found.now)) }
-        ensures mine { IfOk result (λ served. served.mine ≡ None) }
-    {
-        let receipt = Receipt::of_found(alloc, number, seat, step, found)?;
-        Ok(Served {
-            receipt,
-            mine: None,
-        })
     }
 
     /// What the caller is answered.
@@ -428,63 +376,6 @@ impl Kept {
         let reply = self.machine.commit(&mut self.left, planned);
         self.audit.keep(seat, kept, reply);
         Ok(served)
-    }
-
-    /// A range's answer whose rows lie in their cells, where no entry is kept of the step; none if it is planned as any other
-    /// step is.
-    fn find(&self, step: &Step) -> Mem<Option<FoundAnswer<'_>>>
-        ensures found { IfOk result (λ found. IfSome found
-            (λ answer. Plans self.now.machine step.now (found_plan answer))) }
-        ensures full { IfOk result (λ found. IfSome found (λ _. turn_of self.now.audit ≡ None)) }
-    {
-        match step {
-            Step::Range(request) if self.audit.next_turn().is_none() => {
-                self.machine.find_rows(self.alloc, request)
-            }
-            _ => Ok(None),
-        }
-    }
-
-    /// Its current revision.
-    pub(crate) fn revision(&self) -> Mem<i64>
-        ensures { IfOk result (λ revision. IsRevisionIn self.now.audit revision) }
-    {
-        let planned = self.machine.plan(self.alloc, &Step::Status)?;
-        let told = told_revision(planned.reply());
-        drop(planned);
-        match told {
-            Some(revision) => Ok(revision),
-            // A status tells it always.
-            None => Err(AllocError),
-        }
-    }
-
-    /// Which takes of its watches may not be quiet.
-    pub(crate) fn hint(&self) -> Hint
-        ensures { IsHintOf self.now.machine result }
-    {
-        self.machine.hint()
-    }
-
-    /// How many bytes a step may take until its answer is sent, as far as is enough to know.
-    pub(crate) fn weight(&self, step: &Step, enough: u64) -> Mem<u64> {
-        self.machine.weight(self.alloc, step, enough)
-    }
-
-    /// What it uses.
-    pub(crate) fn usage(&self) -> Mem<Usage>
-        ensures is { IfOk result (λ usage. IsUsageIn self.now.audit usage) }
-        ensures segments { IfOk result (λ usage.
-            HasSegments self.now.machine.store.share.reserved self.now.machine.store.share.drawn usage) }
-    {
-        let drawn = self.reserved.saturating_sub(self.left.held());
-        Usage::of(
-            self.alloc,
-            self.audit.opening(),
-            &self.machine,
-            self.reserved,
-            drawn,
-        )
     }
 
     /// Gives the tenant another quota of so many cells, also one below what it uses, and reserves the segments

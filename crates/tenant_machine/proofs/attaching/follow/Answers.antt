@@ -1,4 +1,4 @@
-use Rattle.std.proofs.Common.{◌≡◌, ◌++◌, ◌∷◌, ◌∙◌, [], ℕ, List, ap, append_assoc, arith, length, length-append, map, refl, subst, sym, take}
+use Rattle.std.proofs.Common.{◌++◌, ◌∷◌, ◌∙◌, [], ℕ, List, ap, append_assoc, arith, length, length-append, map, refl, subst, sym, take}
 use Rattle.etcd_model.specs.Interval.{every_key}
 use Rattle.key_index.specs.Links.{change_at}
 use Rattle.model_laws.specs.Pending.{rows_next}

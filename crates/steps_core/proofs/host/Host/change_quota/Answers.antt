@@ -1,9 +1,5 @@
-use Rattle.std.proofs.Common.{◌≡◌, ◌∙◌, sym, ap, subst, refl, true, true≢false, is_some, None, Some}
-use Rattle.etcd_model.specs.Pool.{PoolState}
-use Rattle.steps_core.specs.declared.tenant.Tenant.{Tenant}
+use Rattle.std.proofs.Common.{◌≡◌, ◌∙◌, sym, ap, refl, true, true≢false, is_some, None}
 use Rattle.steps_core.specs.Hosts.{has_tenant}
-use Rattle.steps_core.specs.Sound.{IsHost, host_of}
-use Rattle.steps_core.specs.Resizing.{Resizes}
 use Rattle.steps_core.proofs.Shown.{shown_at}
 use Rattle.steps_core.proofs.Resized.{all_passed, can_reserve, requoted_or_not, resizes_if, stays_if_not}
 use Rattle.steps_core.proofs.host.Host.change_quota.Goals as goal

@@ -1,4 +1,4 @@
-use Rattle.std.proofs.Common.{◌≡◌, ◌∙◌, sym, ap, subst, refl, is_some, None, Some}
+use Rattle.std.proofs.Common.{◌∙◌, sym, ap, subst, is_some, None, Some}
 use Rattle.std.specs.Map.{lookup}
 use Rattle.steps_core.specs.Sound.{IsHost, host_of}
 use Rattle.steps_core.specs.Removing.{Removes}
