@@ -124,9 +124,7 @@ impl Front {
         let _ = self.host.commit(tenant, planned);
         answer
     }
-}
 
-impl Front {
     /// The answer to a range whose rows lie in their cells, or want of memory for it; none if it is planned as any other
     /// step is.
     fn range(&self, alloc: Global, tenant: &[u8], request: &RangeReq) -> Option<Answer>
