@@ -6,7 +6,7 @@ from typing import NamedTuple
 from shared.held import HeldProgram
 from shared.report import fault_of, want
 from shared.script import SEGMENT_CELLS
-from sizing.host_size import ROW, SEGMENT_MOST, TENANT_MOST
+from sizing.host_size import ROW, ROW_NAMES, ROW_VALUE, SEGMENT_MOST, TENANT_MOST
 
 KEYS = 240_000
 CELLS = 1_048_576
@@ -53,12 +53,18 @@ def row(key, value):
     return ROW_HELD + block(key) + block(value) + ROW + len(text(bytes(key))) + len(text(bytes(value)))
 
 
+def written(key, value, digits):
+    """The bytes of a row that is written from its cells, by the lengths of its key and its value, with three such numbers."""
+    return ROW_NAMES + 3 * digits + len(text(bytes(key))) + ROW_VALUE + len(text(bytes(value)))
+
+
 def key_of(number):
     return b"key%06d" % number
 
 
 VALUE = b"v"
 ONE_ROW = row(len(key_of(0)), len(VALUE))
+ONE_WRITTEN = written(len(key_of(0)), len(VALUE), len(str(KEYS // MAX_OPS)))
 
 
 class Single(NamedTuple):
@@ -105,7 +111,8 @@ def ranges():
         ("a count", {"count_only": True}, 0),
         ("a count at a revision before", {"count_only": True, "revision": before}, 0),
         ("the first row", {"limit": "1"}, ONE_ROW),
-        (f"the first {ROWS:,} rows", {"limit": str(ROWS)}, ROWS * (CELL_NUMBER + ONE_ROW)),
+        # They are written from their cells, one after another.
+        (f"the first {ROWS:,} rows", {"limit": str(ROWS)}, ROWS * (CELL_NUMBER + ONE_WRITTEN) + ONE_ROW),
         # All cells are listed, and three rows are held at the most.
         ("the row of the least value", {"limit": "1", "sort_target": "VALUE"}, cells + 3 * ONE_ROW),
         ("the first row at a revision before", {"limit": "1", "revision": before}, DOUBLED * cells + ONE_ROW),
@@ -196,7 +203,7 @@ def results(path):
         for line in filled():
             told = program.ask_line(line.encode())
             want(told.startswith((b"ok", b"200")), f"{line[:100]} is answered {told[:200]!r}")
-        want(program.held()[0] > KEYS, "the allocator counts nothing")
+        want(program.held.now() > KEYS, "the allocator counts nothing")
         for kind in [ranges, transactions, compares, short_calls, long_calls, large_calls]:
             for single in kind():
                 yield single.name, fault_of(check, program, single)

@@ -1,5 +1,5 @@
 //! Ranges whose rows are found, and not made.
-ghost use Rattle.std.specs.Prelude.{◌≡◌, ◌≤◌, false, true, None, length, take, pos, vec_capacity, IfOk, IfSome, ◌&&◌, not, is_some, is_none};
+ghost use Rattle.std.specs.Prelude.{◌≡◌, ◌≤◌, false, true, None, length, take, pos, vec_capacity, IfOk, IfSome, is_some};
 ghost use Rattle.std.specs.List.Sorted.{IsStrictlySortedBy};
 ghost use Rattle.etcd_types.specs.declared.reply.OpReply.TheVariants.{Range as RangeReply};
 ghost use Rattle.etcd_types.specs.declared.txn.Op.TheVariants.{Range as RangeOp};
@@ -7,7 +7,7 @@ ghost use Rattle.etcd_model.specs.Operations.{op_reply};
 ghost use Rattle.etcd_model.specs.Order.{by_key};
 ghost use Rattle.etcd_model.specs.Reads.{revision_read, unreadable};
 ghost use Rattle.range_rows.specs.Answering.{is_by_key};
-ghost use Rattle.revision_store.specs.InPlace.{in_place};
+ghost use Rattle.revision_store.specs.InPlace.{in_place, is_found};
 ghost use Rattle.revision_store.specs.Pending.{AreRows};
 ghost use Rattle.revision_store.specs.Ranging.{AreGiven, rows_of};
 ghost use Rattle.revision_store.specs.Recorded.{cells_of};
@@ -45,10 +45,7 @@ impl Store {
     /// Finds the rows of a range that gives them in the order of their keys. Where it gives none or another order, or
     /// where its revision is compacted or still to come, the answer is `None`, which takes no memory.
     pub fn find_rows(&self, alloc: Global, request: &RangeReq) -> Mem<Option<FoundRange<'_>>>
-        ensures found { IfOk result
-            (λ found. is_some found
-            ≡ (not request.now.count_only && (is_by_key request.now
-            && is_none (unreadable (reads self.now) (revision_read (reads self.now) request.now.revision))))) }
+        ensures found { IfOk result (λ found. is_some found ≡ is_found self.now request.now) }
         ensures readable { IfOk result
             (λ found. IfSome found (λ range.
             unreadable (reads self.now) (revision_read (reads self.now) request.now.revision) ≡ None)) }

@@ -1,6 +1,7 @@
 -- A plan that is committed is a step of the tenant.
 use Rattle.std.proofs.Common.{◌≡◌, ◌≢◌, ◌∙◌, sym, ap, subst, refl, ℕ, List, Option, is_some, true, false, true≢false}
 use Rattle.std.specs.Prelude.{if◌then◌else◌, IfOk, IfSome, Result, Ok, Err, Some, None}
+use Rattle.std.specs.Option.{option_map_or}
 use Rattle.std.specs.declared.alloc.AllocError.{AllocError}
 use Rattle.etcd_types.specs.declared.kv.RangeReq.{RangeReq}
 use Rattle.etcd_types.specs.declared.step.Step.{Step}
@@ -9,11 +10,11 @@ use Rattle.etcd_types.specs.declared.reply.Reply.TheVariants.{Refused}
 use Rattle.etcd_types.specs.declared.refusal.Refusal.{Refusal}
 use Rattle.etcd_types.specs.declared.refusal.Refusal.TheVariants.{NoTenant, Memory}
 use Rattle.etcd_types.specs.declared.step.Step.TheVariants.{Range}
-use Rattle.tenant_machine.specs.Finding.{found_plan}
+use Rattle.tenant_machine.specs.Finding.{finds, found_plan}
 use Rattle.tenant_machine.specs.declared.finding.FoundAnswer.{FoundAnswer}
 use Rattle.tenant_machine.specs.Tenants.{MachineState}
 use Rattle.tenant_machine.specs.Plans.{Plan, Plans, IsAfter, Steps}
-use Rattle.steps_core.specs.Hosts.{HostState, machine_at, unplanned, IsSureAt, PlansAt, CommitsAt, StepsAt}
+use Rattle.steps_core.specs.Hosts.{HostState, finds_at, machine_at, unplanned, IsSureAt, PlansAt, CommitsAt, StepsAt}
 
 -- a plan of a machine that is committed is a step of it
 stepped : (m n : MachineState) (step : Step) (p : Plan) (reply : Reply) → Plans m step p → IsAfter m p n → reply ≡ p.reply → Steps m step reply n
@@ -66,3 +67,13 @@ pub found_at : (h : HostState) (name : List ℕ) (q : RangeReq) (m : MachineStat
 found_at h name q m is (Ok (Some answer)) plans = record { fits = record { machine = m; is = is; fits = tt }; plans = plans }
 found_at h name q m is (Ok None) plans = plans
 found_at h name q m is (Err e) plans = plans
+
+-- and it finds what the host finds
+pub finds_there : (h : HostState) (name : List ℕ) (q : RangeReq) (m : MachineState) → machine_at h name ≡ Some m → (told : Result (Option FoundAnswer) AllocError)
+    → IfOk told (λ found. is_some found ≡ finds m q) → IfOk told (λ found. is_some found ≡ finds_at h name q)
+finds_there h name q m is (Ok found) told = told ∙ sym (ap (λ (o : Option MachineState). option_map_or (λ m. finds m q) o false) is)
+finds_there h name q m is (Err e) told = told
+
+-- where no tenant of that name is, nothing is found
+pub finds_nowhere : (h : HostState) (name : List ℕ) (q : RangeReq) → machine_at h name ≡ None → false ≡ finds_at h name q
+finds_nowhere h name q none = sym (ap (λ (o : Option MachineState). option_map_or (λ m. finds m q) o false) none)

@@ -1,9 +1,11 @@
 -- What a contract sees of a host, and of a step of one of its tenants.
-use Rattle.std.specs.Prelude.{◌≡◌, ◌≢◌, ℕ, Bool, true, List, map, sum_by, Option, Some, None}
+use Rattle.std.specs.Prelude.{◌≡◌, ◌≢◌, ℕ, Bool, true, false, List, map, sum_by, Option, Some, None}
 use Rattle.std.specs.Prelude.{is_some, if◌then◌else◌, refl}
+use Rattle.std.specs.Option.{option_map_or}
 use Rattle.std.specs.Str.{bytes_eq}
 use Rattle.std.specs.Map.{lookup}
 use Rattle.std.specs.Coded.{Coded, code_by, coded×, coded_ℕ, coded_list}
+use Rattle.etcd_types.specs.declared.kv.RangeReq.{RangeReq}
 use Rattle.etcd_types.specs.declared.step.Step.{Step}
 use Rattle.etcd_types.specs.declared.refusal.Refusal.{Refusal}
 use Rattle.etcd_types.specs.declared.refusal.Refusal.TheVariants.{NoTenant, Memory}
@@ -13,6 +15,7 @@ use Rattle.etcd_model.specs.declared.state.History.{History}
 use Rattle.etcd_model.specs.declared.state.State.{State}
 use Rattle.etcd_model.specs.Held.{Holds}
 use Rattle.tenant_machine.specs.Deciding.{is_sure}
+use Rattle.tenant_machine.specs.Finding.{finds}
 use Rattle.tenant_machine.specs.Tenants.{MachineState, machine_code, tenant}
 use Rattle.tenant_machine.specs.Plans.{Plan, Plans, Fits, IsAfter, Steps}
 
@@ -53,6 +56,10 @@ pub record FitsAt (h : HostState) (name : List ℕ) (p : Plan) : Type 0 where
 pub record PlansAt (h : HostState) (name : List ℕ) (step : Step) (p : Plan) : Type 0 where
   pub fits : FitsAt h name p
   pub plans : Plans fits.machine step p
+
+-- the tenant is there, and its machine finds a range's rows
+abbrev pub finds_at : HostState → List ℕ → RangeReq → Bool
+finds_at h name q = option_map_or (λ m. finds m q) (machine_at h name) false
 
 -- the tenants' names, in order
 abbrev pub names_of : HostState → List (List ℕ)

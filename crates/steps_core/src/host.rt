@@ -1,8 +1,8 @@
 //! All tenants, by name, over one pool.
-ghost use Rattle.std.specs.Prelude.{◌≡◌, ◌≤◌, IfOk, IfErr, IfSome, IsOk, OnErr, length, vec_len, []};
+ghost use Rattle.std.specs.Prelude.{◌≡◌, ◌≤◌, IfOk, IfErr, IfSome, IsOk, OnErr, is_some, length, vec_len, []};
 ghost use Rattle.etcd_types.specs.declared.step.Step.TheVariants.{Range};
 ghost use Rattle.tenant_machine.specs.Finding.{found_plan};
-ghost use Rattle.steps_core.specs.Hosts.{has_tenant, unplanned, IsSureAt};
+ghost use Rattle.steps_core.specs.Hosts.{finds_at, has_tenant, unplanned, IsSureAt};
 ghost use Rattle.steps_core.specs.Hosts.{FitsAt, PlansAt, CommitsAt, StepsAt};
 ghost use Rattle.steps_core.specs.Isolation.{step_turns, IsIsolated};
 
@@ -82,13 +82,14 @@ impl Host {
         tenant: &[u8],
         request: &RangeReq,
     ) -> Mem<Option<FoundAnswer<'_>>>
-        ensures { IfOk result (λ found. IfSome found
+        ensures found { IfOk result (λ found. is_some found ≡ finds_at self.now tenant.now request.now) }
+        ensures plan { IfOk result (λ found. IfSome found
             (λ answer. PlansAt self.now tenant.now (Range request.now) (found_plan answer))) }
     {
-        let Some(found) = self.tenants.get(tenant) else {
-            return Ok(None);
-        };
-        found.machine.find_rows(alloc, request)
+        match self.tenants.get(tenant) {
+            Some(found) => found.machine.find_rows(alloc, request),
+            None => Ok(None),
+        }
     }
 
     /// Makes what was planned for a tenant, of the host as it was then. It takes no memory and cannot

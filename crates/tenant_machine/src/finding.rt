@@ -1,7 +1,7 @@
 //! Ranges whose rows are found, and not made.
-ghost use Rattle.std.specs.Prelude.{IfOk, IfSome};
+ghost use Rattle.std.specs.Prelude.{◌≡◌, IfOk, IfSome, is_some};
 ghost use Rattle.etcd_types.specs.declared.step.Step.TheVariants.{Range};
-ghost use Rattle.tenant_machine.specs.Finding.{found_plan};
+ghost use Rattle.tenant_machine.specs.Finding.{finds, found_plan};
 ghost use Rattle.tenant_machine.specs.Plans.{Plans};
 
 use crate::machine::Machine;
@@ -24,7 +24,8 @@ impl Machine {
     /// What a range is answered, where that gives rows in the order of their keys. A range that is refused, that only
     /// counts or that has another order is `None`, which takes no memory: `plan` answers it.
     pub fn find_rows(&self, alloc: Global, request: &RangeReq) -> Mem<Option<FoundAnswer<'_>>>
-        ensures { IfOk result
+        ensures found { IfOk result (λ found. is_some found ≡ finds self.now request.now) }
+        ensures plan { IfOk result
             (λ found. IfSome found (λ answer. Plans self.now (Range request.now) (found_plan answer))) }
     {
         if request.key.as_slice().is_empty() {

@@ -1,11 +1,14 @@
 -- What lies under a tenant's lock.
-use Rattle.std.specs.Prelude.{◌≡◌, ℕ, ◌+◌, List, [], ◌∷◌, ◌++◌, refl}
+use Rattle.std.specs.Prelude.{◌≡◌, ℕ, ◌+◌, Bool, false, ◌&&◌, List, [], ◌∷◌, ◌++◌, is_none, refl}
 use Rattle.std.specs.Coded.{Coded, code_by, coded×, coded_ℕ, coded_list}
 use Rattle.cell_arena.specs.Loan.{Loan, IsLent}
+use Rattle.etcd_types.specs.declared.step.Step.{Step}
+use Rattle.etcd_types.specs.declared.step.Step.TheVariants.{Range}
 use Rattle.etcd_model.specs.Held.{Holds}
 use Rattle.etcd_model.specs.Pool.{StockState}
+use Rattle.tenant_machine.specs.Finding.{finds}
 use Rattle.tenant_machine.specs.Tenants.{MachineState, machine_code, tenant}
-use Rattle.tenant_audit.specs.Audits.{Act, Log, IsLawful, IsOpen, end_of, state_after_acts}
+use Rattle.tenant_audit.specs.Audits.{Act, Log, IsLawful, IsOpen, end_of, state_after_acts, turn_of}
 
 -- the machine, the audit, and the segments that are reserved and not drawn
 pub record Content : Type 0 where
@@ -45,3 +48,8 @@ pub record IsKept (m : MachineState) (a : Log) (left : StockState) : Type 0 wher
   pub none : IsOpen a → later ≡ []
   pub holds : Holds (state_after_acts (end_of a) later) (tenant m)
   pub lent : IsLent m.store.share (loan_of left)
+
+-- a step is a range whose rows are found, and no entry is kept of it
+abbrev pub finds_in : Content → Step → Bool
+finds_in c (Range q) = is_none (turn_of c.audit) && finds c.machine q
+finds_in c _ = false

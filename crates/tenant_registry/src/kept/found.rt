@@ -1,9 +1,10 @@
 //! A range that is answered from its cells, of which no entry is kept.
-ghost use Rattle.std.specs.Prelude.{◌≡◌, None, IfOk, IfSome};
+ghost use Rattle.std.specs.Prelude.{◌≡◌, None, IfOk, IfSome, is_some};
 ghost use Rattle.tenant_audit.specs.Audits.{turn_of};
 ghost use Rattle.tenant_audit.specs.Receipts.{slip_of};
 ghost use Rattle.tenant_machine.specs.Finding.{found_plan, found_reply};
 ghost use Rattle.tenant_machine.specs.Plans.{Plans};
+ghost use Rattle.tenant_registry.specs.Keeping.{finds_in};
 
 use super::{Kept, Receipt, Served};
 use etcd_types::{Mem, Step};
@@ -67,7 +68,8 @@ impl Kept {
     /// A range's answer whose rows lie in their cells, where no entry is kept of the step; none if it is planned as any other
     /// step is.
     pub(super) fn find(&self, step: &Step) -> Mem<Option<FoundAnswer<'_>>>
-        ensures found { IfOk result (λ found. IfSome found
+        ensures found { IfOk result (λ found. is_some found ≡ finds_in self.now step.now) }
+        ensures plan { IfOk result (λ found. IfSome found
             (λ answer. Plans self.now.machine step.now (found_plan answer))) }
         ensures full { IfOk result (λ found. IfSome found (λ _. turn_of self.now.audit ≡ None)) }
     {

@@ -10,5 +10,5 @@ returns-in-Ok c =
     let h = c.args.self.now.host in
     let t = c.args.tenant.now in
     let q = c.args.request.now in
-    let planned = subst (λ o. IfSome o (λ answer. PlansAt h t (Range q) (found_plan answer))) c.in-Ok-Some.field-0-is c.in-Ok-Some.ensures in
+    let planned = subst (λ o. IfSome o (λ answer. PlansAt h t (Range q) (found_plan answer))) c.in-Ok-Some.field-0-is c.in-Ok-Some.ensures.plan in
     range_made h t q (found_reply c.in-Ok-Some.found) c.in-Ok.answer planned c.in-Ok.ensures

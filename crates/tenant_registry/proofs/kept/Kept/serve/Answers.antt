@@ -8,7 +8,7 @@ use Rattle.tenant_registry.proofs.kept.Kept.serve.Goals as goal
 pub returns-in-Some-clause-ok : goal.returns-in-Some-clause-ok
 returns-in-Some-clause-ok c =
     let old = c.args.self.now in
-    let plans = subst (λ found. IfSome found (λ answer. Plans old.machine c.args.step (found_plan answer))) c.in-Some.is c.in-Ok.ensures.found in
+    let plans = subst (λ found. IfSome found (λ answer. Plans old.machine c.args.step (found_plan answer))) c.in-Some.is c.in-Ok.ensures.plan in
     let full = subst (λ found. IfSome found (λ _. turn_of old.audit ≡ None)) c.in-Some.is c.in-Ok.ensures.full in
     serves_found old c.self.inside.machine c.self.inside.audit c.self.inside.left c.args.seat c.number.result c.args.step (found_reply c.in-Some.answer) c.of_found.result c.self.view_is c.self.invariant.kept
     plans full c.number.ensures c.of_found.ensures.receipt c.of_found.ensures.mine
