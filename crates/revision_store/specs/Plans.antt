@@ -1,12 +1,13 @@
 -- What a plan writes.
-use Rattle.std.specs.Prelude.{◌≡◌, ℕ, ◌+◌, ◌<◌, ◌==◌, if◌then◌else◌, List, [], ◌∷◌, ◌++◌, map, sum_by, Some}
+use Rattle.std.specs.Prelude.{◌≡◌, ℕ, ◌<◌, List, [], ◌∷◌, ◌++◌, map, sum_by, Some}
 use Rattle.std.specs.Prelude.{None, IsSome, option_map, unwrap_or}
 use Rattle.std.specs.List.{AllByRecursion}
 use Rattle.etcd_model.specs.declared.state.Change.{Change}
 use Rattle.etcd_model.specs.declared.state.Change.TheVariants.{Put as Set, Delete as Del}
 use Rattle.etcd_model.specs.Changes.{Recorded}
-use Rattle.etcd_model.specs.Kept.{cost, cost_put, cost_delete}
+use Rattle.etcd_model.specs.Kept.{cost}
 use Rattle.key_index.specs.Links.{Cells, change_at}
+use Rattle.store_words.specs.Growth.{growth_put}
 use Rattle.revision_store.specs.declared.plan.Write.{Write}
 use Rattle.revision_store.specs.declared.plan.Write.TheVariants.{Put, Delete}
 
@@ -40,11 +41,9 @@ cost_in cells write = cost (change_in cells write)
 abbrev pub costs_in : Cells → List Write → ℕ
 costs_in cells writes = sum_by (cost_in cells) writes
 
--- By how many cells a write raises those that count: a put takes its record, and room for a delete
--- of its key where it creates that, and a delete takes the room that was held for it.
+-- By how many cells a write raises those that count: a delete takes the room that was held for it.
 abbrev pub growth_of : Write → ℕ
-growth_of (Put row) = cost_put row.key row.value + (if row.create_revision == row.mod_revision
-    then cost_delete row.key else 0)
+growth_of (Put row) = growth_put row
 growth_of (Delete cell) = 0
 
 -- each in turn is later than what its key has

@@ -1,16 +1,15 @@
 //! What one put leaves and is answered.
 ghost use Rattle.std.specs.Prelude.{◌≡◌, ◌+◌, ◌<◌, ◌^◌, pos, None, IfOk, IfSome, IsSome, if◌then◌else◌, option_and_then};
-ghost use Rattle.std.specs.Option.{option_copied};
 ghost use Rattle.etcd_types.specs.declared.reply.OpReply.TheVariants.{Put as PutReply};
 ghost use Rattle.etcd_types.specs.declared.txn.Op.TheVariants.{Put as PutOp};
-ghost use Rattle.etcd_model.specs.Changes.{version_of};
-ghost use Rattle.etcd_model.specs.Operations.{op_reply, row_put, value_put};
+ghost use Rattle.etcd_model.specs.Operations.{op_reply, row_put};
 ghost use Rattle.revision_store.specs.Stored.{cells, reads, row_at};
 ghost use Rattle.revision_store.specs.Pending.{present};
 
 use crate::store::Store;
-use etcd_types::{CellNo, CopyOf, KeyValue, List, Mem, OpReply, PutReq};
+use etcd_types::{CellNo, KeyValue, Mem, OpReply, PutReq};
 use std::alloc::Global;
+use store_words::row_put;
 
 /// A put that is decided.
 #[derive(Drop)]
@@ -84,38 +83,4 @@ fn row_asked(row: Option<KeyValue>, asked: bool) -> Option<KeyValue>
     ensures { result ≡ (if asked then row else None) }
 {
     if asked { row } else { None }
-}
-
-/// The value of a put: its own, or the present one where that is to stay.
-fn value_put(alloc: Global, request: &PutReq, now: Option<&KeyValue>) -> Mem<List<u8>>
-    ensures { IfOk result (λ value. value ≡ value_put request.now (option_copied now.entry)) }
-{
-    match now {
-        Some(row) if request.ignore_value => row.value.copy_of(alloc),
-        None if request.ignore_value => Ok(List::new(alloc)),
-        _ => request.value.copy_of(alloc),
-    }
-}
-
-/// The row that a put leaves at a revision, over the present row of its key.
-fn row_put(alloc: Global, revision: u64, request: &PutReq, now: Option<&KeyValue>) -> Mem<KeyValue>
-    requires { version_of (option_copied now) + 1 < 2 ^ 64 }
-    ensures { IfOk result (λ row. row ≡ row_put revision request.now (option_copied now.entry)) }
-{
-    let (create_revision, version, lease) = match now {
-        Some(row) => (row.create_revision, row.version, row.lease),
-        None => (revision, 0, 0),
-    };
-    Ok(KeyValue {
-        key: request.key.copy_of(alloc)?,
-        create_revision,
-        mod_revision: revision,
-        version: version + 1,
-        value: value_put(alloc, request, now)?,
-        lease: if request.ignore_lease {
-            lease
-        } else {
-            request.lease
-        },
-    })
 }

@@ -9,7 +9,7 @@ use crate::log::Log;
 use crate::plan::{Plan, Write};
 use crate::store::Store;
 use etcd_types::limits::CELL_BYTES;
-use store_words::{cost_delete, cost_put};
+use store_words::{cost_put, growth_put};
 
 impl Store {
     /// How many cells are free.
@@ -76,20 +76,13 @@ impl Store {
     }
 }
 
-/// By how many cells a write raises those that count. A row of its first revision is of a key that
-/// was not live.
+/// By how many cells a write raises those that count.
 fn growth_of(write: &Write) -> u64
     ensures { result ≡ growth_of write.now }
 {
-    let Write::Put(row) = write else {
-        return 0;
-    };
-    let key = row.key.as_slice();
-    let record = cost_put(key, row.value.as_slice());
-    if row.create_revision == row.mod_revision {
-        record + cost_delete(key)
-    } else {
-        record
+    match write {
+        Write::Put(row) => growth_put(row),
+        Write::Delete(_) => 0,
     }
 }
 

@@ -1,9 +1,11 @@
-//! What the store's definitions say of one key and of one record: the keys of an interval, and the cells of a
-//! record.
+//! What the store's definitions say of one key and of one record: the keys of an interval, the cells of a record, and
+//! the row that a put leaves.
 #![tactic(auto)]
 
 mod cost;
 mod interval;
+mod row;
 
-pub use cost::{cost_delete, cost_put};
+pub use cost::{cost_delete, cost_put, growth_put};
 pub use interval::is_in;
+pub use row::row_put;
