@@ -22,7 +22,7 @@ SAME_NAMES = {
     "fair_turns/src/budget.rt": ["DEFAULT_BUDGET", "LONGEST_ROW", "SHORT"],
     "fair_turns/src/tree_weight.rt": ["SMALL_TREE"],
     "fair_turns/src/scheduler.rt": ["BESIDE_WORKERS"],
-    "gateway_text/src/size.rt": ["REPLY", "EVENT", "ROW"],
+    "gateway_text/src/size.rt": ["REPLY", "EVENT", "ROW_NAMES", "ROW_LEASE", "ROW_VALUE"],
 }
 # By their names in the source, what they have to be. What a turn's bodies are bounded by is why LEAVING is enough.
 OTHER_NAMES = {

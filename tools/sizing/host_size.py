@@ -43,11 +43,12 @@ QUOTAS_A_BUDGET = 4
 # Connections where none are configured: descriptors less these, and of those a part for a tenant.
 BESIDE_CONNECTIONS = 64
 TENANT_PART = 4
-# The text of a watch without its events, an event's without its rows, and a row's without its strings. Base64 rounds
-# the two strings of a row up by less than six bytes.
+# The text of a watch without its events, an event's without its rows, and a row's without its strings: its names, and the
+# three longest numbers with the longest lease. Base64 rounds the two strings of a row up by less than six bytes.
 REPLY = 218
 EVENT = 35
-ROW = 165
+ROW_NAMES, ROW_LEASE, ROW_VALUE = 63, 12, 11
+ROW = ROW_NAMES + 3 * 20 + ROW_LEASE + 19 + ROW_VALUE
 ROUNDED = 6
 # What an event takes until that text is made: its note, also while their list grows, the event with two rows, and what
 # the allocator keeps of their four strings.

@@ -1,3 +1,4 @@
 pub mod Refusals
 pub mod Limits
 pub mod Steps
+pub mod Rows

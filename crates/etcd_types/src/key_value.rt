@@ -1,8 +1,10 @@
 //! Keys with their values, and what watches tell of them.
 ghost use Rattle.std.specs.Prelude.{◌≡◌, ◌↔◌, IsTrue};
+ghost use Rattle.etcd_types.specs.Rows.{shape_of};
 
 use crate::copy::{CopyOf, Mem};
 use crate::list::List;
+use crate::rows::RowShape;
 use std::alloc::Global;
 
 /// A key with its value, as it stands at a revision.
@@ -39,6 +41,20 @@ impl KeyValue {
         ensures { IsTrue result ↔ (self.now ≡ other.now) }
     {
         self == other
+    }
+
+    /// Its shape.
+    pub fn shape(&self) -> RowShape
+        ensures { result ≡ shape_of self.now }
+    {
+        RowShape {
+            key: self.key.as_slice().len(),
+            create_revision: self.create_revision,
+            mod_revision: self.mod_revision,
+            version: self.version,
+            value: self.value.as_slice().len(),
+            lease: self.lease,
+        }
     }
 
     /// The key and the value.

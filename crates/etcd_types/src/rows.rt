@@ -1,8 +1,22 @@
 //! Rows that are not made: each is read where it lies.
 ghost use Rattle.std.specs.Prelude.{◌≡◌, ◌<◌, ◌∷◌, ◌+◌, List, OnOk, drop, length};
+ghost use Rattle.etcd_types.specs.Rows.{shape_of};
 
 use crate::copy::Mem;
 use crate::key_value::KeyValue;
+
+/// A row whose key and value are known by their lengths alone.
+#[derive(Clone, Copy)]
+pub struct RowShape {
+    /// How many bytes the key has.
+    pub key: usize,
+    pub create_revision: u64,
+    pub mod_revision: u64,
+    pub version: u64,
+    /// How many bytes the value has.
+    pub value: usize,
+    pub lease: i64,
+}
 
 /// Some rows, in an order, of which each is read by itself.
 pub trait RowsInPlace {
@@ -14,11 +28,11 @@ pub trait RowsInPlace {
     fn len(&self) -> usize
         ensures { result ≡ length (rows self.now) };
 
-    /// How many bytes the key and the value of the row at a place have.
-    fn lengths(&self, place: usize) -> (usize, usize)
+    /// The shape of the row at a place.
+    fn shape(&self, place: usize) -> RowShape
         requires { place < length (rows self.now) }
         ensures { (row : KeyValue) → (rest : List KeyValue) → drop place (rows self.now) ≡ row ∷ rest
-            → (result.0 ≡ length row.key) × (result.1 ≡ length row.value) };
+            → result ≡ shape_of row };
 
     /// Reads the row at a place into another one, whose memory is used again. Without memory the other may be any.
     fn read(&self, place: usize, row: &mut KeyValue) -> Mem<()>

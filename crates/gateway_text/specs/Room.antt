@@ -1,14 +1,17 @@
--- How much room the text of a reply is given: each number counts as the longest there is, and each member counts even
--- where it is left out.
-use Rattle.std.specs.Prelude.{ℕ, ℤ, ◌+◌, List, length, sum_by, Option, Some, None, true}
+-- How much room the text of a reply is given: what its rows need, and beside them the longest numbers and all members that
+-- there can be.
+use Rattle.std.specs.Prelude.{ℕ, zero, suc, ℤ, ◌+◌, ◌==◌, if◌then◌else◌, List, length, sum_by, Option, Some, None, true, decimal, unsigned_abs}
 use Rattle.base64.specs.Rfc4648.{encoded_size}
 use Rattle.etcd_types.specs.declared.key_value.KeyValue.{KeyValue}
 use Rattle.etcd_types.specs.declared.key_value.Event.{Event}
+use Rattle.etcd_types.specs.declared.rows.RowShape.{RowShape}
+use Rattle.etcd_types.specs.Rows.{shape_of}
 use Rattle.etcd_types.specs.declared.reply.OpReply.{OpReply}
 use Rattle.etcd_types.specs.declared.reply.OpReply.TheVariants as op
 use Rattle.etcd_types.specs.declared.reply.Reply.{Reply}
 use Rattle.etcd_types.specs.declared.reply.Reply.TheVariants as reply
-use Rattle.gateway_text.specs.declared.size.TheConstants.{REPLY, RESPONSE, EVENT, ROW, LEASE, QUOTES}
+use Rattle.gateway_text.specs.declared.size.TheConstants.{REPLY, RESPONSE, EVENT, ROW_NAMES, ROW_LEASE, ROW_VALUE}
+use Rattle.gateway_text.specs.declared.size.TheConstants.{LEASE, QUOTES}
 
 -- bytes in base64
 abbrev pub bytes_room : List ℕ → ℕ
@@ -22,13 +25,26 @@ key_room key = QUOTES + bytes_room key
 abbrev pub lease_room : ℤ → ℕ
 lease_room id = LEASE
 
--- a row
-abbrev pub row_room : KeyValue → ℕ
-row_room row = ROW + bytes_room row.key + bytes_room row.value
+-- how many digits a number has, none where it is 0
+abbrev pub digits : ℕ → ℕ
+digits zero = 0
+digits (suc n) = length (decimal (suc n))
 
--- a row, by the lengths of its key and its value
-abbrev pub lengths_room : ℕ → ℕ → ℕ
-lengths_room key value = ROW + encoded_size key true + encoded_size value true
+-- a member of so many bytes, which is left out where it has none
+abbrev pub member_room : ℕ → ℕ → ℕ
+member_room name bytes = if bytes == 0 then 0 else name + bytes
+
+-- the numbers of a row, with all of its names but those of its lease and its value
+abbrev pub numbers_room : RowShape → ℕ
+numbers_room s = ROW_NAMES + digits s.create_revision + digits s.mod_revision + digits s.version
+    + member_room ROW_LEASE (digits (unsigned_abs s.lease))
+
+-- a row, by its shape, and a row
+abbrev pub shape_room : RowShape → ℕ
+shape_room s = numbers_room s + encoded_size s.key true + member_room ROW_VALUE (encoded_size s.value true)
+
+abbrev pub row_room : KeyValue → ℕ
+row_room row = shape_room (shape_of row)
 
 -- a row that may be there
 abbrev pub some_room : Option KeyValue → ℕ

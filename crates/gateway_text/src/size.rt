@@ -1,16 +1,17 @@
 //! How much room the text of a reply needs.
 //!
-//! The sizes are upper estimates: each number counts as the longest there is, and each member
-//! counts even where it is left out.
-ghost use Rattle.std.specs.Prelude.{◌≡◌, ◌-◌, ◌^◌, ℕ, Bool, [], min, sum_by, true, vec_capacity, IfOk};
+//! Rows count as they are. What stands beside them is an upper estimate: each number counts as the longest there is, and each
+//! member even where it is left out.
+ghost use Rattle.std.specs.Prelude.{◌≡◌, ◌≤◌, ◌-◌, ◌^◌, ℕ, Bool, [], min, sum_by, true, vec_capacity, IfOk};
 ghost use Rattle.base64.specs.Rfc4648.{encoded_size};
 ghost use Rattle.etcd_types.specs.declared.reply.Header.{Header};
 ghost use Rattle.etcd_types.specs.declared.reply.Reply.TheVariants.{Range};
 ghost use Rattle.gateway_text.specs.Room.{body_room, bytes_room, event_room, key_room, lease_room};
-ghost use Rattle.gateway_text.specs.Room.{lengths_room, op_room, row_room, some_room};
+ghost use Rattle.gateway_text.specs.Room.{digits, member_room, numbers_room, op_room, row_room};
+ghost use Rattle.gateway_text.specs.Room.{shape_room, some_room};
 
 use base64::encoded_len;
-use etcd_types::{Event, KeyValue, List, Mem, OpReply, Reply, RowsInPlace};
+use etcd_types::{Event, KeyValue, List, Mem, OpReply, Reply, RowShape, RowsInPlace};
 use std::alloc::Global;
 
 /// The longest reply with no rows and no lists.
@@ -19,8 +20,12 @@ const REPLY: usize = 218;
 const RESPONSE: usize = 120;
 /// An event without its rows, and a comma.
 const EVENT: usize = 35;
-/// A row without its key and its value, and a comma.
-const ROW: usize = 165;
+/// A row's names but those of its lease and its value, and a comma.
+const ROW_NAMES: usize = 63;
+/// The name of a row's lease, with a sign and a comma.
+const ROW_LEASE: usize = 12;
+/// The name of a row's value, with a comma.
+const ROW_VALUE: usize = 11;
 /// A lease of a list, and a comma.
 const LEASE: usize = 30;
 /// The quotes of a key of a list, and a comma.
@@ -87,8 +92,7 @@ fn rows_size<S: RowsInPlace>(rows: &S) -> usize
 {
     let mut size = 0usize;
     for place in 0..rows.len() {
-        let (key, value) = rows.lengths(place);
-        size = size.saturating_add(lengths_size(key, value));
+        size = size.saturating_add(shape_size(rows.shape(place)));
     }
     size
 }
@@ -102,12 +106,46 @@ fn row_size(row: &Option<KeyValue>) -> usize
     }
 }
 
-/// A row's size, by the lengths of its key and its value.
-fn lengths_size(key: usize, value: usize) -> usize
-    ensures { result ≡ min (lengths_room key value) (2 ^ 64 - 1) }
+/// A row's size, by its shape.
+fn shape_size(shape: RowShape) -> usize
+    ensures { result ≡ min (shape_room shape) (2 ^ 64 - 1) }
 {
-    ROW.saturating_add(encoded_size_of(key))
-        .saturating_add(encoded_size_of(value))
+    numbers_size(shape)
+        .saturating_add(encoded_size_of(shape.key))
+        .saturating_add(member_size(ROW_VALUE, encoded_size_of(shape.value)))
+}
+
+/// That of its numbers, with all of its names but those of its lease and its value.
+fn numbers_size(shape: RowShape) -> usize
+    ensures { result ≡ numbers_room shape }
+{
+    ROW_NAMES
+        + digits(shape.create_revision)
+        + digits(shape.mod_revision)
+        + digits(shape.version)
+        + member_size(ROW_LEASE, digits(shape.lease.unsigned_abs()))
+}
+
+/// That of a member of so many bytes, which is left out where it has none.
+fn member_size(name: usize, bytes: usize) -> usize
+    ensures { result ≡ min (member_room name bytes) (2 ^ 64 - 1) }
+{
+    if bytes == 0 {
+        0
+    } else {
+        name.saturating_add(bytes)
+    }
+}
+
+/// How many digits a number has, none where it is 0.
+fn digits(number: u64) -> usize
+    ensures exact { result ≡ digits number }
+    ensures few { result ≤ 20 }
+{
+    match number.checked_ilog10() {
+        Some(power) => power as usize + 1,
+        None => 0,
+    }
 }
 
 fn base64_size(bytes: &[u8]) -> usize
@@ -142,7 +180,7 @@ impl TextSize for KeyValue {
     ghost room_of = { row_room };
 
     fn text_size(&self) -> usize {
-        lengths_size(self.key.as_slice().len(), self.value.as_slice().len())
+        shape_size(self.shape())
     }
 }
 

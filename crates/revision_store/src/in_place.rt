@@ -1,5 +1,6 @@
 //! Rows that are read where they lie, so that none has to be made.
-ghost use Rattle.std.specs.Prelude.{◌≡◌, Some, IsSome, IfSome, IfOk, OnOk, [], length, option_map};
+ghost use Rattle.std.specs.Prelude.{◌≡◌, Some, IsSome, IfSome, IfOk, OnOk, [], option_map};
+ghost use Rattle.etcd_types.specs.Rows.{shape_of};
 ghost use Rattle.revision_store.specs.InPlace.{in_place, row_shown};
 ghost use Rattle.revision_store.specs.Pending.{AreRows};
 ghost use Rattle.revision_store.specs.Plans.{key_at};
@@ -7,7 +8,7 @@ ghost use Rattle.revision_store.specs.Recorded.{cells_of};
 ghost use Rattle.revision_store.specs.Stored.{row_at};
 
 use crate::log::Log;
-use etcd_types::{CellNo, KeyValue, List, Mem, RowsInPlace};
+use etcd_types::{CellNo, KeyValue, List, Mem, RowShape, RowsInPlace};
 use std::alloc::Global;
 use std::marker::Model;
 use std::mem;
@@ -63,8 +64,8 @@ impl<'a> RowsInPlace for FoundRows<'a> {
         self.cells.len()
     }
 
-    fn lengths(&self, place: usize) -> (usize, usize) {
-        self.log.lengths_shown(self.cells[place], self.keys_only)
+    fn shape(&self, place: usize) -> RowShape {
+        self.log.shape_shown(self.cells[place], self.keys_only)
     }
 
     fn read(&self, place: usize, row: &mut KeyValue) -> Mem<()> {
@@ -74,20 +75,25 @@ impl<'a> RowsInPlace for FoundRows<'a> {
 }
 
 impl Log {
-    /// How many bytes the key and the value of the row under a cell have, as it is shown.
-    fn lengths_shown(&self, cell: CellNo, keys_only: bool) -> (usize, usize)
+    /// The shape of the row under a cell, as it is shown.
+    fn shape_shown(&self, cell: CellNo, keys_only: bool) -> RowShape
         requires { IsSome (row_at (cells_of self.now.records) cell) }
         ensures { IfSome (row_at (cells_of self.now.records) cell)
-            (λ row. (result.0 ≡ length (row_shown keys_only row).key)
-            × (result.1 ≡ length (row_shown keys_only row).value)) }
+            (λ row. result ≡ shape_of (row_shown keys_only row)) }
     {
-        let key = self.region.key_len(cell) as usize;
-        let value = if keys_only {
-            0
-        } else {
-            self.region.value_len(cell) as usize
-        };
-        (key, value)
+        let fields = self.region.fields(cell);
+        RowShape {
+            key: self.region.key_len(cell) as usize,
+            create_revision: fields.create_revision,
+            mod_revision: fields.revision,
+            version: fields.version,
+            value: if keys_only {
+                0
+            } else {
+                self.region.value_len(cell) as usize
+            },
+            lease: fields.lease,
+        }
     }
 
     /// Reads the row under a cell, as it is shown, into another one, whose memory is used again.
