@@ -31,7 +31,7 @@ const MAX_NOTES: u64 = 7_201;
 const SECONDS_A_COUNT: u64 = 300;
 
 /// The revision that was current at a moment.
-#[derive(Clone, Copy, Debug)]
+#[derive(Clone, Copy)]
 struct Note {
     moment: u64,
     revision: i64,

@@ -4,7 +4,7 @@
 pub const MAX_RETENTION: u64 = 2_592_000;
 
 /// What of its history a tenant keeps. A server compacts it by calls of its own.
-#[derive(Clone, Copy, Debug, PartialEq, Eq)]
+#[derive(Clone, Copy, PartialEq, Eq)]
 pub enum Retention {
     /// All: there is no standing order.
     All,

@@ -9,7 +9,7 @@ pub const MAX_PATIENCE: u32 = 86_400;
 pub const LOOPS: usize = 4;
 
 /// What the clients of a tenant may take, and what of its history is kept.
-#[derive(Clone, Copy, Debug)]
+#[derive(Clone, Copy)]
 pub struct Allowance {
     /// How many bytes of bodies and answers may be under way.
     pub budget: usize,
@@ -20,7 +20,7 @@ pub struct Allowance {
 }
 
 /// How long a peer may keep a connection waiting, in seconds.
-#[derive(Clone, Copy, Debug)]
+#[derive(Clone, Copy)]
 pub struct Patience {
     /// For the whole head of a request.
     pub head: u32,

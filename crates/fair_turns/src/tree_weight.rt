@@ -11,7 +11,7 @@ pub const SMALL_TREE: u64 = 1_048_576;
 
 /// A bound of what the tree of a body's values takes beside its texts. Each value but the first comes behind one of three bytes,
 /// which are counted.
-#[derive(Clone, Copy, Debug)]
+#[derive(Clone, Copy)]
 pub struct TreeWeight {
     bytes: u64,
 }

@@ -21,7 +21,6 @@ use tenant_registry::{TenantConfig, check};
 const DEFAULT_WORKERS: u64 = 4;
 
 /// Where to listen, with how many workers, and which tenants there are.
-#[derive(Debug)]
 pub struct Config {
     /// An address and a port, as `127.0.0.1:2379`.
     pub listen: String,
@@ -60,7 +59,7 @@ impl Drop for Config {
 }
 
 /// Where and for whom the operator is served. Without a token the address is one of this machine alone.
-#[derive(Debug, Drop)]
+#[derive(Drop)]
 pub struct OperatorConfig {
     /// An address and a port.
     pub listen: SocketAddr,

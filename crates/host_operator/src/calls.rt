@@ -84,7 +84,7 @@ fn unasked(path: &str) -> OperatorRefusal
 }
 
 /// Why a request of the operator is refused.
-#[derive(Clone, Copy, Debug, PartialEq, Eq)]
+#[derive(Clone, Copy, PartialEq, Eq)]
 pub(crate) enum OperatorRefusal {
     /// What a registry tells.
     Fault(OperatorFault),

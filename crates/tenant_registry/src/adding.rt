@@ -21,7 +21,7 @@ use tenant_machine::segments_for;
 use tenant_rules::{OperatorFault, is_name, within_limits};
 
 /// What a tenant is to be.
-#[derive(Debug, Drop)]
+#[derive(Drop)]
 pub struct TenantConfig {
     /// 1 to 64 bytes of `a-z0-9-`.
     pub name: Vec<u8>,

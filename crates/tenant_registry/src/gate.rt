@@ -13,7 +13,7 @@ pub trait Gate {
 }
 
 /// The gate that no call waits at.
-#[derive(Clone, Copy, Debug, PartialEq, Eq)]
+#[derive(Clone, Copy, PartialEq, Eq)]
 pub struct OpenGate;
 
 impl Gate for OpenGate {

@@ -20,7 +20,7 @@ use std::sync::{Arc, Mutex, Wait};
 use tenant_calls::TenantKey;
 
 /// What a tenant is served by.
-#[derive(Clone, Copy, Debug)]
+#[derive(Clone, Copy)]
 pub struct TenantTerms {
     /// How many bytes its clients may have under way.
     pub budget: usize,

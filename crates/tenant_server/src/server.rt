@@ -295,7 +295,7 @@ where
 }
 
 /// How a connection ended.
-#[derive(Clone, Copy, Debug, PartialEq, Eq)]
+#[derive(Clone, Copy, PartialEq, Eq)]
 pub enum End {
     Finished,
     /// Its stream failed, what came was no HTTP, or there was no memory to begin.

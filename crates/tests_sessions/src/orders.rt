@@ -9,7 +9,7 @@ use std::process::Abort;
 use std::test::Fail;
 
 /// What an order has let go.
-#[derive(Clone, Copy, Debug)]
+#[derive(Clone, Copy)]
 struct LetGo {
     times: u64,
     first_at: u64,

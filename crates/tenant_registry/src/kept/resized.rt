@@ -4,7 +4,7 @@ ghost use Rattle.std.specs.Prelude.{◌≡◌};
 use std::marker::Model;
 
 /// A tenant got another quota. Only `Kept::resize` makes one.
-#[derive(Debug, Drop)]
+#[derive(Drop)]
 pub struct Resized {
     pub(super) number: u64,
     pub(super) quota: u32,
