@@ -20,17 +20,18 @@ def filled(connection):
     for first in range(0, ROWS, MAX_OPS):
         keys = map(key_of, range(first, min(first + MAX_OPS, ROWS)))
         puts = [{"request_put": {"key": text(key), "value": text(VALUE)}} for key in keys]
-        told = connection.call("one", "kv/txn", body_of({"success": puts}).decode())
+        told = connection.call("two", "kv/txn", body_of({"success": puts}).decode())
         want(told.status == 200, f"a transaction is answered {told.body[:200]!r}")
 
 
 def check(path):
     everything = body_of({"key": "AA==", "range_end": "AA=="}).decode()
-    with Held() as held, Server(path, configuration([tenant_of("one", CELLS)], segments=CELLS // 64), held.variables) as server:
+    tenants = [tenant_of("one"), tenant_of("two", CELLS), tenant_of("three")]
+    with Held() as held, Server(path, configuration(tenants, segments=2 * CELLS // 64), held.variables) as server:
         with server.connect() as connection:
             filled(connection)
-            connection.call("one", "kv/range", everything)
-            answer, most, left = held.of(lambda: connection.call("one", "kv/range", everything))
+            connection.call("two", "kv/range", everything)
+            answer, most, left = held.of(lambda: connection.call("two", "kv/range", everything))
     length = len(answer.body)
     print(f"{NAME}: {most:,} bytes for {length:,} of text, and {left:,} left", flush=True)
     want(length > ROWS * len(VALUE), f"it is answered {answer.body[:200]!r}")
