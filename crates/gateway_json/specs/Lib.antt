@@ -1,3 +1,4 @@
+pub mod Others
 pub mod Paths
 pub mod Taking
 pub mod Unread

@@ -10,6 +10,7 @@ mod list;
 mod maintenance;
 mod member;
 mod names;
+mod others;
 mod paths;
 mod txn;
 mod watch;

@@ -7,8 +7,7 @@ use etcd_types::MemberName;
 /// A member's underscored name, and its lowerCamel one where that is another.
 pub(crate) fn spelled(name: MemberName) -> (&'static str, Option<&'static str>)
     ensures underscored { result.0.now ≡ underscored name }
-    ensures lower_camel { unwrap_or (option_map (λ s. s.now) result.1) (underscored name)
-        ≡ lower_camel name }
+    ensures lower_camel { unwrap_or (option_map (λ s. s.now) result.1) result.0.now ≡ lower_camel name }
 {
     match name {
         MemberName::Key => ("key", None),

@@ -8,6 +8,7 @@ ghost use Rattle.gateway_json.specs.Taking.{CompareTakesNone, OpTakesNone, TxnTa
 use crate::kv::{read_delete, read_put, read_range};
 use crate::list::{FromElement, object};
 use crate::member::{member_of, read_held, read_plain};
+use crate::others::Others;
 use etcd_types::{Compare, CompareTarget, List, MemberName, Op, Operand, Refusal, TxnReq};
 use serde_json::Value;
 use std::alloc::Global;
@@ -75,15 +76,16 @@ impl FromElement for Compare {
 
 /// Reads an operation, which has exactly one of its four members. What a nested transaction holds
 /// is not looked at.
-#[tactic(auto, unfolding(etcd_model::specs::Requests::read_op))]
+#[tactic(auto, unfolding(etcd_model::specs::Requests::read_op), using(crate::proofs::OtherLemmas::beside_op))]
 fn read_op(alloc: Global, value: &Value) -> Result<Op, Refusal>
     ensures answer { IsAnswer result (read_op (view value.now)) }
     ensures exact { OpTakesNone (view value.now) → result ≡ read_op (view value.now) }
 {
-    let range = member_of(value, MemberName::RequestRange);
     let put = member_of(value, MemberName::RequestPut);
-    let delete = member_of(value, MemberName::RequestDeleteRange);
-    let nested = member_of(value, MemberName::RequestTxn);
+    let others = Others::beside(value, put, None, None);
+    let range = others.member(MemberName::RequestRange);
+    let delete = others.member(MemberName::RequestDeleteRange);
+    let nested = others.member(MemberName::RequestTxn);
     match (range, put, delete, nested) {
         (Some(range), None, None, None) => Ok(Op::Range(read_range(alloc, object(range)?)?)),
         (None, Some(put), None, None) => Ok(Op::Put(read_put(alloc, object(put)?)?)),
