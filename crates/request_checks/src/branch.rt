@@ -1,14 +1,14 @@
 //! What the operations of one branch are refused for.
-ghost use Rattle.std.specs.Prelude.{◌≡◌};
+ghost use Rattle.std.specs.Prelude.{◌≡◌, None, option_map};
 ghost use Rattle.std.specs.List.{list_any};
 ghost use Rattle.std.specs.Str.{bytes_eq};
 ghost use Rattle.etcd_model.specs.Interval.{is_in};
 ghost use Rattle.etcd_model.specs.Fields.{op_lacks_key, puts, gives_value, gives_lease, is_nested, has_twice};
 ghost use Rattle.etcd_model.specs.Fields.{has_duplicate};
-ghost use Rattle.request_checks.specs.Branch.{any_put, any_delete};
+ghost use Rattle.request_checks.specs.Branch.{any_delete, any_put, is_above, rise};
 
 use crate::put::{gives_lease, gives_value};
-use etcd_types::Op;
+use etcd_types::{DeleteReq, Op};
 use store_words::is_in;
 
 /// Whether an operation has no key.
@@ -54,9 +54,47 @@ pub(crate) fn has_duplicate(ops: &[Op]) -> bool
     has_twice(ops) || has_deleted(ops)
 }
 
-/// Whether a key is put twice.
-#[tactic(auto, using(crate::proofs::Filtered::filtered))]
+/// Whether a key is put twice. Of keys that rise none is: many clients write in the order of their keys.
+#[tactic(auto, using(crate::proofs::Rising::no_key_twice))]
 fn has_twice(ops: &[Op]) -> bool
+    ensures { result ≡ has_twice (puts ops.now) }
+{
+    !puts_rise(ops) && has_pair(ops)
+}
+
+/// Whether the key of each put is above that of the put before it.
+#[tactic(auto, using(crate::proofs::Filtered::filtered))]
+fn puts_rise(ops: &[Op]) -> bool
+    ensures { result ≡ rise None (puts ops.now) }
+{
+    let mut before = None;
+    let mut rest = ops;
+    while let [op, later @ ..] = rest {
+        if let Op::Put(put) = op {
+            let key = put.key.as_slice();
+            if !is_above(before, key) {
+                return false;
+            }
+            before = Some(key);
+        }
+        rest = later;
+    }
+    true
+}
+
+/// Whether a key is above the one before it, if there is one.
+fn is_above(before: Option<&[u8]>, key: &[u8]) -> bool
+    ensures { result ≡ is_above (option_map (λ k. k.now) before.entry) key.now }
+{
+    match before {
+        None => true,
+        Some(before) => before.cmp(key).is_lt(),
+    }
+}
+
+/// Whether a key is put twice, looked for behind each put.
+#[tactic(auto, using(crate::proofs::Filtered::filtered))]
+fn has_pair(ops: &[Op]) -> bool
     ensures { result ≡ has_twice (puts ops.now) }
 {
     let mut rest = ops;
@@ -73,9 +111,17 @@ fn has_twice(ops: &[Op]) -> bool
 
 /// Whether a key is put and deleted, in either order.
 fn has_deleted(ops: &[Op]) -> bool
-    ensures { result ≡ any_put (λ p. any_delete (λ d. is_in d.key d.range_end p.key) ops.now) ops.now }
+    ensures { result ≡ any_delete (λ d. any_put (λ p. is_in d.key d.range_end p.key) ops.now) ops.now }
 {
-    ops.iter().any(|op| matches!(op, Op::Put(put) if deletes_key(ops, put.key.as_slice())))
+    ops.iter().any(|op| matches!(op, Op::Delete(delete) if puts_in(ops, delete)))
+}
+
+/// Whether a put's key is one of those that are deleted.
+fn puts_in(ops: &[Op], delete: &DeleteReq) -> bool
+    ensures { result ≡ any_put (λ p. is_in delete.now.key delete.now.range_end p.key) ops.now }
+{
+    let (key, range_end) = (delete.key.as_slice(), delete.range_end.as_slice());
+    ops.iter().any(|op| matches!(op, Op::Put(put) if is_in(key, range_end, put.key.as_slice())))
 }
 
 fn puts_key(ops: &[Op], key: &[u8]) -> bool
@@ -92,13 +138,4 @@ fn is_same(one: &[u8], other: &[u8]) -> bool
         ([.., last], [.., end]) if last != end => false,
         _ => one == other,
     }
-}
-
-fn deletes_key(ops: &[Op], key: &[u8]) -> bool
-    ensures { result ≡ any_delete (λ d. is_in d.key d.range_end key.now) ops.now }
-{
-    ops.iter().any(|op| match op {
-        Op::Delete(delete) => is_in(delete.key.as_slice(), delete.range_end.as_slice(), key),
-        _ => false,
-    })
 }
