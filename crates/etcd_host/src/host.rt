@@ -4,15 +4,14 @@ ghost use Rattle.etcd_host.specs.Closing.{HaveClosed, HaveDiffered};
 
 use crate::fault::HostFault;
 use etcd_types::limits::MAX_CONFIG;
-use host_operator::{Operator, OperatorSocket, serve_operator};
-use host_sessions::{Config, Ended, Listening, ServedTenants, Sessions, read_config};
+use host_sessions::{Config, Sessions, read_config};
 use std::alloc::{AllocGlobal, Global};
 use std::io::{Input, Read};
 use std::mem;
 use std::net::Net;
 use std::random::RandomSource;
 use std::rt::Files;
-use std::sync::{Arc, Wait};
+use std::sync::Wait;
 use std::thread::Threads;
 use std::time::Clock;
 use tenant_registry::{OpenGate, Registry, Seat, SeatFault};
@@ -74,72 +73,21 @@ where
     let Ok(address) = listening.address() else {
         return Err(HostFault::Io);
     };
-    let socket = operator_socket(&rt, config)?;
+    let socket = match Sessions::listen_operator(&rt, config) {
+        Ok(socket) => socket,
+        Err(error) => return Err(HostFault::of_listening(&error)),
+    };
     println!(rt; "listening on {address}")?;
     let ended = match socket {
         None => Sessions::serve(rt, listening, &*registry, seats, &OpenGate)?,
         Some(socket) => {
             let address = socket.address()?;
             println!(rt; "operator on {address}")?;
-            serve_operated(rt, config, registry, seats, listening, socket)?
+            Sessions::serve_operated(rt, config, listening, registry, seats, &OpenGate, socket)?
         }
     };
     println!(rt; "ended")?;
     Ok(ended.seats)
-}
-
-/// Where the operator's connections come in, if the configuration has an address for them.
-fn operator_socket<R>(rt: &R, config: &Config) -> Result<Option<OperatorSocket>, HostFault>
-where
-    R: Clock + Net + RandomSource + AllocGlobal,
-{
-    let Some(operator) = &config.operator else {
-        return Ok(None);
-    };
-    match OperatorSocket::bind(rt, operator, config.patience) {
-        Ok(socket) => Ok(Some(socket)),
-        Err(error) => Err(HostFault::of_listening(&error)),
-    }
-}
-
-/// Serves clients, while tenants come, change and go by the operator's calls. The registry is the operator's alone.
-fn serve_operated<R>(
-    rt: R,
-    config: &Config,
-    registry: &mut Registry,
-    seats: Vec<Seat>,
-    listening: Listening,
-    socket: OperatorSocket,
-) -> Result<Ended, HostFault>
-where
-    R: Wait
-        + Threads
-        + Clock
-        + RandomSource
-        + AllocGlobal
-        + Files
-        + Eprint
-        + Copy
-        + Drop
-        + Send
-        + Sync
-        + 'static,
-{
-    let alloc = rt.alloc();
-    let opened = Sessions::open(rt, listening, &*registry, seats.len())?;
-    let served = ServedTenants::of(rt, alloc, &opened)?;
-    let mut operator = Operator::new(
-        rt,
-        alloc,
-        registry,
-        served,
-        opened.bounds()?,
-        opened.connections_of_tenant(),
-        Arc::try_clone(opened.stopping())?,
-    );
-    operator.remember(config.allowances.as_slice())?;
-    let work = move |ended| serve_operator(rt, alloc, socket, operator, ended);
-    Ok(Sessions::serve_beside(rt, opened, seats, &OpenGate, work)?)
 }
 
 /// Closes the registry, whose audits have to be the seats' lists, and says so.

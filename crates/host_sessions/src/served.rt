@@ -15,7 +15,7 @@ use tenant_server::Opened;
 const SHARD: usize = 6;
 
 /// The tenants that the threads of a server serve.
-pub struct ServedTenants<R: Wait + Drop> {
+pub(crate) struct ServedTenants<R: Wait + Drop> {
     rt: R,
     alloc: Global,
     shared: Arc<Shared<R, Key>>,
@@ -53,7 +53,7 @@ impl<R: Wait + Drop> ServedTenants<R> {
 
 impl<R: Wait + Clock + Drop> ServedTenants<R> {
     /// Those of a server that was opened; an error where there is no memory to share them.
-    pub fn of(rt: R, alloc: Global, opened: &Opened<R, Key>) -> Mem<ServedTenants<R>> {
+    pub(crate) fn of(rt: R, alloc: Global, opened: &Opened<R, Key>) -> Mem<ServedTenants<R>> {
         let shared = Arc::try_clone(opened.shared())?;
         Ok(ServedTenants { rt, alloc, shared })
     }

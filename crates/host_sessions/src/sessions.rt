@@ -86,7 +86,7 @@ impl Sessions {
     }
 
     /// The server of a registry's tenants, with a thread for each of so many seats. How many there have to be says `serve`.
-    pub fn open<R>(
+    pub(crate) fn open<R>(
         rt: R,
         listening: Listening,
         registry: &Registry,
@@ -148,8 +148,9 @@ impl Sessions {
     }
 
     /// The same of a server that was opened, while other work is done on this thread, as that of an operator who has the
-    /// registry to himself. The work is to go on until the other end of its channel is let go: until the server ends.
-    pub fn serve_beside<'x, R, G, W>(
+    /// registry to himself. The work is to go on until the other end of its channel is let go: until the last connection
+    /// has ended.
+    pub(crate) fn serve_beside<'x, R, G, W>(
         rt: R,
         opened: Opened<R, Key>,
         seats: Vec<Seat>,

@@ -8,7 +8,6 @@ use std::time::{Clock, Duration};
 use std::{io, thread};
 use tenant_calls::TenantKey;
 use tenant_scheduler::Tenants;
-use tokio::sync::mpsc::UnboundedSender;
 
 /// The part of the directory of tenants that is read where the server ends.
 const SHARD: usize = 0;
@@ -49,17 +48,6 @@ impl<R: Wait + Clock + Copy + Drop, K: TenantKey> Arrivals<R, K> {
             table.end_all();
             end_idle(&rt, &table, &tenants);
         }
-        accepted
-    }
-
-    /// The same, for whoever waits until the other end of a channel is let go.
-    pub(crate) fn accept_and_tell(
-        self,
-        rt: R,
-        ending: UnboundedSender<()>,
-    ) -> Result<u32, ServeFault> {
-        let accepted = self.accept(rt);
-        drop(ending);
         accepted
     }
 }

@@ -56,6 +56,8 @@ pub(crate) struct SocketLoop {
     start: Instant,
     losses: Losses,
     ready: Sender<()>,
+    /// Let go once the last connection has ended.
+    open: UnboundedSender<()>,
 }
 
 impl SocketLoop {
@@ -76,13 +78,15 @@ pub(crate) struct Acceptor {
     ready: Receiver<()>,
 }
 
-/// Event loops for the connections of a table that began at a moment, and where they go in.
+/// Event loops for the connections of a table that began at a moment, and where they go in. Each keeps a sender until its
+/// last connection has ended.
 pub(crate) fn open_loops<R: Clock + Drop>(
     alloc: Global,
     event_loops: Vec<EventLoop>,
     patience: Patience,
     start: Instant,
     table: &ConnectionTable<R>,
+    open: &UnboundedSender<()>,
 ) -> Mem<(Acceptor, Vec<SocketLoop>)> {
     let mut senders = Vec::new(alloc);
     let (is_ready, ready) = bounded(alloc, LOOPS)?;
@@ -98,6 +102,7 @@ pub(crate) fn open_loops<R: Clock + Drop>(
             start,
             losses: table.losses()?,
             ready: is_ready.clone()?,
+            open: open.clone()?,
         })?;
     }
     Ok((Acceptor { senders, ready }, loops))
@@ -321,6 +326,7 @@ where
         start,
         losses,
         ready,
+        open: _open,
     } = own;
     let streams = streams_of(rt, alloc, &event_loop, Arc::try_clone(server)?, patience)?;
     let reactor = event_loop.reactor().clone()?;

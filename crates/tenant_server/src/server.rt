@@ -25,7 +25,7 @@ use std::time::{Clock, Instant};
 use tenant_calls::{TenantCalls, TenantKey};
 use tenant_scheduler::{Shared, open};
 use tokio::io::{AsyncRead, AsyncWrite};
-use tokio::sync::mpsc::UnboundedReceiver;
+use tokio::sync::mpsc::{UnboundedReceiver, unbounded_channel};
 
 /// On what terms connections are served.
 pub struct Terms {
@@ -119,6 +119,8 @@ pub struct Opened<R: Wait + Drop, K: TenantKey> {
     threads: (Jobs<R>, Arc<Shared<R, K>>),
     loops: Vec<SocketLoop>,
     arrivals: Arrivals<R, K>,
+    /// Closed once the last connection has ended.
+    ended: UnboundedReceiver<()>,
     connections_of_tenant: usize,
     /// How many ways to call tenants it is to be given.
     count: usize,
@@ -130,6 +132,7 @@ impl<R: Wait + Drop, K: TenantKey> Drop for Opened<R, K> {
             threads: _,
             loops: _,
             arrivals: _,
+            ended: _,
             connections_of_tenant: _,
             count: _,
         } = self;
@@ -184,7 +187,15 @@ where
         let allowances = terms.allowances.as_slice();
         let of_tenants = terms_of(alloc, allowances)?;
         let table = connections(rt, alloc, start, most, allowances)?;
-        let (acceptor, loops) = open_loops(alloc, event_loops, terms.patience, start, &table)?;
+        let (open_end, ended) = unbounded_channel(alloc)?;
+        let (acceptor, loops) = open_loops(
+            alloc,
+            event_loops,
+            terms.patience,
+            start,
+            &table,
+            &open_end,
+        )?;
         let workers = workers_of(count, loops.len());
         let listener = Arc::new(alloc, listener).map_err(AllocError::from)?;
         let stopping = Stopping::new(Arc::try_clone(&listener)?);
@@ -201,6 +212,7 @@ where
             threads,
             loops,
             arrivals,
+            ended,
             connections_of_tenant: connections_of_tenant(most),
             count,
         })
@@ -223,15 +235,16 @@ where
             threads,
             loops,
             arrivals,
+            ended: _,
             connections_of_tenant: _,
             count: _,
         } = self;
-        let bring = move |_jobs, _ended| arrivals.accept(rt);
+        let bring = move |_jobs| arrivals.accept(rt);
         run_threads(rt, threads, calls, loops, None, bring)
     }
 
     /// The same, while other work is done on this thread, as that of an operator who has the registry to himself. The
-    /// work is to go on until the other end of its channel is let go: until the server ends.
+    /// work is to go on until the other end of its channel is let go: until the last connection has ended.
     pub fn run_beside<C, W>(self, rt: R, calls: Vec<C>, work: W) -> Result<Ended<C>, ServeFault>
     where
         C: TenantCalls<Key = K> + Send,
@@ -248,13 +261,12 @@ where
             threads,
             loops,
             arrivals,
+            ended,
             connections_of_tenant: _,
             count: _,
         } = self;
-        let bring = move |_jobs, ended| {
-            if let Some(ended) = ended {
-                let _ = work(ended);
-            }
+        let bring = move |_jobs| {
+            let _ = work(ended);
             Ok(0)
         };
         run_threads(rt, threads, calls, loops, Some(arrivals), bring)
@@ -286,7 +298,7 @@ where
     let alloc = rt.alloc();
     let workers = workers_of(calls.len(), 0);
     let opened = open(&rt, alloc, keys, &[], calls.len(), workers)?;
-    let bring = move |jobs, _ended| {
+    let bring = move |jobs| {
         bring(jobs)?;
         Ok(0)
     };

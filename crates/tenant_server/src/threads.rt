@@ -15,7 +15,6 @@ use std::thread::{JoinHandle, SpawnError, Threads};
 use std::time::Clock;
 use tenant_calls::TenantCalls;
 use tenant_scheduler::{Service, ServingThread, Shared};
-use tokio::sync::mpsc::{UnboundedReceiver, unbounded_channel};
 
 /// How many of so many threads are workers, beside so many loops.
 pub(crate) fn workers_of(threads: usize, loops: usize) -> usize
@@ -42,8 +41,7 @@ pub struct Ended<C> {
 
 /// Runs a function that brings connections, or their calls, and says how many; they are served by a thread for each way
 /// to call tenants: the clock, the pump, the catch-up worker, the event loops that are given, and workers. It gives these
-/// ways back. Where connections are accepted beside it, the function is told when the server ends, and does other work
-/// until then.
+/// ways back. Where connections are accepted beside it, the function does other work until the loops have ended.
 pub(crate) fn run_threads<R, C, B>(
     rt: R,
     opened: (Jobs<R>, Arc<Shared<R, C::Key>>),
@@ -58,7 +56,7 @@ where
     C::Key: Send,
     C::Hint: Send,
     C::Receipt: Send,
-    B: FnOnce(Jobs<R>, Option<UnboundedReceiver<()>>) -> Result<u32, ServeFault> + Drop,
+    B: FnOnce(Jobs<R>) -> Result<u32, ServeFault> + Drop,
     requires { B.IsAlwaysCallable bring }
 {
     let alloc = rt.alloc();
@@ -88,24 +86,19 @@ where
             }
             let mut is_whole = group.is_whole(roles) && loops.is_empty();
             let mut acceptor = None;
-            let mut ended = None;
             if let Some(arrivals) = beside {
-                match unbounded_channel(alloc) {
-                    Ok((sender, receiver)) if is_whole => {
-                        let made = scope.spawn(move || arrivals.accept_and_tell(rt, sender));
-                        acceptor = made.ok();
-                        ended = Some(receiver);
-                    }
-                    _ => drop(arrivals),
+                if is_whole {
+                    acceptor = scope.spawn(move || arrivals.accept(rt)).ok();
+                } else {
+                    drop(arrivals);
                 }
                 is_whole = acceptor.is_some();
             }
             let brought = if is_whole {
-                bring(jobs, ended)
+                bring(jobs)
             } else {
                 drop(jobs);
                 drop(bring);
-                drop(ended);
                 Err(ServeFault::Memory)
             };
             let accepted = match acceptor {
