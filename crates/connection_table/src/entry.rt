@@ -15,6 +15,8 @@ pub(crate) struct Entry {
     owner: AtomicU64,
     /// A request is under way, or the connection was told to end.
     is_busy: AtomicBool,
+    /// Something of its answers is not with the system yet.
+    is_unsent: AtomicBool,
     /// The millisecond since which it is idle, if it is.
     idle_since: AtomicU64,
 }
@@ -27,6 +29,7 @@ impl Entry {
             is_open: AtomicBool::new(true),
             owner: AtomicU64::new(NOBODY),
             is_busy: AtomicBool::new(false),
+            is_unsent: AtomicBool::new(false),
             idle_since: AtomicU64::new(now),
         }
     }
@@ -39,8 +42,26 @@ impl Entry {
         self.owner.store(owner, Ordering::SeqCst);
     }
 
-    pub(crate) fn set_busy(&self) {
+    /// A request is under way, whose answer is to be sent.
+    pub(crate) fn begin_request(&self) {
+        self.is_unsent.store(true, Ordering::SeqCst);
+        self.set_busy();
+    }
+
+    fn set_busy(&self) {
         self.is_busy.store(true, Ordering::SeqCst);
+    }
+
+    /// All that was written for it is with the system. Of an answer that is under way more comes.
+    pub(crate) fn set_sent(&self) {
+        if !self.is_busy.load(Ordering::SeqCst) {
+            self.is_unsent.store(false, Ordering::SeqCst);
+        }
+    }
+
+    /// It is idle, and its peer can have all its answers.
+    pub(crate) fn is_answered(&self) -> bool {
+        self.idle_since().is_some() && !self.is_unsent.load(Ordering::SeqCst)
     }
 
     pub(crate) fn set_idle(&self, now: u64) {

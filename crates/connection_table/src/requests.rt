@@ -21,6 +21,13 @@ impl OpenConnection {
             counts: Arc::try_clone(&self.counts).ok()?,
         })
     }
+
+    /// Where it is told what of its answers was sent; none where there is no memory.
+    pub fn answers(&self) -> Option<Answers> {
+        Some(Answers {
+            entry: Arc::try_clone(&self.entry).ok()?,
+        })
+    }
 }
 
 impl Drop for OpenConnection {
@@ -28,6 +35,24 @@ impl Drop for OpenConnection {
         let OpenConnection { entry, counts } = self;
         entry.close();
         counts.leave(entry.owner());
+    }
+}
+
+/// The answers of a connection.
+pub struct Answers {
+    entry: Arc<Entry>,
+}
+
+impl Answers {
+    /// All that was written so far is with the system.
+    pub fn are_sent(&self) {
+        self.entry.set_sent();
+    }
+}
+
+impl Drop for Answers {
+    fn drop(self) {
+        let Answers { entry: _ } = self;
     }
 }
 
@@ -66,7 +91,7 @@ impl<R: Clock + Copy + Drop> Requests<R> {
             start: self.start,
             entry: Arc::try_clone(&self.entry).ok()?,
         };
-        self.entry.set_busy();
+        self.entry.begin_request();
         Some(under_way)
     }
 }

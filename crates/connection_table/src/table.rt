@@ -123,10 +123,10 @@ impl<R: Clock + Drop> ConnectionTable<R> {
         }
     }
 
-    /// Ends the connections that are idle, and tells how many are left open.
+    /// Ends the connections that are idle and whose answers were sent, and tells how many are left open.
     pub fn end_idle(&self) -> usize {
         for entry in self.entries.as_slice() {
-            if entry.idle_since().is_some() {
+            if entry.is_answered() {
                 entry.end();
             }
         }

@@ -204,10 +204,11 @@ where
             number,
         } = arrived;
         let requests = open.requests(self.rt, self.start);
+        let answers = open.answers();
         ConnectionTask::of(
             self.alloc,
             Some(open),
-            self.streams.socket(stream, number, requests)?,
+            self.streams.socket(stream, number, requests, answers)?,
         )
     }
 }

@@ -8,6 +8,7 @@ ghost use Rattle.futures.specs.Task.{Covers, Keeps};
 ghost use Rattle.futures.specs.Poll.{OnPending};
 ghost use Rattle.tokio.specs.Timers.{sleep_source};
 
+use connection_table::Answers;
 use futures::task::{Context, Poll};
 use futures::{Future, ready};
 use std::io;
@@ -43,11 +44,19 @@ pub(crate) struct PacedStream<R, S> {
     is_due: bool,
     /// From the beginning of a rest on until it is read, where there was memory for it.
     sleep: Option<Sleep>,
+    /// Where it is told that all was sent.
+    answers: Option<Answers>,
 }
 
 impl<R: Clock + Drop, S: Drop> PacedStream<R, S> {
     /// The number says for how long it rests, each 31st alike.
-    pub(crate) fn new(rt: R, stream: S, number: u64, timers: Option<Handle>) -> PacedStream<R, S> {
+    pub(crate) fn new(
+        rt: R,
+        stream: S,
+        number: u64,
+        timers: Option<Handle>,
+        answers: Option<Answers>,
+    ) -> PacedStream<R, S> {
         PacedStream {
             rt,
             stream,
@@ -56,6 +65,7 @@ impl<R: Clock + Drop, S: Drop> PacedStream<R, S> {
             pieces: 0,
             is_due: false,
             sleep: None,
+            answers,
         }
     }
 
@@ -179,7 +189,11 @@ impl<R: Clock + Drop, S: AsyncWrite> AsyncWrite for PacedStream<R, S> {
     }
 
     fn poll_flush(&mut self, cx: &mut Context<'_>) -> Poll<io::Result<()>> {
-        self.stream.poll_flush(cx)
+        let flushed = ready!(self.stream.poll_flush(cx));
+        if let Some(answers) = &self.answers {
+            answers.are_sent();
+        }
+        Poll::Ready(flushed)
     }
 
     fn poll_shutdown(&mut self, cx: &mut Context<'_>) -> Poll<io::Result<()>> {

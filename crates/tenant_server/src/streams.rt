@@ -2,7 +2,7 @@
 ghost use Rattle.std.specs.Prelude.{IfOk};
 
 use crate::pacing::PacedStream;
-use connection_table::{Patience, Requests};
+use connection_table::{Answers, Patience, Requests};
 use etcd_types::Mem;
 use futures::Future;
 use futures::task::{Context, Poll};
@@ -83,16 +83,17 @@ impl<R: Wait + Clock + Copy + Drop, S: CallServer<R>, T: Timer> Streams<R, S, T>
 }
 
 impl<R: Wait + Clock + Copy + Drop, S: CallServer<R>> Streams<R, S, TokioTimer<R>> {
-    /// The connection over a socket of an event loop, whose number says for how long it rests.
+    /// The connection over a socket of an event loop, whose number says for how long it rests. It is told what was sent.
     pub(crate) fn socket(
         &self,
         socket: TcpStream,
         number: u64,
         requests: Option<Requests<R>>,
+        answers: Option<Answers>,
     ) -> Mem<SocketConnection<R, S>>
         ensures { IfOk result ⟦<SocketConnection<R, S> as Future>⟧.can_poll }
     {
-        let stream = PacedStream::new(self.rt, socket, number, self.timers());
+        let stream = PacedStream::new(self.rt, socket, number, self.timers(), answers);
         Ok(SocketConnection {
             connection: self.connection(stream, requests)?,
         })
