@@ -1,10 +1,10 @@
-"""The rows that stand in the crate test_rows, for the tests of crates: each below its name in tests/rows."""
+"""The rows that stand in the crate tests_tenants: each below its name in tests/rows."""
 import os
 import re
 
 from shared.places import ROWS, TOP
 
-FOLDER = os.path.join(TOP, "crates", "test_rows", "src")
+FOLDER = os.path.join(TOP, "crates", "tests_tenants", "src", "tests", "rows")
 ROW = re.compile(r'(    // (\w+)\n    Row \{\n        script: r#")(.*?)("#,\n        answers: r#")(.*?)("#,\n)', re.DOTALL)
 
 
@@ -14,7 +14,7 @@ def contents(name):
 
 
 def made(text):
-    """A file of the crate with each row as tests/rows has it."""
+    """A file of it with each row as tests/rows has it."""
     def row(found):
         before, name, _, between, _, behind = found.groups()
         return before + contents(name + ".script") + between + contents(name + ".answers") + behind

@@ -15,6 +15,7 @@ use crate::pieces::{piece_at, pieces};
 use crate::segments::Segments;
 use crate::table::{self, Table};
 use etcd_types::CellNo;
+use store_words::value_span;
 
 /// What a head says.
 pub(crate) fn head_at(table: &Table, at: CellNo) -> (Kind, &HeadCell)
@@ -193,11 +194,12 @@ pub(crate) fn value_part(table: &Table, at: CellNo) -> Part
         (λ r. part_bytes (table_at table.now) result ≡ r.value) }
 {
     let (_kind, head) = head_at(table, at);
+    let span = value_span(head.key_len, head.value_len);
     Part {
         first: head.first,
         cells: pieces(head.key_len as usize + head.value_len as usize),
-        from: head.key_len as usize,
-        count: head.value_len as usize,
+        from: span.from,
+        count: span.count,
     }
 }
 

@@ -57,7 +57,7 @@ pub(crate) struct SocketLoop {
     losses: Losses,
     ready: Sender<()>,
     /// Let go once the last connection has ended.
-    open: UnboundedSender<()>,
+    serving: UnboundedSender<()>,
 }
 
 impl SocketLoop {
@@ -86,7 +86,7 @@ pub(crate) fn open_loops<R: Clock + Drop>(
     patience: Patience,
     start: Instant,
     table: &ConnectionTable<R>,
-    open: &UnboundedSender<()>,
+    serving: &UnboundedSender<()>,
 ) -> Mem<(Acceptor, Vec<SocketLoop>)> {
     let mut senders = Vec::new(alloc);
     let (is_ready, ready) = bounded(alloc, LOOPS)?;
@@ -102,7 +102,7 @@ pub(crate) fn open_loops<R: Clock + Drop>(
             start,
             losses: table.losses()?,
             ready: is_ready.clone()?,
-            open: open.clone()?,
+            serving: serving.clone()?,
         })?;
     }
     Ok((Acceptor { senders, ready }, loops))
@@ -327,7 +327,7 @@ where
         start,
         losses,
         ready,
-        open: _open,
+        serving: _serving,
     } = own;
     let streams = streams_of(rt, alloc, &event_loop, Arc::try_clone(server)?, patience)?;
     let reactor = event_loop.reactor().clone()?;

@@ -187,14 +187,14 @@ where
         let allowances = terms.allowances.as_slice();
         let of_tenants = terms_of(alloc, allowances)?;
         let table = connections(rt, alloc, start, most, allowances)?;
-        let (open_end, ended) = unbounded_channel(alloc)?;
+        let (serving, ended) = unbounded_channel(alloc)?;
         let (acceptor, loops) = open_loops(
             alloc,
             event_loops,
             terms.patience,
             start,
             &table,
-            &open_end,
+            &serving,
         )?;
         let workers = workers_of(count, loops.len());
         let listener = Arc::new(alloc, listener).map_err(AllocError::from)?;

@@ -9,7 +9,7 @@ use script_replay::{Asked, read_line};
 use single::Singles;
 use std::alloc::Global;
 use std::process::Abort;
-use test_rows::{Row, rows};
+use crate::tests::rows::{Row, rows};
 use test_segments::{SOURCES, Source};
 
 /// What a script is answered by tenants that each have segments of their own from a source.

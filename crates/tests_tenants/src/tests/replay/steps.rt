@@ -14,7 +14,7 @@ use std::alloc::Global;
 use std::process::Abort;
 use std::test::Fail;
 use steps_core::Host;
-use test_rows::{Row, rows};
+use crate::tests::rows::{Row, rows};
 
 /// Whom an event asks: nobody, if a call's target names no tenant.
 fn tenant_of(event: LentEvent<'_>) -> &[u8] {

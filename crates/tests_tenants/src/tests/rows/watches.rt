@@ -1,5 +1,5 @@
 //! Rows of watches.
-use crate::Row;
+use super::Row;
 
 /// Rows of calls, ticks, takes and catch-ups.
 pub(crate) const WATCH_ROWS: [Row; 4] = [

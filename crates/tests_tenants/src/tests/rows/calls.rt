@@ -1,5 +1,5 @@
 //! Rows in which tenants are called, and nothing else.
-use crate::Row;
+use super::Row;
 
 /// Rows of calls.
 pub(crate) const CALL_ROWS: [Row; 3] = [

@@ -1,5 +1,5 @@
 //! Rows of leases, with the ticks that end them.
-use crate::Row;
+use super::Row;
 
 /// Rows of calls and ticks, and takes of what is told of a lease's end.
 pub(crate) const LEASE_ROWS: [Row; 1] = [

@@ -1,5 +1,5 @@
 //! Rows in which the operator's lines come between calls.
-use crate::Row;
+use super::Row;
 
 /// Rows whose tenants take other quotas, or are removed.
 pub(crate) const LIVE_ROWS: [Row; 1] = [

@@ -7,7 +7,7 @@ use std::alloc::Global;
 use std::mem;
 use std::process::Abort;
 use steps_core::Host;
-use test_rows::{Row, live_rows, rows};
+use crate::tests::rows::{Row, live_rows, rows};
 
 /// A script's lines, and how many segments its host has.
 #[derive(Drop)]

@@ -1,8 +1,6 @@
 //! Some of the rows of `tests/rows`, line by line, for tests.
 //!
 //! The text above a row is its name there. `tools/check-rows` asks that the two are the same.
-#![tactic(auto)]
-
 mod calls;
 mod leases;
 mod live;
@@ -14,17 +12,17 @@ use live::LIVE_ROWS;
 use watches::WATCH_ROWS;
 
 /// A script, and what it is answered.
-pub struct Row {
-    pub script: &'static str,
-    pub answers: &'static str,
+pub(crate) struct Row {
+    pub(crate) script: &'static str,
+    pub(crate) answers: &'static str,
 }
 
 /// The rows of calls, ticks, takes and catch-ups: those of calls alone, of leases, and of watches.
-pub fn rows() -> [&'static [Row]; 3] {
+pub(crate) fn rows() -> [&'static [Row]; 3] {
     [&CALL_ROWS, &LEASE_ROWS, &WATCH_ROWS]
 }
 
 /// The rows in which tenants take other quotas, and come and go.
-pub fn live_rows() -> &'static [Row] {
+pub(crate) fn live_rows() -> &'static [Row] {
     &LIVE_ROWS
 }

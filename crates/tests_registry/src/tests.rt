@@ -1,2 +1,0 @@
-//! What a registry answers its callers, by worked examples.
-mod calls;
