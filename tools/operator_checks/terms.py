@@ -94,20 +94,25 @@ def a_budget_is_its_tenants(program):
         want_ranges(client, ["one", "two"], ["four"])
 
 
+def order_of(said):
+    """The standing order of a tenant as it is told: what it counts, and how much it keeps."""
+    return said["auto_compaction_mode"], said["auto_compaction_retention"]
+
+
 def a_standing_order_comes_and_goes(program):
-    """That of the second of three; the others are not compacted."""
+    """That of the second of three, of which what it counts stays where nothing else is told; the others are not compacted."""
     with three(program) as host, host.connect() as connection:
-        for order in [{"auto_compaction_mode": "revision", "auto_compaction_retention": "1000"},
-                      {"auto_compaction_mode": "periodic", "auto_compaction_retention": "2s"}]:
-            said = host.expect_status(200, "PATCH", "/tenants/two", order)
-            want({name: said[name] for name in order} == order, f"told {said}")
+        for order, told in [({"auto_compaction_mode": "revision", "auto_compaction_retention": "1000"}, ("revision", "1000")),
+                            ({"auto_compaction_retention": "500"}, ("revision", "500")),
+                            ({"auto_compaction_mode": "periodic", "auto_compaction_retention": "2s"}, ("periodic", "2s"))]:
+            want(order_of(host.expect_status(200, "PATCH", "/tenants/two", order)) == told, f"{order} is not told as {told}")
         for revision in range(2, 12):
             for name in NAMES:
                 connection.expect(name, "kv/put", PUT, done(revision))
             time.sleep(0.3)
         want(asked_until(lambda at: at > 0, lambda: compacted(host, "two")) > 0, "the tenant is not compacted")
         said = host.expect_status(200, "PATCH", "/tenants/two", {"auto_compaction_retention": 0})
-        want((said["auto_compaction_mode"], said["auto_compaction_retention"]) == ("periodic", "0"), f"told {said}")
+        want(order_of(said) == ("periodic", "0"), f"told {said}")
         at = compacted(host, "two")
         connection.expect("two", "kv/put", PUT, done(12))
         time.sleep(5)

@@ -15,19 +15,25 @@ use Rattle.host_config.specs.Numbers.{member}
 use Rattle.host_config.specs.declared.retention.Mode.{Mode}
 use Rattle.host_config.specs.declared.retention.Mode.TheVariants.{Periodic, Revision}
 
--- what is counted: time, unless something else is told
+-- what is counted of a retention; time where all is kept
+abbrev pub counted_by : Retention → Mode
+counted_by All = Periodic
+counted_by (Seconds s) = Periodic
+counted_by (Revisions n) = Revision
+
+-- what is counted: the usual, unless something else is told
 abbrev pub named_mode : List ℕ → Option Mode
 named_mode name =
     if bytes_eq name (codes "periodic") then Some Periodic
     else if bytes_eq name (codes "revision") then Some Revision
     else None
 
-abbrev pub mode_or : Option Data → Option Mode
-mode_or None = Some Periodic
-mode_or (Some d) = option_and_then named_mode (as_str d)
+abbrev pub mode_or : Mode → Option Data → Option Mode
+mode_or usual None = Some usual
+mode_or usual (Some d) = option_and_then named_mode (as_str d)
 
-unfoldable pub mode_in : Data → Option Mode
-mode_in d = mode_or (member (codes "auto_compaction_mode") d)
+unfoldable pub mode_in : Mode → Data → Option Mode
+mode_in usual d = mode_or usual (member (codes "auto_compaction_mode") d)
 
 -- a time in seconds: the text of one, or else a number of hours
 unfoldable pub time_of : Data → Option ℕ
@@ -49,16 +55,19 @@ kept_or None d = None
 kept_or (Some mode) None = Some All
 kept_or (Some mode) (Some d) = kept_by mode d
 
-unfoldable pub retention_in : Data → Option Retention
-retention_in d = kept_or (mode_in d) (member (codes "auto_compaction_retention") d)
+unfoldable pub retention_by : Mode → Data → Option Retention
+retention_by usual d = kept_or (mode_in usual d) (member (codes "auto_compaction_retention") d)
 
--- a change: none where no retention is told, and some none where it can't be read
+abbrev pub retention_in : Data → Option Retention
+retention_in = retention_by Periodic
+
+-- a change: none where no retention is told, and some none where it can't be read; what is counted stays
 abbrev pub change_or : Option Data → Option Retention → Option (Option Retention)
 change_or None kept = None
 change_or (Some d) kept = Some kept
 
-unfoldable pub retention_change_in : Data → Option (Option Retention)
-retention_change_in d = change_or (member (codes "auto_compaction_retention") d) (retention_in d)
+unfoldable pub retention_change_in : Retention → Data → Option (Option Retention)
+retention_change_in before d = change_or (member (codes "auto_compaction_retention") d) (retention_by (counted_by before) d)
 
 -- how a retention is told: the name of what it counts, and its text
 abbrev pub mode_name : Retention → List ℕ

@@ -4,8 +4,8 @@ ghost use Rattle.std.specs.Prelude.{option_and_then, option_map, string_bytes, i
 ghost use Rattle.std.specs.Char.{is_ascii_digit};
 ghost use Rattle.serde_json.specs.View.{view};
 ghost use Rattle.host_config.specs.Durations.{fitting, seconds_if, seconds_of, seconds_with, with_digit};
-ghost use Rattle.host_config.specs.Retaining.{for_revisions, for_seconds, mode_in, mode_name};
-ghost use Rattle.host_config.specs.Retaining.{retention_change_in, retention_in, retention_text, time_of};
+ghost use Rattle.host_config.specs.Retaining.{counted_by, for_revisions, for_seconds, mode_in, mode_name};
+ghost use Rattle.host_config.specs.Retaining.{retention_by, retention_change_in, retention_in, retention_text, time_of};
 
 use crate::members::{ConfigFault, member, number_in};
 use auto_compaction::{MAX_RETENTION, Retention};
@@ -29,13 +29,33 @@ enum Mode {
     Revision,
 }
 
+impl Mode {
+    /// What is counted of a retention; time where all is kept.
+    fn of(retention: Retention) -> Mode
+        ensures { result ≡ counted_by retention }
+    {
+        match retention {
+            Retention::All | Retention::Seconds(_) => Mode::Periodic,
+            Retention::Revisions(_) => Mode::Revision,
+        }
+    }
+}
+
 /// What of its history a tenant keeps, by the members of its object: all where nothing is told.
-#[tactic(auto, unfolding(crate::specs::Retaining::retention_in))]
 pub(crate) fn retention_of(object: &Value) -> Result<Retention, ConfigFault>
     ensures kept { IfOk result (λ kept. retention_in (view object.now) ≡ Some kept) }
     ensures fault { IfErr result (λ fault. fault ≡ ConfigFault.Unreadable) }
 {
-    let mode = mode_of(object)?;
+    retention_by(object, Mode::Periodic)
+}
+
+/// The same where this is counted unless something else is told.
+#[tactic(auto, unfolding(crate::specs::Retaining::retention_by))]
+fn retention_by(object: &Value, usual: Mode) -> Result<Retention, ConfigFault>
+    ensures kept { IfOk result (λ kept. retention_by usual (view object.now) ≡ Some kept) }
+    ensures fault { IfErr result (λ fault. fault ≡ ConfigFault.Unreadable) }
+{
+    let mode = mode_of(object, usual)?;
     let Some(told) = member(object, "auto_compaction_retention") else {
         return Ok(Retention::All);
     };
@@ -45,16 +65,21 @@ pub(crate) fn retention_of(object: &Value) -> Result<Retention, ConfigFault>
     }
 }
 
-/// The change that is asked for; none where nothing is told. A mode by itself says nothing.
+/// The change that is asked for; none where nothing is told. Where no mode is told, what is counted stays. A mode by
+/// itself says nothing.
 #[tactic(auto, unfolding(crate::specs::Retaining::retention_change_in))]
-pub fn retention_change_of(object: &Value) -> Result<Option<Retention>, ConfigFault>
-    ensures change { IfOk result (λ change. retention_change_in (view object.now) ≡ option_map Some change) }
+pub fn retention_change_of(
+    object: &Value,
+    before: Retention,
+) -> Result<Option<Retention>, ConfigFault>
+    ensures change { IfOk result
+        (λ change. retention_change_in before (view object.now) ≡ option_map Some change) }
     ensures fault { IfErr result (λ fault. fault ≡ ConfigFault.Unreadable) }
 {
     let has_mode = member(object, "auto_compaction_mode").is_some();
     let has_retention = member(object, "auto_compaction_retention").is_some();
     match (has_mode, has_retention) {
-        (_, true) => Ok(Some(retention_of(object)?)),
+        (_, true) => Ok(Some(retention_by(object, Mode::of(before))?)),
         (false, false) => Ok(None),
         (true, false) => Err(ConfigFault::Unreadable),
     }
@@ -73,12 +98,12 @@ pub fn retention_told(alloc: Global, retention: Retention) -> Mem<(&'static str,
 }
 
 #[tactic(auto, unfolding(crate::specs::Retaining::mode_in))]
-fn mode_of(object: &Value) -> Result<Mode, ConfigFault>
-    ensures mode { IfOk result (λ mode. mode_in (view object.now) ≡ Some mode) }
+fn mode_of(object: &Value, usual: Mode) -> Result<Mode, ConfigFault>
+    ensures mode { IfOk result (λ mode. mode_in usual (view object.now) ≡ Some mode) }
     ensures fault { IfErr result (λ fault. fault ≡ ConfigFault.Unreadable) }
 {
     match member(object, "auto_compaction_mode") {
-        None => Ok(Mode::Periodic),
+        None => Ok(usual),
         Some(Value::String(mode)) if mode.as_str() == "periodic" => Ok(Mode::Periodic),
         Some(Value::String(mode)) if mode.as_str() == "revision" => Ok(Mode::Revision),
         Some(_) => Err(ConfigFault::Unreadable),

@@ -76,9 +76,12 @@ impl NewTerms {
     }
 }
 
-/// What of its history a tenant is to keep, if a body says so.
-fn retention_in(object: &Value) -> Result<Option<Retention>, OperatorRefusal> {
-    match retention_change_of(object) {
+/// What of its history a tenant is to keep that kept this, if a body says so.
+fn retention_in(
+    object: &Value,
+    before: Retention,
+) -> Result<Option<Retention>, OperatorRefusal> {
+    match retention_change_of(object, before) {
         Ok(retention) => Ok(retention),
         Err(_) => Err(OperatorFault::Limits.into()),
     }
@@ -261,7 +264,7 @@ where
         Ok(NewTerms {
             told: *told,
             changes,
-            retention: retention_in(object)?,
+            retention: retention_in(object, told.allowance.retention)?,
         })
     }
 

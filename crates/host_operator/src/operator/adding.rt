@@ -7,6 +7,7 @@ use crate::answer::OperatorAnswer;
 use crate::calls::OperatorRefusal;
 use crate::directory::TenantDirectory;
 use crate::operator::{Operator, Told, retention_in};
+use auto_compaction::Retention;
 use connection_table::Allowance;
 use etcd_types::Mem;
 use host_config::{allowance_of, object_of, tenant_of};
@@ -45,7 +46,7 @@ impl WantedTenant {
 
 /// What the clients of a tenant of that quota may take. What it is to keep is looked at first.
 fn allowance_in(object: &Value, quota: u64) -> Result<Allowance, OperatorRefusal> {
-    retention_in(object)?;
+    retention_in(object, Retention::All)?;
     Ok(allowance_of(object, quota)?)
 }
 
