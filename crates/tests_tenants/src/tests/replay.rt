@@ -3,13 +3,13 @@
 mod single;
 mod steps;
 
+use crate::tests::rows::{Row, rows};
 use etcd_types::Mem;
 use host_front::LentLine;
 use script_replay::{Asked, read_line};
 use single::Singles;
 use std::alloc::Global;
 use std::process::Abort;
-use crate::tests::rows::{Row, rows};
 use test_segments::{SOURCES, Source};
 
 /// What a script is answered by tenants that each have segments of their own from a source.

@@ -1,4 +1,5 @@
 //! The rows as lists: all lines of a script asked at once, and each run of its events.
+use crate::tests::rows::{Row, live_rows, rows};
 use etcd_types::Mem;
 use etcd_types::limits::{DEFAULT_SEGMENTS, MAX_SEGMENTS};
 use host_front::{Answer, Front, HostEvent, HostLine, LentEvent, LentLine, LineAnswer};
@@ -7,7 +8,6 @@ use std::alloc::Global;
 use std::mem;
 use std::process::Abort;
 use steps_core::Host;
-use crate::tests::rows::{Row, live_rows, rows};
 
 /// A script's lines, and how many segments its host has.
 #[derive(Drop)]

@@ -4,6 +4,7 @@
 //! One small function owns the host: each way out of it is long to prove.
 use super::single::step_of;
 use super::write_answer;
+use crate::tests::rows::{Row, rows};
 use etcd_types::limits::DEFAULT_SEGMENTS;
 use etcd_types::{Mem, Step};
 use gateway_json::target_of;
@@ -14,7 +15,6 @@ use std::alloc::Global;
 use std::process::Abort;
 use std::test::Fail;
 use steps_core::Host;
-use crate::tests::rows::{Row, rows};
 
 /// Whom an event asks: nobody, if a call's target names no tenant.
 fn tenant_of(event: LentEvent<'_>) -> &[u8] {
