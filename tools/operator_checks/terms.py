@@ -4,7 +4,9 @@ Each test is given the program, and raises `Wrong` where something is not as it 
 """
 import contextlib
 import re
+import threading
 import time
+from concurrent.futures import ThreadPoolExecutor
 
 from shared.http_client import text
 from shared.operated_host import Host, asked_until, error
@@ -92,6 +94,51 @@ def a_budget_is_its_tenants(program):
         want_ranges(client, ["one"], ["two", "four"])
         host.expect_status(200, "PATCH", "/tenants/two", {"budget": 4 * LEAST_BUDGET})
         want_ranges(client, ["one", "two"], ["four"])
+
+
+def keep_busy(host, name, ends):
+    """Makes calls that take a worker long to read, one after another."""
+    with host.connect() as client:
+        while not ends.is_set():
+            client.call(name, "kv/range", '{"key":"%s"}' % ("QUFB" * 400_000))
+
+
+def watches_of_a_busy_tenant_are_told(program):
+    """As many as are open, whoever has its turn: a tenant is moved once they have ended. Nobody has asked for numbers before."""
+    ends = threading.Event()
+    with three(program) as host, contextlib.ExitStack() as stack, ThreadPoolExecutor(4) as threads:
+        for _ in range(5):
+            stack.enter_context(host.watch("two", KEY)).told()
+        busy = [threads.submit(keep_busy, host, "two", ends) for _ in range(4)]
+        told = {host.expect_status(200, "GET", "/tenants/two")["watches"] for _ in range(50)}
+        ends.set()
+        for one in busy:
+            one.result()
+        want(told == {5}, f"of five watches are told {told}")
+        want([host.expect_status(200, "GET", f"/tenants/{name}")["watches"] for name in ("one", "three")] == [0, 0],
+             "another tenant has a watch")
+
+
+def connections_of_a_tenant_that_was_removed_go_first(program):
+    """They ask on, and are nobody's. The others have had no call for longer, and as many as may be open are."""
+    with three(program, open_connections=6) as host, contextlib.ExitStack() as stack:
+        for name in NAMES:
+            host.expect_status(200, "PATCH", f"/tenants/{name}", {"open_connections": 4})
+        alive = [(name, stack.enter_context(host.connect())) for name in ("one", "one", "three", "three")]
+        for name, client in alive:
+            client.call(name, "kv/put", PUT)
+        gone = [stack.enter_context(host.connect()) for _ in range(2)]
+        for client in gone:
+            client.call("two", "kv/put", PUT)
+        host.expect_status(204, "DELETE", "/tenants/two")
+        for client in gone:
+            client.expect("two", "kv/put", PUT, REFUSALS["NoTenant"])
+        for _ in range(2):
+            stack.enter_context(host.connect()).call("one", "kv/put", PUT)
+        for client in gone:
+            client.ended(10)
+        for name, client in alive:
+            want(client.call(name, "kv/put", PUT).status == 200, f"a connection of tenant {name} went before")
 
 
 def order_of(said):
@@ -190,4 +237,5 @@ def after_a_fault_nothing_changed(program):
 
 
 TESTS = [a_bound_on_connections_is_its_tenants, a_budget_is_its_tenants, a_standing_order_comes_and_goes,
-         a_tenant_comes_with_its_standing_order, a_time_is_told_as_it_was_given, after_a_fault_nothing_changed]
+         a_tenant_comes_with_its_standing_order, a_time_is_told_as_it_was_given, after_a_fault_nothing_changed,
+         watches_of_a_busy_tenant_are_told, connections_of_a_tenant_that_was_removed_go_first]

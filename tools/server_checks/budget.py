@@ -273,6 +273,35 @@ def a_watch_that_is_read_is_told_all(program):
             watch.events(1)
 
 
+def trickle(client, ends):
+    """Sends a byte of a long body each second."""
+    while not ends.wait(1):
+        client.send(b" ")
+
+
+def a_watch_far_behind_is_told_beside_one_that_finds_no_budget(program):
+    """A body that comes slowly has half of the budget, and the next text of one watch weighs more than what is left. Another one
+    is two thousand changes behind."""
+    ends = threading.Event()
+    with budgeted(program, LEAST_BUDGET) as server, server.connect() as other, server.watch("two", KEY) as starved:
+        starved.told()
+        for _ in range(20):
+            other.send(request(path("two", "kv/put"), '{"key":"Yg=="}') * 100)
+            for _ in range(100):
+                want(other.answer().status == 200, "a put is refused")
+        with begun_body(server) as slow, ThreadPoolExecutor(1) as threads:
+            threads.submit(trickle, slow, ends)
+            try:
+                want(other.call("two", "kv/put", long_put(1_200_000)).status == 200, "a long put is refused")
+                want_quiet(starved, 3)
+                with server.watch("two", '{"key":"Yg==","start_revision":"2"}') as behind:
+                    behind.told()
+                    want(len(behind.events(16)) == 16, "sixteen events")
+                want_others_served(other)
+            finally:
+                ends.set()
+
+
 def keep_busy(server, name, ends, answered):
     """Makes calls that take a worker long to read, one after another, and counts them."""
     with server.connect() as client:
@@ -313,6 +342,7 @@ TESTS = [an_answer_that_is_too_long_is_refused_before_it_is_made, a_range_of_wha
          a_budget_that_is_not_told_grows_with_the_quota, a_body_waits_for_its_share,
          a_body_that_gets_its_share_is_served, a_body_that_gets_no_share_in_time_is_refused,
          a_body_that_takes_too_much_to_read_is_refused, watches_that_nobody_reads_stop_at_the_budget,
-         a_text_is_made_where_the_budget_has_room_for_it, a_watch_that_is_read_is_told_all]
+         a_text_is_made_where_the_budget_has_room_for_it, a_watch_that_is_read_is_told_all,
+         a_watch_far_behind_is_told_beside_one_that_finds_no_budget]
 # What keeps all processors busy, and so has to go behind all others.
 BUSY = [a_worker_is_left_to_tenants_whose_calls_are_brief]

@@ -83,6 +83,15 @@ impl Counts {
         }
     }
 
+    /// How many connections go before others': as many as the owner has. Those of a tenant that is there no more go first:
+    /// nothing bounds them.
+    pub(crate) fn beside(&self, owner: u64) -> usize {
+        match lock(&self.owners) {
+            Some(owners) => owners.get(&owner).map_or(usize::MAX, |owned| owned.open),
+            None => usize::MAX,
+        }
+    }
+
     /// Takes the memory that one more tenant needs.
     pub(crate) fn make_room(&self) -> Mem<()> {
         match lock(&self.owners) {

@@ -97,8 +97,8 @@ impl<R: Clock + Drop> ConnectionTable<R> {
         Some(OpenConnection { entry, counts })
     }
 
-    /// Ends the connection that is idle for longest, of the owner that has most among those with an idle one; `false`
-    /// where none is idle.
+    /// Ends the connection that is idle for longest, of a tenant that is there no more or else of the owner that has most,
+    /// among those with an idle one; `false` where none is idle.
     fn end_longest_idle(&self) -> bool {
         let mut longest: Option<Idle<'_>> = None;
         for entry in self.entries.as_slice() {
@@ -133,6 +133,11 @@ impl<R: Clock + Drop> ConnectionTable<R> {
         self.counts.open()
     }
 
+    /// How many are open.
+    pub fn open(&self) -> usize {
+        self.counts.open()
+    }
+
     /// Ends all connections.
     pub fn end_all(&self) {
         for entry in self.entries.as_slice() {
@@ -144,7 +149,7 @@ impl<R: Clock + Drop> ConnectionTable<R> {
         let since = entry.idle_since()?;
         Some(Idle {
             entry,
-            beside: self.counts.of_owner(entry.owner()),
+            beside: self.counts.beside(entry.owner()),
             since,
         })
     }

@@ -73,7 +73,7 @@ impl<R: Clock + Drop> Stall<R> {
         self.wait_for(Duration::from_millis(MILLIS_A_REST));
     }
 
-    /// No piece is there: ready once the time for it is over.
+    /// No piece is there: ready once the time for it is over; at once where there is no memory for a timer.
     pub fn poll_over(&mut self, cx: &mut Context<'_>) -> Poll<()>
         requires { IsArmed cx.old }
         ensures registered { OnPending result (IsArmed cx.new) }
@@ -82,6 +82,8 @@ impl<R: Clock + Drop> Stall<R> {
         self.begin();
         match &mut self.sleep {
             Some(sleep) => sleep.poll(cx).map(|_| ()),
+            // Nothing would tell when it is over.
+            None if self.timer.is_some() => Poll::Ready(()),
             None => Poll::Pending,
         }
     }
@@ -97,7 +99,7 @@ impl<R: Clock + Drop> Stall<R> {
         }
     }
 
-    /// The time begins, unless it has. Where there is no memory for a timer, it is tried again with the next piece.
+    /// The time begins, unless it has, or where there is no memory for a timer.
     fn begin(&mut self) {
         if let (None, Some(timer)) = (&self.sleep, &self.timer) {
             self.sleep = timer.timers.sleep(&self.rt, timer.patience).ok();

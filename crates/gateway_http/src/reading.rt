@@ -188,7 +188,8 @@ impl<I: Drop, R: Wait + Clock + Copy + Drop> Reading<I, R> {
             Some(Ok(frame)) => Poll::Ready(Ok(Some(self.take_in(frame)))),
             Some(Err(LimitedError::LengthLimit)) => {
                 self.lost = Some(Loss::TooLarge);
-                Poll::Ready(Ok(Some(0)))
+                // How long it was isn't told: others come before the next one, as behind the longest.
+                Poll::Ready(Ok(Some(BYTES_A_POLL)))
             }
             Some(Err(LimitedError::Body(e))) => Poll::Ready(Err(e)),
             None => Poll::Ready(Ok(None)),

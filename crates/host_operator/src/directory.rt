@@ -17,8 +17,11 @@ pub trait TenantDirectory: Drop {
     /// How many bytes of its budget are left.
     fn budget_left(&self, name: &[u8]) -> Option<usize>;
 
-    /// How many watches its clients have open; none also where somebody has the turn there.
+    /// How many watches its clients have open. It waits until the turn that somebody may have there has ended.
     fn open_watches(&self, name: &[u8]) -> Option<usize>;
+
+    /// The same at once; none also where somebody has the turn there.
+    fn open_watches_now(&self, name: &[u8]) -> Option<usize>;
 
     /// What is counted of it.
     fn counts(&self, name: &[u8]) -> Mem<Option<Arc<TenantCounts>>>;

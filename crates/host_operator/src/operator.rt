@@ -77,10 +77,7 @@ impl NewTerms {
 }
 
 /// What of its history a tenant is to keep that kept this, if a body says so.
-fn retention_in(
-    object: &Value,
-    before: Retention,
-) -> Result<Option<Retention>, OperatorRefusal> {
+fn retention_in(object: &Value, before: Retention) -> Result<Option<Retention>, OperatorRefusal> {
     match retention_change_of(object, before) {
         Ok(retention) => Ok(retention),
         Err(_) => Err(OperatorFault::Limits.into()),

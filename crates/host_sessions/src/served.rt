@@ -78,7 +78,14 @@ impl<R: Wait + Clock + Copy + Drop> TenantDirectory for ServedTenants<R> {
 
     fn open_watches(&self, name: &[u8]) -> Option<usize> {
         match self.lent(name) {
-            Some(lent) => lent.tenant.open_watches(),
+            Some(lent) => Some(lent.tenant.open_watches(&self.rt)),
+            None => None,
+        }
+    }
+
+    fn open_watches_now(&self, name: &[u8]) -> Option<usize> {
+        match self.lent(name) {
+            Some(lent) => lent.tenant.open_watches_now(),
             None => None,
         }
     }

@@ -110,7 +110,8 @@ fn take_and_schedule<R: Wait + Clock + Drop, C: TenantCalls>(
             }
         }
     }
-    if has_more && all_answered {
+    // Also beside a watch that finds no budget: one that is far behind is told nothing before it is caught up.
+    if has_more {
         scheduler.schedule(rt, turns, Work::CatchUp);
     }
 }

@@ -81,8 +81,13 @@ impl<R: Wait + Drop, K: TenantKey> ServedTenant<R, K> {
         self.entrance.budget.left()
     }
 
-    /// How many watches its clients have open; none where somebody has the turn there.
-    pub fn open_watches(&self) -> Option<usize> {
+    /// How many watches its clients have open. It waits until the turn that somebody may have there has ended.
+    pub fn open_watches(&self, rt: &R) -> usize {
+        self.clients.lock(rt).watches.len()
+    }
+
+    /// The same at once; none where somebody has the turn there.
+    pub fn open_watches_now(&self) -> Option<usize> {
         let clients = self.clients.try_lock()?;
         Some(clients.watches.len())
     }

@@ -43,12 +43,27 @@ impl<R: Wait + Clock + Copy + Drop, K: TenantKey> Arrivals<R, K> {
             tenants,
         } = self;
         let accepted = accept_all(&rt, &listener, &stopping, acceptor, &mut table, connections);
+        wait_for_the_last(&rt, &table, &stopping);
         if stopping.is_told() && !end_idle(&rt, &table, &tenants) {
             // A connection whose watch is open reads nothing, and learns that it has ended by what the watch is told.
             table.end_all();
             end_idle(&rt, &table, &tenants);
         }
         accepted
+    }
+}
+
+/// Waits until no connection is open any more, or until the server is told to end: also where as many have come as were told.
+fn wait_for_the_last<R: Wait + Clock + Drop>(
+    rt: &R,
+    table: &ConnectionTable<R>,
+    stopping: &Stopping,
+) {
+    for _ in rt.forever() {
+        if table.open() == 0 || stopping.is_told() {
+            return;
+        }
+        thread::sleep(rt, Duration::from_millis(PAUSE));
     }
 }
 

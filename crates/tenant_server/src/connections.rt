@@ -226,7 +226,7 @@ struct Connections<'a, R: Wait + Drop, S: CallServer<R>, M, T: Future> {
     reactor: reactor::Handle,
     tasks: &'a TaskGroup<T>,
     maker: M,
-    beats: Option<Interval>,
+    beats: Interval,
     /// None once the loop has said that it is ready.
     ready: Option<Sender<()>>,
 }
@@ -245,9 +245,7 @@ where
         if let Some(ready) = self.ready.take() {
             let _ = ready.send(&self.rt, ());
         }
-        if let Some(beats) = &mut self.beats
-            && beats.poll_tick(cx).is_ready()
-        {
+        if self.beats.poll_tick(cx).is_ready() {
             self.server.beat();
             return cx.yield_now();
         }
@@ -265,6 +263,8 @@ where
             if !self.tasks.begin(self.maker.make(Some(arrived))) {
                 self.losses.add();
             }
+        } else {
+            self.losses.add();
         }
         cx.yield_now()
     }
@@ -331,7 +331,7 @@ where
     } = own;
     let streams = streams_of(rt, alloc, &event_loop, Arc::try_clone(server)?, patience)?;
     let reactor = event_loop.reactor().clone()?;
-    let beats = beats_of(&rt, &event_loop);
+    let beats = beats_of(&rt, &event_loop)?;
     let maker = TaskMaker {
         rt,
         alloc,
@@ -348,12 +348,10 @@ where
     run_tasks(rt, &mut event_loop, &**server, arriving, maker)
 }
 
-/// When a loop shows that it moves; none where there is no memory for that.
-fn beats_of<R: Clock>(rt: &R, event_loop: &EventLoop) -> Option<Interval> {
-    event_loop
-        .timers()
-        .interval(rt, Duration::from_secs(SECONDS_A_BEAT))
-        .ok()
+/// When a loop shows that it moves.
+fn beats_of<R: Clock>(rt: &R, event_loop: &EventLoop) -> io::Result<Interval> {
+    let timers = event_loop.timers();
+    Ok(timers.interval(rt, Duration::from_secs(SECONDS_A_BEAT))?)
 }
 
 /// What a loop's connections come by.
@@ -362,7 +360,7 @@ struct Arriving {
     sockets: UnboundedReceiver<Accepted>,
     losses: Losses,
     reactor: reactor::Handle,
-    beats: Option<Interval>,
+    beats: Interval,
     ready: Sender<()>,
 }
 

@@ -244,7 +244,8 @@ where
     }
 
     /// The same, while other work is done on this thread, as that of an operator who has the registry to himself. The
-    /// work is to go on until the other end of its channel is let go: until the last connection has ended.
+    /// work is to go on until the other end of its channel is let go: until the last connection has ended. Where it fails
+    /// before, the server is told to end.
     pub fn run_beside<C, W>(self, rt: R, calls: Vec<C>, work: W) -> Result<Ended<C>, ServeFault>
     where
         C: TenantCalls<Key = K> + Send,
@@ -265,9 +266,13 @@ where
             connections_of_tenant: _,
             count: _,
         } = self;
-        let bring = move |_jobs| {
-            let _ = work(ended);
-            Ok(0)
+        let stopping = Arc::try_clone(&arrivals.stopping)?;
+        let bring = move |_jobs| match work(ended) {
+            Ok(()) => Ok(0),
+            Err(error) => {
+                stopping.tell();
+                Err(ServeFault::of(&error))
+            }
         };
         run_threads(rt, threads, calls, loops, Some(arrivals), bring)
     }

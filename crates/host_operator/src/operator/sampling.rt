@@ -84,7 +84,7 @@ where
 
     /// How many watches its clients have open. It borrows the operator whole, as `usage_now` does.
     fn open_watches(&self, name: &[u8]) -> Option<usize> {
-        self.directory.open_watches(name)
+        self.directory.open_watches_now(name)
     }
 
     /// The samples of all tenants that are known to use something.
