@@ -27,7 +27,7 @@ pub use lease::GrantReq;
 pub use list::List;
 pub use refusal::Refusal;
 pub use reply::{Header, OpReply, Reply};
-pub use rows::{RowShape, RowsInPlace};
+pub use rows::{RangeInPlace, ReplyInPlace, RowShape, RowsInPlace};
 pub use step::Step;
 pub use txn::{Compare, CompareResult, CompareTarget, Op, Operand, TxnReq};
 pub use watch::{Filters, WatchReq};

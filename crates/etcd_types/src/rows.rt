@@ -4,6 +4,8 @@ ghost use Rattle.etcd_types.specs.Rows.{shape_of};
 
 use crate::copy::Mem;
 use crate::key_value::KeyValue;
+use crate::list::List;
+use crate::reply::Header;
 
 /// A row whose key and value are known by their lengths alone.
 #[derive(Clone, Copy)]
@@ -38,4 +40,30 @@ pub trait RowsInPlace {
     fn read(&self, place: usize, row: &mut KeyValue) -> Mem<()>
         requires { place < length (rows self.now) }
         ensures { OnOk result (drop place (rows self.now) ≡ row.new ∷ drop (place + 1) (rows self.now)) };
+}
+
+/// What a range is answered whose rows are not made.
+#[derive(Drop)]
+pub struct RangeInPlace<S> {
+    /// The revision at which it is answered.
+    pub revision: i64,
+    /// How many rows the interval has.
+    pub count: u64,
+    /// The limit cuts some of them.
+    pub more: bool,
+    pub rows: S,
+}
+
+/// An answer whose rows are not made: to a range, or to a transaction that reads alone.
+#[derive(Drop)]
+pub enum ReplyInPlace<S> {
+    Range {
+        header: Header,
+        range: RangeInPlace<S>,
+    },
+    Txn {
+        header: Header,
+        succeeded: bool,
+        responses: List<RangeInPlace<S>>,
+    },
 }

@@ -1,44 +1,142 @@
-//! The answer to a range whose rows are not made: each is read where it lies, and written before the next is read.
-ghost use Rattle.std.specs.Prelude.{◌≡◌, ◌++◌, IsTrue, IfOk, OnOk, false};
-ghost use Rattle.serde_json.specs.Written.{items_text};
-ghost use Rattle.etcd_types.specs.declared.reply.Reply.TheVariants.{Range};
-ghost use Rattle.etcd_model.specs.ReplyText.{items_of, key_value_data, list_member, reply_body, reply_status};
+//! Answers whose rows are not made: each row is read where it lies, and written before the next is read.
+ghost use Rattle.std.specs.Prelude.{◌≡◌, ◌++◌, IsTrue, IfOk, OnOk, false, map};
+ghost use Rattle.serde_json.specs.Data.{object};
+ghost use Rattle.serde_json.specs.Written.{compact_text, items_text};
+ghost use Rattle.etcd_types.specs.Rows.{op_reply_of, reply_of};
+ghost use Rattle.etcd_model.specs.ReplyText.{items_of, key_value_data, list_member, range_members, reply_body};
+ghost use Rattle.etcd_model.specs.ReplyText.{reply_status, response_data, txn_data};
 ghost use Rattle.gateway_text.specs.Plain.{is_plain};
 ghost use Rattle.gateway_text.specs.Wrote.{WroteMembers};
 
+use crate::header::InnerHeader;
 use crate::list::{WriteItem, write_item};
 use crate::member::{write_comma, write_flag, write_name, write_unsigned};
-use crate::size::empty_range_text;
+use crate::size::empty_text_in_place;
 use crate::text::push_str;
-use etcd_types::{Header, KeyValue, List, Mem, RowsInPlace};
+use etcd_types::{Header, KeyValue, List, Mem, RangeInPlace, ReplyInPlace, RowsInPlace};
 use std::alloc::Global;
 
-/// The status of HTTP and the body of a range's answer, whose rows are read where they lie, one at
-/// a time. It fails only for want of memory.
-pub fn write_range<S: RowsInPlace>(
-    alloc: Global,
-    header: &Header,
-    count: u64,
-    rows: &S,
-    more: bool,
-) -> Mem<(u16, Vec<u8>)>
-    ensures status { IfOk result (λ answer. answer.0
-        ≡ reply_status (Range header.now count (S.rows rows.now) more)) }
-    ensures body { IfOk result (λ answer. answer.1.items
-        ≡ reply_body (Range header.now count (S.rows rows.now) more)) }
+/// The status of HTTP and the body of an answer whose rows are read where they lie, one at a time. It fails only for want of
+/// memory.
+pub fn write_in_place<S: RowsInPlace>(alloc: Global, reply: &ReplyInPlace<S>) -> Mem<(u16, Vec<u8>)>
+    ensures status { IfOk result (λ answer. answer.0 ≡ reply_status (reply_of S.rows reply.now)) }
+    ensures body { IfOk result (λ answer. answer.1.items ≡ reply_body (reply_of S.rows reply.now)) }
 {
-    let mut out = empty_range_text(alloc, rows)?;
-    push_str(&mut out, "{")?;
-    let later = write_unsigned(&mut out, false, "count", count)?;
-    let later = write_item(&mut out, later, "header", header)?;
-    let later = write_list(alloc, &mut out, later, "kvs", rows)?;
-    write_flag(&mut out, later, "more", more)?;
-    push_str(&mut out, "}")?;
+    let mut out = empty_text_in_place(alloc, reply)?;
+    write_body(alloc, &mut out, reply)?;
     Ok((200, out))
 }
 
+/// Writes the body.
+#[tactic(auto, unfolding(etcd_model::specs::ReplyText::range_data))]
+fn write_body<S: RowsInPlace>(alloc: Global, out: &mut Vec<u8>, reply: &ReplyInPlace<S>) -> Mem<()>
+    ensures { OnOk result (out.new.items ≡ out.old.items ++ reply_body (reply_of S.rows reply.now)) }
+{
+    match reply {
+        ReplyInPlace::Range { header, range } => write_range(alloc, out, header, range),
+        ReplyInPlace::Txn {
+            header,
+            succeeded,
+            responses,
+        } => write_txn(alloc, out, header, *succeeded, responses.as_slice()),
+    }
+}
+
+/// Writes the answer to a range.
+fn write_range<H: WriteItem, S: RowsInPlace>(
+    alloc: Global,
+    out: &mut Vec<u8>,
+    header: &H,
+    range: &RangeInPlace<S>,
+) -> Mem<()>
+    ensures { OnOk result (out.new.items ≡ out.old.items ++ compact_text (object
+        (range_members (H.data_of header.now) range.now.count (S.rows range.now.rows) range.now.more))) }
+{
+    push_str(out, "{")?;
+    let later = write_unsigned(out, false, "count", range.count)?;
+    let later = write_item(out, later, "header", header)?;
+    let later = write_rows(alloc, out, later, "kvs", &range.rows)?;
+    write_flag(out, later, "more", range.more)?;
+    push_str(out, "}")?;
+    Ok(())
+}
+
+/// Writes the answer to a transaction.
+fn write_txn<S: RowsInPlace>(
+    alloc: Global,
+    out: &mut Vec<u8>,
+    header: &Header,
+    succeeded: bool,
+    responses: &[RangeInPlace<S>],
+) -> Mem<()>
+    ensures { OnOk result (out.new.items ≡ out.old.items
+        ++ compact_text (txn_data header.now succeeded (map (op_reply_of S.rows) responses.now))) }
+{
+    push_str(out, "{")?;
+    let later = write_item(out, false, "header", header)?;
+    let later = write_responses(alloc, out, later, "responses", responses)?;
+    write_flag(out, later, "succeeded", succeeded)?;
+    push_str(out, "}")?;
+    Ok(())
+}
+
+/// Writes the list of what a transaction's ranges are answered, unless it is empty.
+fn write_responses<S: RowsInPlace>(
+    alloc: Global,
+    out: &mut Vec<u8>,
+    later: bool,
+    name: &str,
+    responses: &[RangeInPlace<S>],
+) -> Mem<bool>
+    requires { IsTrue (is_plain name.now) }
+    ensures { IfOk result (λ after. WroteMembers out.old.items later out.new.items after
+        (list_member response_data name.now (map (op_reply_of S.rows) responses.now))) }
+{
+    if responses.is_empty() {
+        return Ok(later);
+    }
+    write_name(out, later, name)?;
+    push_str(out, "[")?;
+    write_each_response(alloc, out, responses)?;
+    Ok(true)
+}
+
+/// Writes the items of that list and the bracket after them.
+fn write_each_response<S: RowsInPlace>(
+    alloc: Global,
+    out: &mut Vec<u8>,
+    responses: &[RangeInPlace<S>],
+) -> Mem<()>
+    ensures { OnOk result (out.new.items ≡ out.old.items
+        ++ items_text false (items_of response_data (map (op_reply_of S.rows) responses.now))) }
+{
+    let mut later = false;
+    for response in responses {
+        write_comma(out, later)?;
+        write_response(alloc, out, response)?;
+        later = true;
+    }
+    push_str(out, "]")?;
+    Ok(())
+}
+
+/// Writes what one of them is answered.
+fn write_response<S: RowsInPlace>(
+    alloc: Global,
+    out: &mut Vec<u8>,
+    response: &RangeInPlace<S>,
+) -> Mem<()>
+    ensures { OnOk result (out.new.items
+        ≡ out.old.items ++ compact_text (response_data (op_reply_of S.rows response.now))) }
+{
+    push_str(out, "{\"response_range\":")?;
+    write_range(alloc, out, &InnerHeader(&response.revision), response)?;
+    push_str(out, "}")?;
+    Ok(())
+}
+
 /// Writes the list of rows, unless it is empty.
-fn write_list<S: RowsInPlace>(
+fn write_rows<S: RowsInPlace>(
     alloc: Global,
     out: &mut Vec<u8>,
     later: bool,
@@ -54,12 +152,12 @@ fn write_list<S: RowsInPlace>(
     }
     write_name(out, later, name)?;
     push_str(out, "[")?;
-    write_rows(alloc, out, rows)?;
+    write_each_row(alloc, out, rows)?;
     Ok(true)
 }
 
 /// Writes the rows and the bracket after them. One row is held at a time, whose memory is used again.
-fn write_rows<S: RowsInPlace>(alloc: Global, out: &mut Vec<u8>, rows: &S) -> Mem<()>
+fn write_each_row<S: RowsInPlace>(alloc: Global, out: &mut Vec<u8>, rows: &S) -> Mem<()>
     ensures { OnOk result (out.new.items
         ≡ out.old.items ++ items_text false (items_of key_value_data (S.rows rows.now))) }
 {

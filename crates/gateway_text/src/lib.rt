@@ -15,7 +15,7 @@ mod size;
 mod streams;
 mod text;
 
-pub use in_place::write_range;
+pub use in_place::write_in_place;
 pub use law::answers_read_back;
 pub use refusal::{MEMORY_TEXT, memory_text};
 pub use replies::write_reply;

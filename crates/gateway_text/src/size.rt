@@ -2,16 +2,17 @@
 //!
 //! Rows count as they are. What stands beside them is an upper estimate: each number counts as the longest there is, and each
 //! member even where it is left out.
-ghost use Rattle.std.specs.Prelude.{◌≡◌, ◌≤◌, ◌-◌, ◌^◌, ℕ, Bool, [], min, sum_by, true, vec_capacity, IfOk};
+ghost use Rattle.std.specs.Prelude.{◌≡◌, ◌≤◌, ◌-◌, ◌^◌, ℕ, [], min, sum_by, true, vec_capacity, IfOk};
 ghost use Rattle.base64.specs.Rfc4648.{encoded_size};
-ghost use Rattle.etcd_types.specs.declared.reply.Header.{Header};
-ghost use Rattle.etcd_types.specs.declared.reply.Reply.TheVariants.{Range};
+ghost use Rattle.etcd_types.specs.Rows.{op_reply_of, reply_of};
 ghost use Rattle.gateway_text.specs.Room.{body_room, bytes_room, event_room, key_room, lease_room};
-ghost use Rattle.gateway_text.specs.Room.{digits, member_room, numbers_room, op_room, row_room};
+ghost use Rattle.gateway_text.specs.Room.{digits, lists_room, member_room, numbers_room, op_room, row_room};
 ghost use Rattle.gateway_text.specs.Room.{shape_room, some_room};
 
 use base64::encoded_len;
-use etcd_types::{Event, KeyValue, List, Mem, OpReply, Reply, RowShape, RowsInPlace};
+use etcd_types::{
+    Event, KeyValue, List, Mem, OpReply, RangeInPlace, Reply, ReplyInPlace, RowShape, RowsInPlace,
+};
 use std::alloc::Global;
 
 /// The longest reply with no rows and no lists.
@@ -48,14 +49,26 @@ pub(crate) fn empty_text(alloc: Global, reply: &Reply) -> Mem<Vec<u8>>
     Vec::with_capacity(alloc, body_size(reply))
 }
 
-/// A text with nothing in it, and with room for the answer to a range, which is that of its reply.
-/// No row is read.
-pub(crate) fn empty_range_text<S: RowsInPlace>(alloc: Global, rows: &S) -> Mem<Vec<u8>>
+/// The same for a reply whose rows lie in place, of which none is read.
+pub(crate) fn empty_text_in_place<S: RowsInPlace>(
+    alloc: Global,
+    reply: &ReplyInPlace<S>,
+) -> Mem<Vec<u8>>
     ensures none { IfOk result (λ out. out.items ≡ []) }
-    ensures room { (header : Header) → (count : ℕ) → (more : Bool) → IfOk result (λ out. vec_capacity out
-        ≡ min (body_room (Range header count (S.rows rows.now) more)) (2 ^ 64 - 1)) }
+    ensures room { IfOk result (λ out. vec_capacity out
+        ≡ min (body_room (reply_of S.rows reply.now)) (2 ^ 64 - 1)) }
 {
-    Vec::with_capacity(alloc, REPLY.saturating_add(rows_size(rows)))
+    Vec::with_capacity(alloc, REPLY.saturating_add(lists_size(reply)))
+}
+
+/// How many bytes the lists of a reply have at most.
+fn lists_size<S: RowsInPlace>(reply: &ReplyInPlace<S>) -> usize
+    ensures { result ≡ min (lists_room (reply_of S.rows reply.now)) (2 ^ 64 - 1) }
+{
+    match reply {
+        ReplyInPlace::Range { range, .. } => rows_size(&range.rows),
+        ReplyInPlace::Txn { responses, .. } => list_size(responses.as_slice()),
+    }
 }
 
 /// How many bytes the body of a reply has at most.
@@ -191,6 +204,14 @@ impl TextSize for Event {
         EVENT
             .saturating_add(self.kv.text_size())
             .saturating_add(row_size(&self.prev_kv))
+    }
+}
+
+impl<S: RowsInPlace> TextSize for RangeInPlace<S> {
+    ghost room_of = { λ range. op_room (op_reply_of S.rows range) };
+
+    fn text_size(&self) -> usize {
+        RESPONSE.saturating_add(rows_size(&self.rows))
     }
 }
 

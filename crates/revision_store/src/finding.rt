@@ -1,6 +1,7 @@
 //! Ranges whose rows are found, and not made.
-ghost use Rattle.std.specs.Prelude.{◌≡◌, ◌≤◌, false, true, None, length, take, pos, vec_capacity, IfOk, IfSome, is_some};
+ghost use Rattle.std.specs.Prelude.{◌≡◌, ◌≤◌, false, true, None, length, take, pos, vec_capacity, IfOk};
 ghost use Rattle.std.specs.List.Sorted.{IsStrictlySortedBy};
+ghost use Rattle.etcd_types.specs.Rows.{op_reply_of};
 ghost use Rattle.etcd_types.specs.declared.reply.OpReply.TheVariants.{Range as RangeReply};
 ghost use Rattle.etcd_types.specs.declared.txn.Op.TheVariants.{Range as RangeOp};
 ghost use Rattle.etcd_model.specs.Operations.{op_reply};
@@ -19,19 +20,12 @@ use crate::ranging::wanted;
 use crate::rows::first_cells;
 use crate::store::Store;
 use chunk_list::Walk;
-use etcd_types::{CellNo, Mem, RangeReq};
+use etcd_types::{CellNo, Mem, RangeInPlace, RangeReq};
 use range_rows::{is_by_key, is_cut, limit_of, wants_all};
 use std::alloc::Global;
 
 /// A range's answer whose rows lie in their cells.
-#[derive(Drop)]
-pub struct FoundRange<'a> {
-    /// How many rows the interval has.
-    pub count: u64,
-    /// The limit cuts some of them.
-    pub more: bool,
-    pub rows: FoundRows<'a>,
-}
+pub type FoundRange<'a> = RangeInPlace<FoundRows<'a>>;
 
 /// The cells of the rows that a range gives.
 #[derive(Drop)]
@@ -42,27 +36,26 @@ pub(crate) struct FoundCells {
 }
 
 impl Store {
-    /// Finds the rows of a range that gives them in the order of their keys. Where it gives none or another order, or
-    /// where its revision is compacted or still to come, the answer is `None`, which takes no memory.
-    pub fn find_rows(&self, alloc: Global, request: &RangeReq) -> Mem<Option<FoundRange<'_>>>
-        ensures found { IfOk result (λ found. is_some found ≡ is_found self.now request.now) }
-        ensures readable { IfOk result
-            (λ found. IfSome found (λ range.
-            unreadable (reads self.now) (revision_read (reads self.now) request.now.revision) ≡ None)) }
-        ensures reply { IfOk result
-            (λ found. IfSome found (λ range.
-            op_reply (reads self.now) self.now.kept.current (RangeOp request.now)
-            ≡ RangeReply (pos self.now.kept.current) range.count range.rows range.more)) }
+    /// Whether a range's rows can be found: it gives some in the order of their keys, at a revision that can be read.
+    pub fn finds(&self, request: &RangeReq) -> bool
+        ensures { result ≡ is_found self.now request.now }
     {
-        if request.count_only
-            || !is_by_key(request)
-            || self.unreadable(request.revision).is_some()
-        {
-            return Ok(None);
-        }
+        !request.count_only && is_by_key(request) && self.unreadable(request.revision).is_none()
+    }
+
+    /// Finds the rows of such a range.
+    pub fn find_rows(&self, alloc: Global, request: &RangeReq) -> Mem<FoundRange<'_>>
+        requires { is_found self.now request.now ≡ true }
+        ensures { IfOk result (λ range. op_reply_of (λ rows. rows) range
+            ≡ op_reply (reads self.now) self.now.kept.current (RangeOp request.now)) }
+    {
         let FoundCells { cells, count, more } = self.find_cells(alloc, request)?;
-        let rows = FoundRows::new(alloc, &self.log, cells, request.keys_only);
-        Ok(Some(FoundRange { count, more, rows }))
+        Ok(RangeInPlace {
+            revision: self.current() as i64,
+            count,
+            more,
+            rows: FoundRows::new(alloc, &self.log, cells, request.keys_only),
+        })
     }
 
     /// The cells of those rows, in a list with room for no more.

@@ -1,0 +1,10 @@
+use Rattle.etcd_model.specs.ReplyText.{txn_data}
+use Rattle.gateway_text.proofs.WroteLemmas.{object_written, ◌then◌}
+use Rattle.gateway_text.proofs.in_place.write_txn.Goals as goal
+
+pub returns : goal.returns
+unfolding txn_data
+returns g c =
+    object_written _ c.in_ok-push_str.ensures.bytes
+    (c.in_ok-later.ensures then c.in_ok-later-2.ensures then c.in_ok-write_flag.ensures)
+    c.in_ok-push_str-2.ensures.bytes
