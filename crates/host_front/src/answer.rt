@@ -6,7 +6,7 @@ ghost use Rattle.host_front.specs.Bodies.{body_bytes};
 ghost use Rattle.tenant_machine.specs.Finding.{found_reply};
 
 use etcd_types::{Mem, Refusal, Reply};
-use gateway_text::{memory_text, write_range, write_reply};
+use gateway_text::{memory_text, write_in_place, write_reply};
 use std::alloc::Global;
 use std::marker::Model;
 use tenant_machine::FoundAnswer;
@@ -66,17 +66,11 @@ impl Answer {
         }
     }
 
-    /// The text of a range's answer whose rows lie in their cells. It fails only for want of memory.
+    /// The text of an answer whose rows lie in their cells. It fails only for want of memory.
     pub(crate) fn of_found(alloc: Global, found: &FoundAnswer<'_>) -> Mem<Answer>
         ensures { IfOk result (λ answer. answer ≡ text (found_reply found.now)) }
     {
-        let (status, body) = write_range(
-            alloc,
-            &found.header,
-            found.count,
-            &found.rows,
-            found.more,
-        )?;
+        let (status, body) = write_in_place(alloc, found)?;
         Ok(Answer {
             status,
             body: Body::Made(body),

@@ -1,6 +1,5 @@
 //! All tenants, spoken to in bytes.
 ghost use Rattle.std.specs.Prelude.{◌≡◌, IfOk, IfSome, OnErr, length, vec_len};
-ghost use Rattle.etcd_types.specs.declared.step.Step.TheVariants.{Range};
 ghost use Rattle.std.specs.Borrow.{sem};
 ghost use Rattle.etcd_model.specs.Alone.{Called, Stepped};
 ghost use Rattle.etcd_model.specs.Calls.{call_of};
@@ -11,7 +10,7 @@ ghost use Rattle.host_front.specs.Lending.{LendsHost};
 
 use crate::answer::Answer;
 use crate::event::{HostEvent, LentEvent};
-use etcd_types::{Mem, RangeReq, Refusal, Step};
+use etcd_types::{Mem, Refusal, Step};
 use gateway_json::{call_of, read_posted, target_of};
 use std::alloc::Global;
 use steps_core::Host;
@@ -98,16 +97,14 @@ impl Front {
         }
     }
 
-    /// Makes a step and answers it. A range's rows are written from their cells, where that can be.
+    /// Makes a step and answers it. Rows are written from their cells, where that can be.
     fn step(&mut self, alloc: Global, tenant: &[u8], step: &Step) -> Answer
         ensures { Answers self.old.host (Stepped tenant.now step.now) result self.new.host }
     {
-        if let Step::Range(request) = step
-            && let Some(answer) = self.range(alloc, tenant, request)
-        {
-            return answer;
+        match self.found(alloc, tenant, step) {
+            Some(answer) => answer,
+            None => self.plan_step(alloc, tenant, step),
         }
-        self.plan_step(alloc, tenant, step)
     }
 
     /// Plans a step, writes its reply, and only then commits it: what finds no memory has changed nothing.
@@ -125,13 +122,12 @@ impl Front {
         answer
     }
 
-    /// The answer to a range whose rows lie in their cells, or want of memory for it; none if it is planned as any other
-    /// step is.
-    fn range(&self, alloc: Global, tenant: &[u8], request: &RangeReq) -> Option<Answer>
+    /// The answer to a step whose rows lie in their cells, or want of memory for it; none if the step has to be planned.
+    fn found(&self, alloc: Global, tenant: &[u8], step: &Step) -> Option<Answer>
         ensures { IfSome result
-            (λ answer. Answers self.now.host (Stepped tenant.now (Range request.now)) answer self.now.host) }
+            (λ answer. Answers self.now.host (Stepped tenant.now step.now) answer self.now.host) }
     {
-        let found = match self.host.find_rows(alloc, tenant, request) {
+        let found = match self.host.find(alloc, tenant, step) {
             Ok(Some(found)) => found,
             Ok(None) => return None,
             Err(_) => return Some(Answer::no_memory()),

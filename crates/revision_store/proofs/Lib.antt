@@ -10,6 +10,7 @@ pub mod Placed
 pub mod Counted
 pub mod Logged
 pub mod FewRows
+pub mod FoundRanges
 pub mod ReadingCells
 pub mod ReadingRows
 pub mod NewestRows

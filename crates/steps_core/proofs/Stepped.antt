@@ -3,15 +3,12 @@ use Rattle.std.proofs.Common.{◌≡◌, ◌≢◌, ◌∙◌, sym, ap, subst, r
 use Rattle.std.specs.Prelude.{if◌then◌else◌, IfOk, IfSome, Result, Ok, Err, Some, None}
 use Rattle.std.specs.Option.{option_map_or}
 use Rattle.std.specs.declared.alloc.AllocError.{AllocError}
-use Rattle.etcd_types.specs.declared.kv.RangeReq.{RangeReq}
 use Rattle.etcd_types.specs.declared.step.Step.{Step}
 use Rattle.etcd_types.specs.declared.reply.Reply.{Reply}
 use Rattle.etcd_types.specs.declared.reply.Reply.TheVariants.{Refused}
 use Rattle.etcd_types.specs.declared.refusal.Refusal.{Refusal}
 use Rattle.etcd_types.specs.declared.refusal.Refusal.TheVariants.{NoTenant, Memory}
-use Rattle.etcd_types.specs.declared.step.Step.TheVariants.{Range}
-use Rattle.tenant_machine.specs.Finding.{finds, found_plan}
-use Rattle.tenant_machine.specs.declared.finding.FoundAnswer.{FoundAnswer}
+use Rattle.tenant_machine.specs.Finding.{Found, finds, found_plan}
 use Rattle.tenant_machine.specs.Tenants.{MachineState}
 use Rattle.tenant_machine.specs.Plans.{Plan, Plans, IsAfter, Steps}
 use Rattle.steps_core.specs.Hosts.{HostState, finds_at, machine_at, unplanned, IsSureAt, PlansAt, CommitsAt, StepsAt}
@@ -62,18 +59,18 @@ refused_at h t step r err sure = record {
 }
 
 -- what a machine finds is what its host has planned
-pub found_at : (h : HostState) (name : List ℕ) (q : RangeReq) (m : MachineState) → machine_at h name ≡ Some m → (told : Result (Option FoundAnswer) AllocError)
-    → IfOk told (λ found. IfSome found (λ answer. Plans m (Range q) (found_plan answer))) → IfOk told (λ found. IfSome found (λ answer. PlansAt h name (Range q) (found_plan answer)))
-found_at h name q m is (Ok (Some answer)) plans = record { fits = record { machine = m; is = is; fits = tt }; plans = plans }
-found_at h name q m is (Ok None) plans = plans
-found_at h name q m is (Err e) plans = plans
+pub found_at : (h : HostState) (name : List ℕ) (step : Step) (m : MachineState) → machine_at h name ≡ Some m → (told : Result (Option Found) AllocError)
+    → IfOk told (λ found. IfSome found (λ answer. Plans m step (found_plan answer))) → IfOk told (λ found. IfSome found (λ answer. PlansAt h name step (found_plan answer)))
+found_at h name step m is (Ok (Some answer)) plans = record { fits = record { machine = m; is = is; fits = tt }; plans = plans }
+found_at h name step m is (Ok None) plans = plans
+found_at h name step m is (Err e) plans = plans
 
 -- and it finds what the host finds
-pub finds_there : (h : HostState) (name : List ℕ) (q : RangeReq) (m : MachineState) → machine_at h name ≡ Some m → (told : Result (Option FoundAnswer) AllocError)
-    → IfOk told (λ found. is_some found ≡ finds m q) → IfOk told (λ found. is_some found ≡ finds_at h name q)
-finds_there h name q m is (Ok found) told = told ∙ sym (ap (λ (o : Option MachineState). option_map_or (λ m. finds m q) o false) is)
-finds_there h name q m is (Err e) told = told
+pub finds_there : (h : HostState) (name : List ℕ) (step : Step) (m : MachineState) → machine_at h name ≡ Some m → (told : Result (Option Found) AllocError)
+    → IfOk told (λ found. is_some found ≡ finds m step) → IfOk told (λ found. is_some found ≡ finds_at h name step)
+finds_there h name step m is (Ok found) told = told ∙ sym (ap (λ (o : Option MachineState). option_map_or (λ m. finds m step) o false) is)
+finds_there h name step m is (Err e) told = told
 
 -- where no tenant of that name is, nothing is found
-pub finds_nowhere : (h : HostState) (name : List ℕ) (q : RangeReq) → machine_at h name ≡ None → false ≡ finds_at h name q
-finds_nowhere h name q none = sym (ap (λ (o : Option MachineState). option_map_or (λ m. finds m q) o false) none)
+pub finds_nowhere : (h : HostState) (name : List ℕ) (step : Step) → machine_at h name ≡ None → false ≡ finds_at h name step
+finds_nowhere h name step none = sym (ap (λ (o : Option MachineState). option_map_or (λ m. finds m step) o false) none)

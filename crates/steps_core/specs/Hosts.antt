@@ -5,7 +5,6 @@ use Rattle.std.specs.Option.{option_map_or}
 use Rattle.std.specs.Str.{bytes_eq}
 use Rattle.std.specs.Map.{lookup}
 use Rattle.std.specs.Coded.{Coded, code_by, coded×, coded_ℕ, coded_list}
-use Rattle.etcd_types.specs.declared.kv.RangeReq.{RangeReq}
 use Rattle.etcd_types.specs.declared.step.Step.{Step}
 use Rattle.etcd_types.specs.declared.refusal.Refusal.{Refusal}
 use Rattle.etcd_types.specs.declared.refusal.Refusal.TheVariants.{NoTenant, Memory}
@@ -57,9 +56,9 @@ pub record PlansAt (h : HostState) (name : List ℕ) (step : Step) (p : Plan) : 
   pub fits : FitsAt h name p
   pub plans : Plans fits.machine step p
 
--- the tenant is there, and its machine finds a range's rows
-abbrev pub finds_at : HostState → List ℕ → RangeReq → Bool
-finds_at h name q = option_map_or (λ m. finds m q) (machine_at h name) false
+-- the tenant is there, and its machine finds what a step is answered
+abbrev pub finds_at : HostState → List ℕ → Step → Bool
+finds_at h name step = option_map_or (λ m. finds m step) (machine_at h name) false
 
 -- the tenants' names, in order
 abbrev pub names_of : HostState → List (List ℕ)

@@ -1,14 +1,14 @@
 //! All tenants, by name, over one pool.
-ghost use Rattle.std.specs.Prelude.{◌≡◌, ◌≤◌, IfOk, IfErr, IfSome, IsOk, OnErr, is_some, length, vec_len, []};
-ghost use Rattle.etcd_types.specs.declared.step.Step.TheVariants.{Range};
+ghost use Rattle.std.specs.Prelude.{◌≡◌, ◌≤◌, false, IfOk, IfErr, IfSome, IsOk, OnErr, is_some, length, vec_len, []};
 ghost use Rattle.tenant_machine.specs.Finding.{found_plan};
+ghost use Rattle.tenant_machine.specs.Plans.{takes_memory};
 ghost use Rattle.steps_core.specs.Hosts.{finds_at, has_tenant, unplanned, IsSureAt};
 ghost use Rattle.steps_core.specs.Hosts.{FitsAt, PlansAt, CommitsAt, StepsAt};
 ghost use Rattle.steps_core.specs.Isolation.{step_turns, IsIsolated};
 
 use crate::tenant::{Tenant, serve};
 use etcd_types::limits::MAX_SEGMENTS;
-use etcd_types::{Mem, RangeReq, Refusal, Reply, Step};
+use etcd_types::{Mem, Refusal, Reply, Step};
 use indexmap::IndexMap;
 use segment_pool::{Desk, Pool, Ticket};
 use std::alloc::Global;
@@ -74,20 +74,21 @@ impl Host {
         }
     }
 
-    /// A tenant's answer to a range whose rows lie in their cells; none if the range is planned as any other step is, or no
-    /// such tenant is there. An error is want of memory.
-    pub fn find_rows(
+    /// A tenant's answer to a step whose rows lie in their cells; none if the step has to be planned, or no such tenant is
+    /// there. An error is want of memory.
+    pub fn find(
         &self,
         alloc: Global,
         tenant: &[u8],
-        request: &RangeReq,
+        step: &Step,
     ) -> Mem<Option<FoundAnswer<'_>>>
-        ensures found { IfOk result (λ found. is_some found ≡ finds_at self.now tenant.now request.now) }
+        ensures found { IfOk result (λ found. is_some found ≡ finds_at self.now tenant.now step.now) }
         ensures plan { IfOk result (λ found. IfSome found
-            (λ answer. PlansAt self.now tenant.now (Range request.now) (found_plan answer))) }
+            (λ answer. PlansAt self.now tenant.now step.now (found_plan answer))) }
+        ensures sure { takes_memory step.now ≡ false → IsOk result }
     {
         match self.tenants.get(tenant) {
-            Some(found) => found.machine.find_rows(alloc, request),
+            Some(found) => found.machine.find(alloc, step),
             None => Ok(None),
         }
     }

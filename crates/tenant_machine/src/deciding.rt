@@ -32,7 +32,7 @@ impl Machine {
 
     /// What refuses a step before anything is looked up: its fields, then numbers that are used up, then
     /// the alarm.
-    fn early_refusal(&self, step: &Step) -> Option<Refusal>
+    pub(crate) fn early_refusal(&self, step: &Step) -> Option<Refusal>
         ensures { result ≡ early_refusal (tenant self.now) step.now }
     {
         if let Some(refusal) = fields(step) {

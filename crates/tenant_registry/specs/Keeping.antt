@@ -1,9 +1,8 @@
 -- What lies under a tenant's lock.
-use Rattle.std.specs.Prelude.{◌≡◌, ℕ, ◌+◌, Bool, false, ◌&&◌, List, [], ◌∷◌, ◌++◌, is_none, refl}
+use Rattle.std.specs.Prelude.{◌≡◌, ℕ, ◌+◌, Bool, ◌&&◌, List, [], ◌∷◌, ◌++◌, is_none, refl}
 use Rattle.std.specs.Coded.{Coded, code_by, coded×, coded_ℕ, coded_list}
 use Rattle.cell_arena.specs.Loan.{Loan, IsLent}
 use Rattle.etcd_types.specs.declared.step.Step.{Step}
-use Rattle.etcd_types.specs.declared.step.Step.TheVariants.{Range}
 use Rattle.etcd_model.specs.Held.{Holds}
 use Rattle.etcd_model.specs.Pool.{StockState}
 use Rattle.tenant_machine.specs.Finding.{finds}
@@ -49,7 +48,6 @@ pub record IsKept (m : MachineState) (a : Log) (left : StockState) : Type 0 wher
   pub holds : Holds (state_after_acts (end_of a) later) (tenant m)
   pub lent : IsLent m.store.share (loan_of left)
 
--- a step is a range whose rows are found, and no entry is kept of it
+-- what a step is answered is found, and no entry is kept of it
 abbrev pub finds_in : Content → Step → Bool
-finds_in c (Range q) = is_none (turn_of c.audit) && finds c.machine q
-finds_in c _ = false
+finds_in c step = is_none (turn_of c.audit) && finds c.machine step

@@ -33,7 +33,7 @@ module _ (store : StoreState) (ops : List Op) (op : Op) (left : List Op) (pendin
   }
 
 -- what is left from an operation on
-op_here : (ops : List Op) (i : ℕ) (op : Op) → i < length ops → op ≡ get_or ops i op → drop i ops ≡ op ∷ drop (i + 1) ops
+pub op_here : (ops : List Op) (i : ℕ) (op : Op) → i < length ops → op ≡ get_or ops i op → drop i ops ≡ op ∷ drop (i + 1) ops
 op_here ops i op h is = rw (drop-cons ops i op h, ← is, add-one) refl
 
 -- from one operation of a list to the next, with what it changes and answers

@@ -1,3 +1,4 @@
 mod Apart
+pub mod Found
 mod Going
 mod Whole

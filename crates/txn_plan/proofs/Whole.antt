@@ -15,7 +15,7 @@ use Rattle.txn_plan.specs.Planned.{IsTxn, changed}
 
 module _ (store : StoreState) (t : TxnReq) (succeeded : Bool) (hold : succeeded ≡ all_hold (reads store) t.compare) (ops : List Op) (of : ops ≡ (if succeeded then t.success else t.failure)) where
   -- the operations are those of the branch that is taken
-  are_taken : ops ≡ branch (reads store) t
+  pub are_taken : ops ≡ branch (reads store) t
   are_taken = of ∙ ap (λ (b : Bool). if b then t.success else t.failure) hold
 
   pub is_planned : (plan : List Write) (pending : PendingState) (told : List OpReply) (n : ℕ) → IsPlanFor pending.store plan → changes_of pending.store plan ≡ pending.changes

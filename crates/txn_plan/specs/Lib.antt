@@ -1,2 +1,3 @@
 pub mod Planned
 pub mod Folding
+pub mod Finding

@@ -1,7 +1,9 @@
 //! Compares, and the branch that they take.
-ghost use Rattle.std.specs.Prelude.{◌≡◌, if◌then◌else◌};
+ghost use Rattle.std.specs.Prelude.{◌≡◌, ◌==◌, ◌&&◌, if◌then◌else◌, length, not, true};
+ghost use Rattle.etcd_types.specs.Steps.{writes_any};
 ghost use Rattle.etcd_model.specs.Compares as model;
-ghost use Rattle.revision_store.specs.Stored.{reads};
+ghost use Rattle.revision_store.specs.Stored.{StoreState, reads};
+ghost use Rattle.txn_plan.specs.Finding.{is_found_txn};
 
 use etcd_types::{Compare, Op, TxnReq};
 use revision_store::{Store, holds};
@@ -22,4 +24,18 @@ pub(crate) fn branch(request: &TxnReq, succeeded: bool) -> &[Op]
     } else {
         request.failure.as_slice()
     }
+}
+
+/// Whether a branch of a transaction has operations, none of which writes. What is not one takes no branch whose rows are
+/// found.
+pub fn reads_alone(request: &TxnReq) -> bool
+    ensures { (store : StoreState) → is_found_txn store request.now ≡ true → result ≡ true }
+{
+    is_of_reads(request.success.as_slice()) || is_of_reads(request.failure.as_slice())
+}
+
+fn is_of_reads(ops: &[Op]) -> bool
+    ensures { result ≡ (not (length ops.now == 0) && not (writes_any ops.now)) }
+{
+    !ops.is_empty() && !Op::any_writes(ops)
 }

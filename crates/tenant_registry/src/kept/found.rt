@@ -1,4 +1,4 @@
-//! A range that is answered from its cells, of which no entry is kept.
+//! A step that is answered from its cells, of which no entry is kept.
 ghost use Rattle.std.specs.Prelude.{◌≡◌, None, IfOk, IfSome, is_some};
 ghost use Rattle.tenant_audit.specs.Audits.{turn_of};
 ghost use Rattle.tenant_audit.specs.Receipts.{slip_of};
@@ -8,12 +8,12 @@ ghost use Rattle.tenant_registry.specs.Keeping.{finds_in};
 
 use super::{Kept, Receipt, Served};
 use etcd_types::{Mem, Step};
-use gateway_text::write_range;
+use gateway_text::write_in_place;
 use std::alloc::{AllocError, Global};
 use tenant_machine::FoundAnswer;
 
 impl Receipt {
-    /// That of a range whose rows lie in their cells, with its text. It has no turn.
+    /// That of a step whose rows lie in their cells, with its text. It has no turn.
     fn of_found(
         alloc: Global,
         number: u64,
@@ -24,8 +24,7 @@ impl Receipt {
         ensures { IfOk result
             (λ receipt. receipt ≡ slip_of number seat None step (found_reply found.now)) }
     {
-        let told = write_range(alloc, &found.header, found.count, &found.rows, found.more);
-        let Ok((status, body)) = told else {
+        let Ok((status, body)) = write_in_place(alloc, found) else {
             drop(step);
             return Err(AllocError);
         };
@@ -44,7 +43,7 @@ impl Receipt {
 }
 
 impl Served {
-    /// What a seat's call is given of a range, of which no entry is kept.
+    /// What a seat's call is given of such a step.
     pub(super) fn of_found(
         alloc: Global,
         number: u64,
@@ -65,19 +64,17 @@ impl Served {
 }
 
 impl Kept {
-    /// A range's answer whose rows lie in their cells, where no entry is kept of the step; none if it is planned as any other
-    /// step is.
+    /// A step's answer whose rows lie in their cells, where no entry is kept of the step; none if it has to be planned.
     pub(super) fn find(&self, step: &Step) -> Mem<Option<FoundAnswer<'_>>>
         ensures found { IfOk result (λ found. is_some found ≡ finds_in self.now step.now) }
         ensures plan { IfOk result (λ found. IfSome found
             (λ answer. Plans self.now.machine step.now (found_plan answer))) }
         ensures full { IfOk result (λ found. IfSome found (λ _. turn_of self.now.audit ≡ None)) }
     {
-        match step {
-            Step::Range(request) if self.audit.next_turn().is_none() => {
-                self.machine.find_rows(self.alloc, request)
-            }
-            _ => Ok(None),
+        if self.audit.next_turn().is_none() {
+            self.machine.find(self.alloc, step)
+        } else {
+            Ok(None)
         }
     }
 }
