@@ -76,12 +76,7 @@ impl Host {
 
     /// A tenant's answer to a step whose rows lie in their cells; none if the step has to be planned, or no such tenant is
     /// there. An error is want of memory.
-    pub fn find(
-        &self,
-        alloc: Global,
-        tenant: &[u8],
-        step: &Step,
-    ) -> Mem<Option<FoundAnswer<'_>>>
+    pub fn find(&self, alloc: Global, tenant: &[u8], step: &Step) -> Mem<Option<FoundAnswer<'_>>>
         ensures found { IfOk result (λ found. is_some found ≡ finds_at self.now tenant.now step.now) }
         ensures plan { IfOk result (λ found. IfSome found
             (λ answer. PlansAt self.now tenant.now step.now (found_plan answer))) }

@@ -348,12 +348,15 @@ impl Kept {
         ensures ok { IfOk result (λ served. Serves self.old seat step served self.new) }
         ensures err { OnErr result (self.new ≡ self.old) }
     {
-        let Ok(found) = self.find(&step) else {
-            drop(step);
-            return Err(AllocError);
-        };
-        if let Some(answer) = found {
-            return Served::of_found(self.alloc, self.audit.number(), seat, step, &answer);
+        match self.find(&step) {
+            Ok(Some(answer)) => {
+                return Served::of_found(self.alloc, self.audit.number(), seat, step, &answer);
+            }
+            Ok(None) => {}
+            Err(_) => {
+                drop(step);
+                return Err(AllocError);
+            }
         }
         self.serve_planned(seat, step)
     }

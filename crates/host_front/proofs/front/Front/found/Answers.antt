@@ -1,7 +1,7 @@
-use Rattle.std.proofs.Common.{IfSome, is_some, subst, ap, ◌∙◌}
-use Rattle.steps_core.specs.Hosts.{PlansAt, finds_at}
-use Rattle.tenant_machine.specs.Finding.{Found, found_plan, found_reply}
-use Rattle.host_front.proofs.Answered.{found_made, found_untold}
+use Rattle.std.proofs.Common.{IfSome, subst}
+use Rattle.steps_core.specs.Hosts.{PlansAt}
+use Rattle.tenant_machine.specs.Finding.{found_plan, found_reply}
+use Rattle.host_front.proofs.Answered.{found_made}
 use Rattle.host_front.proofs.front.Front.found.Goals as goal
 
 pub returns-in-Ok : goal.returns-in-Ok
