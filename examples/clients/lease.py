@@ -6,8 +6,8 @@ import time
 
 from gateway import Failed, Gateway
 
-# The host's clock has whole seconds, and a busy tenant's may be a little late, so a lease may end so much too early.
-EARLY = 1.25
+# The host's clock has whole seconds, and a busy tenant's may be late, so a lease may end so many seconds too early.
+EARLY = 2
 
 
 class Lease:
@@ -18,8 +18,8 @@ class Lease:
     """
 
     def __init__(self, url, seconds):
-        if seconds < 3:
-            raise ValueError("the time to live is at least 3 seconds")
+        if seconds < 4:
+            raise ValueError("the time to live is at least 4 seconds")
         self.url, self.number, self.ended = url, secrets.randbelow(2 ** 63 - 1) + 1, threading.Event()
         self.asked_at = time.monotonic()
         self.seconds = Gateway(url).call("lease/grant", TTL=seconds, ID=self.number)["TTL"]

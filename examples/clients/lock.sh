@@ -5,14 +5,14 @@
 #
 # The command finds its fencing number in FENCE; lock.py tells what that is for. Where the lock may be lost, since the
 # host isn't reached or has no such lease any more, the command is ended by SIGTERM and the status is 1; else it is the
-# command's. The time to live TTL is at least 3 seconds. The time is Linux's, which nobody sets back.
+# command's. The time to live TTL is at least 4 seconds. The time is Linux's, which nobody sets back.
 set -uo pipefail
 url=$1 ttl=$3
 key=$(printf %s "$2" | base64 | tr -d '\n')
 shift 3
 lease='' fence='' work='' watch=''
 quarter=$((ttl * 25)) # hundredths of a second
-[ "$ttl" -ge 3 ] || { echo "the time to live is at least 3 seconds" >&2; exit 2; }
+[ "$ttl" -ge 4 ] || { echo "the time to live is at least 4 seconds" >&2; exit 2; }
 
 # Hundredths of a second as curl takes seconds.
 seconds() {
@@ -61,7 +61,7 @@ look_at_clock() {
 # The hundredths for which the lease is there for sure; lease.py tells why it is not all of its time to live.
 count_left() {
   look_at_clock
-  left=$((asked + ttl * 100 - 125 - now))
+  left=$((asked + ttl * 100 - 200 - now))
 }
 
 # Takes a lease under a number by chance; lease.py tells why.

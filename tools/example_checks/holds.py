@@ -47,7 +47,7 @@ def lease_of(gateway, key):
 
 def a_registration_that_is_killed(stage):
     """A watcher sees it come and stay, and its end within its time to live."""
-    seconds = 3
+    seconds = 4
     discovery = stage.run("discovery.py", stage.url(), "services/")
     relay = stage.relay()
     one = stage.run("registration.py", stage.url(relay.port), "services/1", "10.0.0.1:80", seconds)
@@ -121,7 +121,7 @@ def a_registration_at_a_new_host(stage):
 
 def a_lock_of_two(stage):
     """Never both at once; the second has it when the first was killed, the third when the second is ended."""
-    seconds, gateway = 3, Gateway(stage.url())
+    seconds, gateway = 4, Gateway(stage.url())
     first = stage.run("lock.py", stage.url(), "job", 60, seconds)
     fences = [first.number_after("locked")]
     second = stage.run("lock.py", stage.url(), "job", 60, seconds)
@@ -165,12 +165,12 @@ def a_lock_that_is_cut_off(stage):
 
 def a_lock_whose_holder_is_halted(stage):
     """Another one has it meanwhile. When the first goes on it finds that it is lost."""
-    first = stage.run("lock.py", stage.url(), "job", 60, 3)
+    first = stage.run("lock.py", stage.url(), "job", 60, 4)
     fence = first.number_after("locked")
     halted = first.kill(signal.SIGSTOP)
-    second = stage.run("lock.py", stage.url(), "job", 60, 3)
-    want(second.number_after("locked", 3 + LATE) > fence, "the fencing numbers don't rise")
-    seen_after(second, halted, 3 + LATE)
+    second = stage.run("lock.py", stage.url(), "job", 60, 4)
+    want(second.number_after("locked", 4 + LATE) > fence, "the fencing numbers don't rise")
+    seen_after(second, halted, 4 + LATE)
     first.expect_quiet(0)
     first.kill(signal.SIGCONT)
     want(first.number_after("lost", 1) == fence, "it loses another lock")
@@ -293,7 +293,7 @@ def standing(stage, gateway, seconds, relays):
 
 def leaders_in_turn(stage):
     """By the order in which they came: the first is killed, one that waits is killed, the second is ended."""
-    seconds, gateway = 3, Gateway(stage.url())
+    seconds, gateway = 4, Gateway(stage.url())
     a, b, c, d = runs = standing(stage, gateway, seconds, [None] * 4)
     want(a.number_after("leader") == a.fence, "another fencing number")
     for waiting in [b, c, d]:
@@ -392,7 +392,7 @@ HOLDING = ["sh", "-c", "echo begins $FENCE; sleep 60; echo ends"]
 
 def a_lock_by_curl(stage):
     """The second has it when the first was killed, the third when the second was ended, whose command ends first."""
-    seconds, gateway = 3, Gateway(stage.url())
+    seconds, gateway = 4, Gateway(stage.url())
     first = stage.run("lock.sh", stage.url(), "job", seconds, *HOLDING)
     fences = [first.number_after("begins")]
     second = stage.run("lock.sh", stage.url(), "job", seconds, "sh", "-c",

@@ -20,6 +20,7 @@ mod compare_with_no_row
 mod txn_reads_its_writes
 mod txn_limits
 mod txn_future_revision
+mod txn_of_ranges
 mod txn_bad_branches
 mod watch_filters
 mod watch_slots
