@@ -79,7 +79,7 @@ plain_padding : (n : ℕ) → is_plain (replicate n 61) ≡ true
 plain_padding zero = refl
 plain_padding (suc n) = plain_padding n
 
-plain_encoding : (b : List ℕ) → IsBytes b → is_plain (encode_of standard b) ≡ true
+pub plain_encoding : (b : List ℕ) → IsBytes b → is_plain (encode_of standard b) ≡ true
 plain_encoding b bytes =
     rw (list_all-append is_plain_byte (encode_symbols standard.encode_table b) (replicate (padding_len (length b)) 61), plain_symbols standard.encode_table refl refl b bytes)
     (plain_padding (padding_len (length b)))

@@ -1,16 +1,42 @@
 -- From pieces of text to members, and from members to an object.
-use Rattle.std.proofs.Common.{ap, codes, ◌≡◌, ℕ, List, [], ◌∷◌, ◌++◌, Bool, true, false, sym, ◌∙◌, append_assoc, IsTrue}
-use Rattle.json.specs.Print.{escape_byte, quoted}
-use Rattle.serde_json.specs.Data.{Data, object, Members, no_members, member}
+use Rattle.std.proofs.lemmas.List.{length-drop, take_all}
+use Rattle.std.proofs.Common.{arith, ◌-◌, ◌≤◌, drop, length, take, ap, codes, ◌≡◌, ℕ, List, [], ◌∷◌, ◌++◌, Bool, true, false, refl, sym, ◌∙◌, append_assoc, IsTrue}
+use Rattle.json.specs.Print.{escape, escape_byte, quoted}
+use Rattle.serde_json.specs.Data.{Data, object, Members, no_members, member, string}
 use Rattle.serde_json.specs.Written.{compact_text, members_text}
 use Rattle.etcd_model.specs.ReplyText.{result_data, stream_text}
 use Rattle.gateway_text.specs.Plain.{is_plain}
 use Rattle.gateway_text.proofs.PlainLemmas.{escape_plain}
-use Rattle.gateway_text.specs.Wrote.{WroteMembers, name_text}
+use Rattle.gateway_text.specs.Wrote.{IsOpening, WroteMembers, name_in, name_text}
 
 -- a name and its value
 pub wrote_value : (old named new : List ℕ) (later : Bool) (name : List ℕ) (d : Data) → named ≡ old ++ name_text later name → new ≡ named ++ compact_text d → WroteMembers old later new true (λ r. member name d r)
 wrote_value old named new later name d names values = record { text = λ rest. rw (values, names) (simp append_assoc) }
+
+closed_name : (name : List ℕ) → IsTrue (is_plain name) → name ++ 34 ∷ 58 ∷ 34 ∷ [] ≡ (escape name ++ 34 ∷ 58 ∷ []) ++ 34 ∷ []
+closed_name name plain = rw (escape_plain name plain) (sym (append_assoc name (34 ∷ 58 ∷ []) (34 ∷ [])))
+
+-- an opening where a member stands before
+pub opening_later : (opening : List ℕ) → IsOpening opening → opening ≡ name_text true (name_in opening) ++ 34 ∷ []
+opening_later opening is = is.1 ∙ ap (λ t. 44 ∷ 34 ∷ t) (closed_name (name_in opening) is.0)
+
+-- and one that begins an object has no comma
+pub opening_first : (opening : List ℕ) → IsOpening opening → take (length opening - 1) (drop 1 opening) ≡ name_text false (name_in opening) ++ 34 ∷ []
+opening_first opening is =
+    let short : length (drop 1 opening) ≤ length opening - 1 = (rw (length-drop 1 opening) (omega arith)) in
+    take_all (length opening - 1) (drop 1 opening) short ∙ ap (λ (t : List ℕ). drop 1 t) is.1 ∙ ap (λ t. 34 ∷ t) (closed_name (name_in opening) is.0)
+
+text_opens : (old named text : List ℕ) → (old ++ (named ++ 34 ∷ [])) ++ text ≡ (old ++ named) ++ 34 ∷ text
+text_opens old named text = simp append_assoc
+
+-- an opening, and its text with the quote after it
+pub wrote_text : (old opened new : List ℕ) (later : Bool) (name text : List ℕ) → IsTrue (is_plain text) → opened ≡ old ++ (name_text later name ++ 34 ∷ []) → new ≡ opened ++ (text ++ 34 ∷ [])
+    → WroteMembers old later new true (λ r. member name (string text) r)
+wrote_text old opened new later name text plain opens closes =
+    let named = old ++ name_text later name in
+    wrote_value old named new later name (string text) refl
+    (closes ∙ ap (λ t. t ++ (text ++ 34 ∷ [])) opens ∙ text_opens old (name_text later name) (text ++ 34 ∷ [])
+    ∙ ap (λ t. named ++ 34 ∷ (t ++ 34 ∷ [])) (sym (escape_plain text plain)))
 
 infixr 30 ◌then◌
 -- one writer after another

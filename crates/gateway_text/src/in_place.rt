@@ -10,9 +10,9 @@ ghost use Rattle.gateway_text.specs.Wrote.{WroteMembers};
 
 use crate::header::InnerHeader;
 use crate::list::{WriteItem, write_item};
-use crate::member::{write_comma, write_flag, write_name, write_unsigned};
+use crate::member::{opening, write_comma, write_flag, write_name, write_unsigned};
 use crate::size::empty_text_in_place;
-use crate::text::push_str;
+use crate::text::{push_byte, push_str};
 use etcd_types::{Header, KeyValue, List, Mem, RangeInPlace, ReplyInPlace, RowsInPlace};
 use std::alloc::Global;
 
@@ -52,12 +52,12 @@ fn write_range<H: WriteItem, S: RowsInPlace>(
     ensures { OnOk result (out.new.items ≡ out.old.items ++ compact_text (object
         (range_members (H.data_of header.now) range.now.count (S.rows range.now.rows) range.now.more))) }
 {
-    push_str(out, "{")?;
-    let later = write_unsigned(out, false, "count", range.count)?;
+    push_byte(out, b'{')?;
+    let later = write_unsigned(out, false, opening!("count"), range.count)?;
     let later = write_item(out, later, "header", header)?;
     let later = write_rows(alloc, out, later, "kvs", &range.rows)?;
     write_flag(out, later, "more", range.more)?;
-    push_str(out, "}")?;
+    push_byte(out, b'}')?;
     Ok(())
 }
 
@@ -72,11 +72,11 @@ fn write_txn<S: RowsInPlace>(
     ensures { OnOk result (out.new.items ≡ out.old.items
         ++ compact_text (txn_data header.now succeeded (map (op_reply_of S.rows) responses.now))) }
 {
-    push_str(out, "{")?;
+    push_byte(out, b'{')?;
     let later = write_item(out, false, "header", header)?;
     let later = write_responses(alloc, out, later, "responses", responses)?;
     write_flag(out, later, "succeeded", succeeded)?;
-    push_str(out, "}")?;
+    push_byte(out, b'}')?;
     Ok(())
 }
 
@@ -96,7 +96,7 @@ fn write_responses<S: RowsInPlace>(
         return Ok(later);
     }
     write_name(out, later, name)?;
-    push_str(out, "[")?;
+    push_byte(out, b'[')?;
     write_each_response(alloc, out, responses)?;
     Ok(true)
 }
@@ -116,7 +116,7 @@ fn write_each_response<S: RowsInPlace>(
         write_response(alloc, out, response)?;
         later = true;
     }
-    push_str(out, "]")?;
+    push_byte(out, b']')?;
     Ok(())
 }
 
@@ -131,7 +131,7 @@ fn write_response<S: RowsInPlace>(
 {
     push_str(out, "{\"response_range\":")?;
     write_range(alloc, out, &InnerHeader(&response.revision), response)?;
-    push_str(out, "}")?;
+    push_byte(out, b'}')?;
     Ok(())
 }
 
@@ -151,7 +151,7 @@ fn write_rows<S: RowsInPlace>(
         return Ok(later);
     }
     write_name(out, later, name)?;
-    push_str(out, "[")?;
+    push_byte(out, b'[')?;
     write_each_row(alloc, out, rows)?;
     Ok(true)
 }
@@ -169,7 +169,7 @@ fn write_each_row<S: RowsInPlace>(alloc: Global, out: &mut Vec<u8>, rows: &S) ->
         row.write(out)?;
         later = true;
     }
-    push_str(out, "]")?;
+    push_byte(out, b']')?;
     Ok(())
 }
 

@@ -6,17 +6,17 @@ ghost use Rattle.etcd_model.specs.ReplyText.{signed_member, time_to_live_data};
 ghost use Rattle.gateway_text.specs.Wrote.{WroteMembers};
 
 use crate::list::{WriteItem, write_item, write_list};
-use crate::member::write_signed;
-use crate::text::push_str;
+use crate::member::{opening, write_signed};
+use crate::text::push_byte;
 use etcd_types::{Header, List, Mem};
 
 impl WriteItem for i64 {
     ghost data_of = { lease_data };
 
     fn write(&self, out: &mut Vec<u8>) -> Mem<()> {
-        push_str(out, "{")?;
-        write_signed(out, false, "ID", self)?;
-        push_str(out, "}")?;
+        push_byte(out, b'{')?;
+        write_signed(out, false, opening!("ID"), self)?;
+        push_byte(out, b'}')?;
         Ok(())
     }
 }
@@ -27,8 +27,8 @@ pub(crate) fn write_lease(out: &mut Vec<u8>, header: &Header, id: &i64, ttl: &i6
         (λ rest. signed_member (codes "ID") id.now
         (signed_member (codes "TTL") ttl.now (header_member header.now rest)))) }
 {
-    let later = write_signed(out, false, "ID", id)?;
-    let later = write_signed(out, later, "TTL", ttl)?;
+    let later = write_signed(out, false, opening!("ID"), id)?;
+    let later = write_signed(out, later, opening!("TTL"), ttl)?;
     write_item(out, later, "header", header)
 }
 
@@ -37,9 +37,9 @@ pub(crate) fn write_granted(out: &mut Vec<u8>, header: &Header, id: &i64, ttl: &
     ensures { OnOk result (out.new.items ≡ out.old.items
         ++ compact_text (granted_data header.now id.now ttl.now)) }
 {
-    push_str(out, "{")?;
+    push_byte(out, b'{')?;
     write_lease(out, header, id, ttl)?;
-    push_str(out, "}")?;
+    push_byte(out, b'}')?;
     Ok(())
 }
 
@@ -55,13 +55,13 @@ pub(crate) fn write_time_to_live(
     ensures { OnOk result (out.new.items ≡ out.old.items
         ++ compact_text (time_to_live_data header.now id.now ttl.now granted_ttl.now keys.now)) }
 {
-    push_str(out, "{")?;
-    let later = write_signed(out, false, "ID", id)?;
-    let later = write_signed(out, later, "TTL", ttl)?;
-    let later = write_signed(out, later, "grantedTTL", granted_ttl)?;
+    push_byte(out, b'{')?;
+    let later = write_signed(out, false, opening!("ID"), id)?;
+    let later = write_signed(out, later, opening!("TTL"), ttl)?;
+    let later = write_signed(out, later, opening!("grantedTTL"), granted_ttl)?;
     let later = write_item(out, later, "header", header)?;
     write_list(out, later, "keys", keys)?;
-    push_str(out, "}")?;
+    push_byte(out, b'}')?;
     Ok(())
 }
 
@@ -70,9 +70,9 @@ pub(crate) fn write_leases(out: &mut Vec<u8>, header: &Header, ids: &[i64]) -> M
     ensures { OnOk result (out.new.items ≡ out.old.items
         ++ compact_text (leases_data header.now ids.now)) }
 {
-    push_str(out, "{")?;
+    push_byte(out, b'{')?;
     let later = write_item(out, false, "header", header)?;
     write_list(out, later, "leases", ids)?;
-    push_str(out, "}")?;
+    push_byte(out, b'}')?;
     Ok(())
 }

@@ -9,7 +9,7 @@ ghost use Rattle.gateway_text.specs.Plain.{is_plain};
 ghost use Rattle.gateway_text.specs.Wrote.{WroteMembers};
 
 use crate::member::{write_comma, write_name};
-use crate::text::push_str;
+use crate::text::push_byte;
 use etcd_types::Mem;
 
 /// A part of an answer that is one JSON value.
@@ -53,7 +53,7 @@ pub(crate) fn write_list<T: WriteItem>(
         return Ok(later);
     }
     write_name(out, later, name)?;
-    push_str(out, "[")?;
+    push_byte(out, b'[')?;
     write_items(out, items)?;
     Ok(true)
 }
@@ -69,6 +69,6 @@ fn write_items<T: WriteItem>(out: &mut Vec<u8>, items: &[T]) -> Mem<()>
         item.write(out)?;
         later = true;
     }
-    push_str(out, "]")?;
+    push_byte(out, b']')?;
     Ok(())
 }

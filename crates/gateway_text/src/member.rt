@@ -2,6 +2,9 @@
 //!
 //! A writer is told whether a member stands before, and says whether one stands before what follows.
 //! Where a value is zero, false or empty, the member is left out.
+//!
+//! Most values are texts. Such a member is given by its opening, `,"name":"`, all that stands before the text, which is
+//! written at once.
 #![tactic(auto, using(crate::proofs::WroteLemmas::wrote_value))]
 
 ghost use Rattle.std.specs.Prelude.{◌≡◌, ◌++◌, ◌∷◌, [], IsTrue, IfOk, OnOk};
@@ -10,30 +13,28 @@ ghost use Rattle.serde_json.specs.Written.{comma_if, compact_text};
 ghost use Rattle.etcd_model.specs.ReplyText.{signed_member, unsigned_member, bytes_data, bytes_member};
 ghost use Rattle.etcd_model.specs.ReplyText.{flag_member};
 ghost use Rattle.gateway_text.specs.Plain.{is_plain};
-ghost use Rattle.gateway_text.specs.Wrote.{WroteMembers, name_text};
+ghost use Rattle.gateway_text.specs.Wrote.{IsOpening, WroteMembers, name_in, name_text};
 
-use crate::text::{push_base64, push_str};
+use crate::text::{push_base64, push_byte, push_str};
 use etcd_types::Mem;
+
+/// The opening of a member under a name.
+macro_rules! opening {
+    ($name:literal) => {
+        concat!(",\"", $name, "\":\"")
+    };
+}
+
+pub(crate) use opening;
 
 /// Writes a comma, where something stands before.
 pub(crate) fn write_comma(out: &mut Vec<u8>, later: bool) -> Mem<()>
     ensures { OnOk result (out.new.items ≡ out.old.items ++ comma_if later) }
 {
     if later {
-        push_str(out, ",")?;
+        push_byte(out, b',')?;
     }
     Ok(())
-}
-
-/// Writes the quote before a name, and a comma where a member stands before.
-fn write_quote(out: &mut Vec<u8>, later: bool) -> Mem<()>
-    ensures { OnOk result (out.new.items ≡ out.old.items ++ (comma_if later ++ 34 ∷ [])) }
-{
-    if later {
-        push_str(out, ",\"")
-    } else {
-        push_str(out, "\"")
-    }
 }
 
 /// Writes a member's name and the colon after it.
@@ -41,62 +42,67 @@ pub(crate) fn write_name(out: &mut Vec<u8>, later: bool, name: &str) -> Mem<()>
     requires { IsTrue (is_plain name.now) }
     ensures { OnOk result (out.new.items ≡ out.old.items ++ name_text later name.now) }
 {
-    write_quote(out, later)?;
+    write_comma(out, later)?;
+    push_byte(out, b'"')?;
     push_str(out, name)?;
     push_str(out, "\":")?;
     Ok(())
 }
 
-/// Writes a text that needs no escape, between its quotes.
-fn write_quoted(out: &mut Vec<u8>, text: &str) -> Mem<()>
-    requires { IsTrue (is_plain text.now) }
+/// Writes the opening of a member, without its comma where no member stands before.
+#[tactic(auto, using(crate::proofs::WroteLemmas::opening_later, crate::proofs::WroteLemmas::opening_first))]
+fn write_opening(out: &mut Vec<u8>, later: bool, opening: &str) -> Mem<()>
+    requires { IsOpening opening.now }
     ensures { OnOk result (out.new.items
-        ≡ out.old.items ++ compact_text (string text.now)) }
+        ≡ out.old.items ++ (name_text later (name_in opening.now) ++ 34 ∷ [])) }
 {
-    push_str(out, "\"")?;
-    push_str(out, text)?;
-    push_str(out, "\"")?;
-    Ok(())
+    let bytes = opening.as_bytes();
+    if later {
+        out.extend_from_slice(bytes)
+    } else {
+        out.extend_from_slice(&bytes[1..])
+    }
 }
 
 /// Writes a text that needs no escape.
-pub(crate) fn write_text(out: &mut Vec<u8>, later: bool, name: &str, text: &str) -> Mem<bool>
-    requires name { IsTrue (is_plain name.now) }
+pub(crate) fn write_text(out: &mut Vec<u8>, later: bool, opening: &str, text: &str) -> Mem<bool>
+    requires opening { IsOpening opening.now }
     requires text { IsTrue (is_plain text.now) }
     ensures { IfOk result (λ after. WroteMembers out.old.items later out.new.items after
-        (with_member name.now (string text.now))) }
+        (with_member (name_in opening.now) (string text.now))) }
 {
-    write_name(out, later, name)?;
-    write_quoted(out, text)?;
+    write_opening(out, later, opening)?;
+    push_str(out, text)?;
+    push_byte(out, b'"')?;
     Ok(true)
 }
 
 /// Writes a 64-bit number, which is a string of its digits.
 #[tactic(auto, using(crate::proofs::PlainLemmas::plain_signed))]
-pub(crate) fn write_signed(out: &mut Vec<u8>, later: bool, name: &str, n: &i64) -> Mem<bool>
-    requires { IsTrue (is_plain name.now) }
+pub(crate) fn write_signed(out: &mut Vec<u8>, later: bool, opening: &str, n: &i64) -> Mem<bool>
+    requires { IsOpening opening.now }
     ensures { IfOk result (λ after. WroteMembers out.old.items later out.new.items after
-        (signed_member name.now n.now)) }
+        (signed_member (name_in opening.now) n.now)) }
 {
     if *n == 0 {
         return Ok(later);
     }
     let mut buffer = itoa::Buffer::new();
-    write_text(out, later, name, buffer.format(*n))
+    write_text(out, later, opening, buffer.format(*n))
 }
 
 /// Writes a 64-bit number without a sign, which is a string of its digits.
 #[tactic(auto, using(crate::proofs::PlainLemmas::plain_decimal))]
-pub(crate) fn write_unsigned(out: &mut Vec<u8>, later: bool, name: &str, n: u64) -> Mem<bool>
-    requires { IsTrue (is_plain name.now) }
+pub(crate) fn write_unsigned(out: &mut Vec<u8>, later: bool, opening: &str, n: u64) -> Mem<bool>
+    requires { IsOpening opening.now }
     ensures { IfOk result (λ after. WroteMembers out.old.items later out.new.items after
-        (unsigned_member name.now n)) }
+        (unsigned_member (name_in opening.now) n)) }
 {
     if n == 0 {
         return Ok(later);
     }
     let mut buffer = itoa::Buffer::new();
-    write_text(out, later, name, buffer.format(n))
+    write_text(out, later, opening, buffer.format(n))
 }
 
 /// Writes a small number, which is a JSON number.
@@ -116,23 +122,24 @@ pub(crate) fn write_base64(out: &mut Vec<u8>, bytes: &[u8]) -> Mem<()>
     ensures { OnOk result (out.new.items
         ≡ out.old.items ++ compact_text (bytes_data bytes.now)) }
 {
-    push_str(out, "\"")?;
+    push_byte(out, b'"')?;
     push_base64(out, bytes)?;
-    push_str(out, "\"")?;
+    push_byte(out, b'"')?;
     Ok(())
 }
 
 /// Writes bytes, which are a string of base64.
-pub(crate) fn write_bytes(out: &mut Vec<u8>, later: bool, name: &str, bytes: &[u8]) -> Mem<bool>
-    requires { IsTrue (is_plain name.now) }
+pub(crate) fn write_bytes(out: &mut Vec<u8>, later: bool, opening: &str, bytes: &[u8]) -> Mem<bool>
+    requires { IsOpening opening.now }
     ensures { IfOk result (λ after. WroteMembers out.old.items later out.new.items after
-        (bytes_member name.now bytes.now)) }
+        (bytes_member (name_in opening.now) bytes.now)) }
 {
     if bytes.is_empty() {
         return Ok(later);
     }
-    write_name(out, later, name)?;
-    write_base64(out, bytes)?;
+    write_opening(out, later, opening)?;
+    push_base64(out, bytes)?;
+    push_byte(out, b'"')?;
     Ok(true)
 }
 

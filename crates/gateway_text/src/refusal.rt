@@ -3,8 +3,8 @@ ghost use Rattle.std.specs.Prelude.{◌≡◌, ◌++◌, OnOk};
 ghost use Rattle.serde_json.specs.Written.{compact_text};
 ghost use Rattle.etcd_model.specs.ReplyText.{memory_answer, refusal_data};
 
-use crate::member::{write_number, write_text};
-use crate::text::push_str;
+use crate::member::{opening, write_number, write_text};
+use crate::text::push_byte;
 use etcd_types::{Mem, Refusal};
 
 /// The body where memory for a body is wanting.
@@ -25,10 +25,10 @@ pub(crate) fn write_refusal(out: &mut Vec<u8>, refusal: Refusal) -> Mem<()>
         ++ compact_text (refusal_data refusal)) }
 {
     let text = refusal.text();
-    push_str(out, "{")?;
+    push_byte(out, b'{')?;
     let later = write_number(out, false, "code", refusal.code())?;
-    let later = write_text(out, later, "error", text)?;
-    write_text(out, later, "message", text)?;
-    push_str(out, "}")?;
+    let later = write_text(out, later, opening!("error"), text)?;
+    write_text(out, later, opening!("message"), text)?;
+    push_byte(out, b'}')?;
     Ok(())
 }

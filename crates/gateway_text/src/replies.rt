@@ -7,12 +7,12 @@ ghost use Rattle.gateway_text.specs.Wrote.{WroteMembers};
 
 use crate::leases::{write_granted, write_leases, write_time_to_live};
 use crate::list::write_item;
-use crate::member::write_unsigned;
+use crate::member::{opening, write_unsigned};
 use crate::refusal::write_refusal;
 use crate::responses::write_key_reply;
 use crate::size::empty_text;
 use crate::streams::write_stream_reply;
-use crate::text::push_str;
+use crate::text::{push_byte, push_str};
 use etcd_types::{Header, Mem, Reply};
 use std::alloc::Global;
 
@@ -78,9 +78,9 @@ fn write_bare(out: &mut Vec<u8>, header: &Header) -> Mem<()>
     ensures { OnOk result (out.new.items ≡ out.old.items
         ++ compact_text (bare_data header.now)) }
 {
-    push_str(out, "{")?;
+    push_byte(out, b'{')?;
     write_item(out, false, "header", header)?;
-    push_str(out, "}")?;
+    push_byte(out, b'}')?;
     Ok(())
 }
 
@@ -89,10 +89,10 @@ fn write_alarms(out: &mut Vec<u8>, header: &Header, no_space: bool) -> Mem<()>
     ensures { OnOk result (out.new.items ≡ out.old.items
         ++ compact_text (alarms_data header.now no_space)) }
 {
-    push_str(out, "{")?;
+    push_byte(out, b'{')?;
     let later = write_alarm(out, no_space)?;
     write_item(out, later, "header", header)?;
-    push_str(out, "}")?;
+    push_byte(out, b'}')?;
     Ok(())
 }
 
@@ -115,10 +115,10 @@ fn write_status(out: &mut Vec<u8>, header: &Header, size: u64, in_use: u64) -> M
     ensures { OnOk result (out.new.items ≡ out.old.items
         ++ compact_text (status_data header.now size in_use)) }
 {
-    push_str(out, "{")?;
-    let later = write_unsigned(out, false, "dbSize", size)?;
-    let later = write_unsigned(out, later, "dbSizeInUse", in_use)?;
+    push_byte(out, b'{')?;
+    let later = write_unsigned(out, false, opening!("dbSize"), size)?;
+    let later = write_unsigned(out, later, opening!("dbSizeInUse"), in_use)?;
     write_item(out, later, "header", header)?;
-    push_str(out, "}")?;
+    push_byte(out, b'}')?;
     Ok(())
 }

@@ -8,9 +8,9 @@ ghost use Rattle.gateway_text.specs.Groups.{is_key_reply};
 
 use crate::header::InnerHeader;
 use crate::list::{WriteItem, write_item, write_list};
-use crate::member::{write_flag, write_unsigned};
+use crate::member::{opening, write_flag, write_unsigned};
 use crate::rows::write_row;
-use crate::text::push_str;
+use crate::text::{push_byte, push_str};
 use etcd_types::{Header, KeyValue, Mem, OpReply, Reply};
 
 /// Writes the answer to a read or a write of keys.
@@ -52,12 +52,12 @@ fn write_range<H: WriteItem>(
     ensures { OnOk result (out.new.items ≡ out.old.items
         ++ compact_text (object (range_members (H.data_of header.now) count kvs.now more))) }
 {
-    push_str(out, "{")?;
-    let later = write_unsigned(out, false, "count", count)?;
+    push_byte(out, b'{')?;
+    let later = write_unsigned(out, false, opening!("count"), count)?;
     let later = write_item(out, later, "header", header)?;
     let later = write_list(out, later, "kvs", kvs)?;
     write_flag(out, later, "more", more)?;
-    push_str(out, "}")?;
+    push_byte(out, b'}')?;
     Ok(())
 }
 
@@ -66,10 +66,10 @@ fn write_put<H: WriteItem>(out: &mut Vec<u8>, header: &H, prev_kv: &Option<KeyVa
     ensures { OnOk result (out.new.items ≡ out.old.items
         ++ compact_text (object (put_members (H.data_of header.now) prev_kv.now))) }
 {
-    push_str(out, "{")?;
+    push_byte(out, b'{')?;
     let later = write_item(out, false, "header", header)?;
     write_row(out, later, "prev_kv", prev_kv)?;
-    push_str(out, "}")?;
+    push_byte(out, b'}')?;
     Ok(())
 }
 
@@ -83,11 +83,11 @@ fn write_delete<H: WriteItem>(
     ensures { OnOk result (out.new.items ≡ out.old.items
         ++ compact_text (object (delete_members (H.data_of header.now) deleted prev_kvs.now))) }
 {
-    push_str(out, "{")?;
-    let later = write_unsigned(out, false, "deleted", deleted)?;
+    push_byte(out, b'{')?;
+    let later = write_unsigned(out, false, opening!("deleted"), deleted)?;
     let later = write_item(out, later, "header", header)?;
     write_list(out, later, "prev_kvs", prev_kvs)?;
-    push_str(out, "}")?;
+    push_byte(out, b'}')?;
     Ok(())
 }
 
@@ -96,11 +96,11 @@ fn write_txn(out: &mut Vec<u8>, header: &Header, succeeded: bool, responses: &[O
     ensures { OnOk result (out.new.items ≡ out.old.items
         ++ compact_text (txn_data header.now succeeded responses.now)) }
 {
-    push_str(out, "{")?;
+    push_byte(out, b'{')?;
     let later = write_item(out, false, "header", header)?;
     let later = write_list(out, later, "responses", responses)?;
     write_flag(out, later, "succeeded", succeeded)?;
-    push_str(out, "}")?;
+    push_byte(out, b'}')?;
     Ok(())
 }
 
@@ -117,13 +117,13 @@ impl WriteItem for OpReply {
             } => {
                 push_str(out, "{\"response_range\":")?;
                 write_range(out, &InnerHeader(revision), *count, kvs.as_slice(), *more)?;
-                push_str(out, "}")?;
+                push_byte(out, b'}')?;
                 Ok(())
             }
             OpReply::Put { revision, prev_kv } => {
                 push_str(out, "{\"response_put\":")?;
                 write_put(out, &InnerHeader(revision), prev_kv)?;
-                push_str(out, "}")?;
+                push_byte(out, b'}')?;
                 Ok(())
             }
             OpReply::Delete {
@@ -133,7 +133,7 @@ impl WriteItem for OpReply {
             } => {
                 push_str(out, "{\"response_delete_range\":")?;
                 write_delete(out, &InnerHeader(revision), *deleted, prev_kvs.as_slice())?;
-                push_str(out, "}")?;
+                push_byte(out, b'}')?;
                 Ok(())
             }
         }

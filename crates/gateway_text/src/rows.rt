@@ -5,8 +5,8 @@ ghost use Rattle.gateway_text.specs.Plain.{is_plain};
 ghost use Rattle.gateway_text.specs.Wrote.{WroteMembers};
 
 use crate::list::{WriteItem, write_item};
-use crate::member::{write_base64, write_bytes, write_signed, write_text, write_unsigned};
-use crate::text::push_str;
+use crate::member::{opening, write_base64, write_bytes, write_signed, write_text, write_unsigned};
+use crate::text::push_byte;
 use etcd_types::{Event, EventKind, KeyValue, List, Mem};
 
 impl WriteItem for List<u8> {
@@ -21,14 +21,19 @@ impl WriteItem for KeyValue {
     ghost data_of = { key_value_data };
 
     fn write(&self, out: &mut Vec<u8>) -> Mem<()> {
-        push_str(out, "{")?;
-        let later = write_unsigned(out, false, "create_revision", self.create_revision)?;
-        let later = write_bytes(out, later, "key", self.key.as_slice())?;
-        let later = write_signed(out, later, "lease", &self.lease)?;
-        let later = write_unsigned(out, later, "mod_revision", self.mod_revision)?;
-        let later = write_bytes(out, later, "value", self.value.as_slice())?;
-        write_unsigned(out, later, "version", self.version)?;
-        push_str(out, "}")?;
+        push_byte(out, b'{')?;
+        let later = write_unsigned(
+            out,
+            false,
+            opening!("create_revision"),
+            self.create_revision,
+        )?;
+        let later = write_bytes(out, later, opening!("key"), self.key.as_slice())?;
+        let later = write_signed(out, later, opening!("lease"), &self.lease)?;
+        let later = write_unsigned(out, later, opening!("mod_revision"), self.mod_revision)?;
+        let later = write_bytes(out, later, opening!("value"), self.value.as_slice())?;
+        write_unsigned(out, later, opening!("version"), self.version)?;
+        push_byte(out, b'}')?;
         Ok(())
     }
 }
@@ -37,11 +42,11 @@ impl WriteItem for Event {
     ghost data_of = { event_data };
 
     fn write(&self, out: &mut Vec<u8>) -> Mem<()> {
-        push_str(out, "{")?;
+        push_byte(out, b'{')?;
         let later = write_item(out, false, "kv", &self.kv)?;
         let later = write_row(out, later, "prev_kv", &self.prev_kv)?;
         write_kind(out, later, self.kind)?;
-        push_str(out, "}")?;
+        push_byte(out, b'}')?;
         Ok(())
     }
 }
@@ -70,6 +75,6 @@ fn write_kind(out: &mut Vec<u8>, later: bool, kind: EventKind) -> Mem<bool>
 {
     match kind {
         EventKind::Put => Ok(later),
-        EventKind::Delete => write_text(out, later, "type", "DELETE"),
+        EventKind::Delete => write_text(out, later, opening!("type"), "DELETE"),
     }
 }

@@ -5,7 +5,7 @@ ghost use Rattle.etcd_model.specs.ReplyText.{kept_alive_data, reply_body, stream
 
 use crate::leases::write_lease;
 use crate::list::{write_item, write_list};
-use crate::member::{write_flag, write_signed};
+use crate::member::{opening, write_flag, write_signed};
 use crate::text::push_str;
 use etcd_types::{Event, Header, Mem, Reply};
 
@@ -49,7 +49,7 @@ fn write_created(out: &mut Vec<u8>, header: &Header, watch_id: &i64) -> Mem<()>
     push_str(out, RESULT_BEGIN)?;
     let later = write_flag(out, false, "created", true)?;
     let later = write_item(out, later, "header", header)?;
-    write_signed(out, later, "watch_id", watch_id)?;
+    write_signed(out, later, opening!("watch_id"), watch_id)?;
     push_str(out, RESULT_END)?;
     Ok(())
 }
@@ -62,7 +62,7 @@ fn write_events(out: &mut Vec<u8>, header: &Header, watch_id: &i64, events: &[Ev
     push_str(out, RESULT_BEGIN)?;
     let later = write_list(out, false, "events", events)?;
     let later = write_item(out, later, "header", header)?;
-    write_signed(out, later, "watch_id", watch_id)?;
+    write_signed(out, later, opening!("watch_id"), watch_id)?;
     push_str(out, RESULT_END)?;
     Ok(())
 }
@@ -79,9 +79,9 @@ fn write_canceled(
 {
     push_str(out, RESULT_BEGIN)?;
     let later = write_flag(out, false, "canceled", true)?;
-    let later = write_signed(out, later, "compact_revision", compact_revision)?;
+    let later = write_signed(out, later, opening!("compact_revision"), compact_revision)?;
     let later = write_item(out, later, "header", header)?;
-    write_signed(out, later, "watch_id", watch_id)?;
+    write_signed(out, later, opening!("watch_id"), watch_id)?;
     push_str(out, RESULT_END)?;
     Ok(())
 }

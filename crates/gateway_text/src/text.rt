@@ -1,5 +1,5 @@
 //! Pieces of a text, each written behind what is there.
-ghost use Rattle.std.specs.Prelude.{◌≡◌, ◌++◌, OnOk};
+ghost use Rattle.std.specs.Prelude.{◌≡◌, ◌++◌, ◌∷◌, [], OnOk};
 ghost use Rattle.base64.specs.Engines.{standard};
 ghost use Rattle.base64.specs.GeneralPurpose.{encode_of};
 
@@ -13,6 +13,14 @@ pub(crate) fn push_str(out: &mut Vec<u8>, piece: &str) -> Mem<()>
     ensures bytes { OnOk result (out.new.items ≡ out.old.items ++ piece.now) }
 {
     out.extend_from_slice(piece.as_bytes())
+}
+
+/// Writes one byte.
+pub(crate) fn push_byte(out: &mut Vec<u8>, byte: u8) -> Mem<()>
+    ensures bytes { OnOk result (out.new.items ≡ out.old.items ++ byte ∷ []) }
+{
+    out.push(byte)?;
+    Ok(())
 }
 
 /// Writes bytes in base64, straight to their place: the kit's way into a string clears a kilobyte for each.

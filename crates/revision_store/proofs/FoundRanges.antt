@@ -9,10 +9,6 @@ use Rattle.range_rows.specs.Answering.{is_by_key}
 use Rattle.revision_store.specs.InPlace.{is_found}
 use Rattle.revision_store.specs.Stored.{StoreState, reads}
 
-not_so : (b : Bool) → not b ≡ true → b ≡ false
-not_so false h = refl
-not_so true h = absurd (true≢false (sym h))
-
 none_there : (o : Option Refusal) → is_none o ≡ true → o ≡ None
 none_there None h = refl
 none_there (Some r) h = absurd (true≢false (sym h))
@@ -21,12 +17,6 @@ module _ (store : StoreState) (q : RangeReq) (found : is_found store q ≡ true)
   abbrev lacks : Option Refusal
   lacks = unreadable (reads store) (revision_read (reads store) q.revision)
 
-  -- they give rows, in the order of their keys, at a revision that can be read
-  pub found_gives : q.count_only ≡ false
-  found_gives = not_so q.count_only (and_parts (not q.count_only) (is_by_key q && is_none lacks) found).0
-
-  pub found_by_key : is_by_key q ≡ true
-  found_by_key = (and_parts (is_by_key q) (is_none lacks) (and_parts (not q.count_only) (is_by_key q && is_none lacks) found).1).0
-
+  -- their revision can be read
   pub found_readable : lacks ≡ None
   found_readable = none_there lacks (and_parts (is_by_key q) (is_none lacks) (and_parts (not q.count_only) (is_by_key q && is_none lacks) found).1).1

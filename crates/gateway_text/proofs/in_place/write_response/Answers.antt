@@ -6,4 +6,4 @@ use Rattle.gateway_text.proofs.in_place.write_response.Goals as goal
 pub returns : goal.returns
 unfolding response_data
 returns g c =
-    single_written _ (codes "response_range") _ refl c.in_ok-push_str.ensures.bytes c.in_ok-write_range.ensures c.in_ok-push_str-2.ensures.bytes
+    single_written _ (codes "response_range") _ refl c.in_ok-push_str.ensures.bytes c.in_ok-write_range.ensures c.in_ok-push_byte.ensures.bytes

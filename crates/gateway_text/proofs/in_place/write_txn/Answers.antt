@@ -5,6 +5,6 @@ use Rattle.gateway_text.proofs.in_place.write_txn.Goals as goal
 pub returns : goal.returns
 unfolding txn_data
 returns g c =
-    object_written _ c.in_ok-push_str.ensures.bytes
+    object_written _ c.in_ok-push_byte.ensures.bytes
     (c.in_ok-later.ensures then c.in_ok-later-2.ensures then c.in_ok-write_flag.ensures)
-    c.in_ok-push_str-2.ensures.bytes
+    c.in_ok-push_byte-2.ensures.bytes

@@ -6,6 +6,6 @@ pub returns : goal.returns
 unfolding refusal_data
 returns c =
     rw (← c.code.ensures, ← c.text-text.ensures)
-    (object_written _ c.in_ok-push_str.ensures.bytes
+    (object_written _ c.in_ok-push_byte.ensures.bytes
     (c.in_ok-later.ensures then c.in_ok-later-2.ensures then c.in_ok-write_text.ensures)
-    c.in_ok-push_str-2.ensures.bytes)
+    c.in_ok-push_byte-2.ensures.bytes)

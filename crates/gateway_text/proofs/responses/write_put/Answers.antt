@@ -3,6 +3,6 @@ use Rattle.gateway_text.proofs.responses.write_put.Goals as goal
 
 pub returns : goal.returns
 returns g c =
-    object_written _ c.in_ok-push_str.ensures.bytes
+    object_written _ c.in_ok-push_byte.ensures.bytes
     (c.in_ok-later.ensures then c.in_ok-write_row.ensures)
-    c.in_ok-push_str-2.ensures.bytes
+    c.in_ok-push_byte-2.ensures.bytes

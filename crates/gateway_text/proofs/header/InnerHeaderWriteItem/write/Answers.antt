@@ -4,4 +4,4 @@ use Rattle.gateway_text.proofs.header.InnerHeaderWriteItem.write.Goals as goal
 
 pub returns : goal.returns
 unfolding inner_header_data
-returns c = object_written _ c.in_ok-push_str.ensures.bytes c.in_ok-write_signed.ensures c.in_ok-push_str-2.ensures.bytes
+returns c = object_written _ c.in_ok-push_byte.ensures.bytes c.in_ok-write_signed.ensures c.in_ok-push_byte-2.ensures.bytes

@@ -1,7 +1,0 @@
-use Rattle.std.proofs.Common.{append_assoc}
-use Rattle.gateway_text.proofs.PlainLemmas.{escape_plain}
-use Rattle.gateway_text.proofs.member.write_quoted.Goals as goal
-
-pub returns : goal.returns
-returns c =
-    rw (c.in_ok-push_str-3.ensures.bytes, c.in_ok-push_str-2.ensures.bytes, c.in_ok-push_str.ensures.bytes, escape_plain c.args.text.now c.requires) (simp append_assoc)
