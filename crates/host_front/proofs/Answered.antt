@@ -1,8 +1,7 @@
 -- One event is answered: refused, or its step made.
 use Rattle.std.proofs.Common.{◌≡◌, ◌≢◌, ◌∙◌, sym, ap, subst, refl, ℕ, List, true, false}
-use Rattle.std.proofs.Common.{Bool, Option, None, Some, Ok, Err, is_some}
+use Rattle.std.proofs.Common.{Bool, Some, Ok, Err, is_some}
 use Rattle.std.specs.Prelude.{if◌then◌else◌}
-use Rattle.std.specs.Option.{option_map_or}
 use Rattle.std.specs.Str.{bytes_eq}
 use Rattle.std.specs.Cmp.Lexicographic.{bytes_decides}
 use Rattle.std.proofs.lemmas.Bool.{true≢false}
@@ -22,10 +21,10 @@ use Rattle.etcd_model.specs.Held.{Holds}
 use Rattle.etcd_model.specs.Machine.{history, machine}
 use Rattle.etcd_model.specs.Tenant.{Outcome}
 use Rattle.etcd_model.proofs.QuietSteps.{catch_up_is_done, drop_is_done, tick_is_done}
-use Rattle.tenant_machine.specs.Tenants.{MachineState, tenant}
+use Rattle.tenant_machine.specs.Tenants.{tenant}
 use Rattle.tenant_machine.specs.Plans.{Plan, takes_memory}
 use Rattle.tenant_machine.specs.declared.planned.Effect.TheVariants.{Nothing}
-use Rattle.steps_core.specs.Hosts.{HostState, HoldsAt, IsSureAt, PlansAt, CommitsAt, finds_at, machine_at, has_tenant}
+use Rattle.steps_core.specs.Hosts.{HostState, HoldsAt, IsSureAt, PlansAt, CommitsAt, machine_at, has_tenant}
 use Rattle.steps_core.specs.Hosts.{unplanned}
 use Rattle.steps_core.proofs.Runs.{sure_at}
 use Rattle.steps_core.proofs.Stepped.{unplanned_by}
@@ -144,39 +143,6 @@ step_untold h t step p a at unfixed is = record {
   where
     unanswered : is_unanswered a ≡ true
     unanswered = ap is_unanswered is
-
--- a step that takes memory, and finds none
-memory_told : (h : HostState) (t : List ℕ) (step : Step) (a : Answer) → (takes_none (Stepped t step) ≡ true → false ≡ true) → a ≡ memory_answer → Answers h (Stepped t step) a h
-memory_told h t step a takes_some is = record {
-  own = λ u S mine answered held. absurd (true≢false (sym unanswered ∙ answered));
-  none = λ apart. (refl, λ answered. absurd (true≢false (sym unanswered ∙ answered)));
-  memory = λ unanswered. (refl, is);
-  sure = λ u S mine takes held. absurd (true≢false (sym (takes_some takes)));
-  others = λ u apart. refl;
-  same = record { names = refl; reserved = refl; segments = refl };
-}
-  where
-    unanswered : is_unanswered a ≡ true
-    unanswered = ap is_unanswered is
-
-nowhere : (o : Option MachineState) → option_map_or (λ m. false) o false ≡ false
-nowhere None = refl
-nowhere (Some m) = refl
-
--- what a step that takes no memory is answered is not found
-none_found : (h : HostState) (t : List ℕ) (step : Step) → takes_none (Stepped t step) ≡ true → finds_at h t step ≡ false
-none_found h t (DropWatch slot) takes = nowhere (machine_at h t)
-none_found h t (Tick moment) takes = nowhere (machine_at h t)
-none_found h t (CatchUp budget) takes = nowhere (machine_at h t)
-none_found h t step takes = absurd (true≢false (sym takes))
-
--- a step for which there is no memory, and that takes some
-pub step_unfound : (h : HostState) (t : List ℕ) (step : Step) (a : Answer) → (takes_memory step ≡ false → false ≡ true) → a ≡ memory_answer → Answers h (Stepped t step) a h
-step_unfound h t step a takes_some is = memory_told h t step a (λ takes. takes_some (takes_step t step takes)) is
-
--- a step that is found, and for whose text there is no memory
-pub found_untold : (h : HostState) (t : List ℕ) (step : Step) (a : Answer) → true ≡ finds_at h t step → a ≡ memory_answer → Answers h (Stepped t step) a h
-found_untold h t step a found is = memory_told h t step a (λ takes. sym (none_found h t step takes) ∙ sym found) is
 
 -- a plan that changes nothing leaves the host as it is
 commits_nothing : (h : HostState) (t : List ℕ) (reply : Reply) → CommitsAt h t (record { effect = Nothing; reply = reply }) h

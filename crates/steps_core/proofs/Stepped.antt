@@ -1,6 +1,6 @@
 -- A plan that is committed is a step of the tenant.
 use Rattle.std.proofs.Common.{◌≡◌, ◌≢◌, ◌∙◌, sym, ap, subst, refl, ℕ, List, Option, is_some, true, false, true≢false}
-use Rattle.std.specs.Prelude.{if◌then◌else◌, IfOk, IfSome, Result, Ok, Err, Some, None}
+use Rattle.std.specs.Prelude.{if◌then◌else◌, IfOk, IfSome, IsOk, Result, Ok, Err, Some, None}
 use Rattle.std.specs.Option.{option_map_or}
 use Rattle.std.specs.declared.alloc.AllocError.{AllocError}
 use Rattle.etcd_types.specs.declared.step.Step.{Step}
@@ -70,6 +70,10 @@ pub finds_there : (h : HostState) (name : List ℕ) (step : Step) (m : MachineSt
     → IfOk told (λ found. is_some found ≡ finds m step) → IfOk told (λ found. is_some found ≡ finds_at h name step)
 finds_there h name step m is (Ok found) told = told ∙ sym (ap (λ (o : Option MachineState). option_map_or (λ m. finds m step) o false) is)
 finds_there h name step m is (Err e) told = told
+
+pub sure_there : (h : HostState) (name : List ℕ) (step : Step) (m : MachineState) → machine_at h name ≡ Some m → (told : Result (Option Found) AllocError)
+    → (finds m step ≡ false → IsOk told) → finds_at h name step ≡ false → IsOk told
+sure_there h name step m is told sure none = sure (sym (ap (λ (o : Option MachineState). option_map_or (λ m. finds m step) o false) is) ∙ none)
 
 -- where no tenant of that name is, nothing is found
 pub finds_nowhere : (h : HostState) (name : List ℕ) (step : Step) → machine_at h name ≡ None → false ≡ finds_at h name step

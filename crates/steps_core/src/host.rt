@@ -1,7 +1,6 @@
 //! All tenants, by name, over one pool.
 ghost use Rattle.std.specs.Prelude.{◌≡◌, ◌≤◌, false, IfOk, IfErr, IfSome, IsOk, OnErr, is_some, length, vec_len, []};
 ghost use Rattle.tenant_machine.specs.Finding.{found_plan};
-ghost use Rattle.tenant_machine.specs.Plans.{takes_memory};
 ghost use Rattle.steps_core.specs.Hosts.{finds_at, has_tenant, unplanned, IsSureAt};
 ghost use Rattle.steps_core.specs.Hosts.{FitsAt, PlansAt, CommitsAt, StepsAt};
 ghost use Rattle.steps_core.specs.Isolation.{step_turns, IsIsolated};
@@ -80,7 +79,7 @@ impl Host {
         ensures found { IfOk result (λ found. is_some found ≡ finds_at self.now tenant.now step.now) }
         ensures plan { IfOk result (λ found. IfSome found
             (λ answer. PlansAt self.now tenant.now step.now (found_plan answer))) }
-        ensures sure { takes_memory step.now ≡ false → IsOk result }
+        ensures sure { finds_at self.now tenant.now step.now ≡ false → IsOk result }
     {
         match self.tenants.get(tenant) {
             Some(found) => found.machine.find(alloc, step),

@@ -1,9 +1,10 @@
 -- What is found for a step is what the machine answers it.
 use Rattle.std.proofs.Common.{◌≡◌, ◌∙◌, ℕ, List, [], ◌∷◌, length, Bool, true, false, refl, ap, sym, subst, map}
-use Rattle.std.specs.Prelude.{◌&&◌, ◌||◌, ◌==◌, None, Ok, nat_le, pos}
+use Rattle.std.specs.Prelude.{◌&&◌, ◌||◌, ◌==◌, not, Option, None, Some, Ok, is_none, nat_le, pos}
 use Rattle.etcd_types.specs.Limits.{last_lease_id, last_revision}
 use Rattle.etcd_types.specs.declared.key_value.KeyValue.{KeyValue}
 use Rattle.etcd_types.specs.declared.kv.RangeReq.{RangeReq}
+use Rattle.etcd_types.specs.declared.refusal.Refusal.{Refusal}
 use Rattle.etcd_types.specs.declared.refusal.Refusal.TheVariants.{NoKey, NoSpace, UsedUp}
 use Rattle.etcd_types.specs.declared.reply.Reply.TheVariants.{Range as RangeReply, Txn as TxnReply}
 use Rattle.etcd_types.specs.declared.rows.RangeInPlace.{RangeInPlace}
@@ -28,8 +29,13 @@ use Rattle.tenant_machine.proofs.DecidingTxns.{IsTxnAnswer, txn_planned_does}
 use Rattle.tenant_machine.proofs.EarlyRefusals.{done_past_gate, let_through}
 use Rattle.tenant_machine.proofs.Holding.{plans}
 
+-- nothing refuses it early
+pub not_early : (early : Option Refusal) → is_none early ≡ true → early ≡ None
+not_early None h = refl
+not_early (Some r) h = absurd (cc)
+
 -- a key with bytes is not empty
-pub has_key : (key : List ℕ) → (length key == 0) ≡ false → is_empty key ≡ false
+pub has_key : (key : List ℕ) → not (length key == 0) ≡ true → is_empty key ≡ false
 has_key [] h = absurd (cc)
 has_key (b ∷ key) h = refl
 

@@ -25,9 +25,9 @@ found_reply answer = reply_of (λ rows. rows) answer
 abbrev pub found_plan : Found → Plan
 found_plan answer = record { effect = Nothing; reply = found_reply answer }
 
--- What a step is answered is found: a range with a key whose rows the store finds, or a transaction that nothing refuses
--- early and whose branch has such ranges alone.
+-- What a step is answered is found: a range with a key whose rows the store finds, or a transaction whose branch has such
+-- ranges alone and that nothing refuses early.
 abbrev pub finds : MachineState → Step → Bool
 finds m (Range q) = not (length q.key == 0) && is_found m.store q
-finds m (Txn t) = is_none (early_refusal (tenant m) (Txn t)) && is_found_txn m.store t
+finds m (Txn t) = is_found_txn m.store t && is_none (early_refusal (tenant m) (Txn t))
 finds m step = false

@@ -1,18 +1,14 @@
 //! Answers whose rows are found, and not made.
-ghost use Rattle.std.specs.Prelude.{◌≡◌, ◌&&◌, ◌==◌, false, None, IfOk, IfSome, IsOk, is_some, length, not};
+ghost use Rattle.std.specs.Prelude.{◌≡◌, false, true, IfOk, IfSome, IsOk, is_some};
 ghost use Rattle.etcd_types.specs.declared.step.Step.TheVariants.{Range, Txn};
-ghost use Rattle.revision_store.specs.InPlace.{is_found};
-ghost use Rattle.txn_plan.specs.Finding.{is_found_txn};
-ghost use Rattle.tenant_machine.specs.Deciding.{early_refusal};
 ghost use Rattle.tenant_machine.specs.Finding.{finds, found_plan};
-ghost use Rattle.tenant_machine.specs.Plans.{Plans, takes_memory};
-ghost use Rattle.tenant_machine.specs.Tenants.{tenant};
+ghost use Rattle.tenant_machine.specs.Plans.{Plans};
 
 use crate::machine::Machine;
 use etcd_types::{Mem, RangeReq, ReplyInPlace, Step, TxnReq};
 use revision_store::FoundRows;
 use std::alloc::Global;
-use txn_plan::{FoundTxn, reads_alone};
+use txn_plan::FoundTxn;
 
 /// An answer whose rows lie in their cells.
 pub type FoundAnswer<'a> = ReplyInPlace<FoundRows<'a>>;
@@ -25,52 +21,56 @@ impl Machine {
         ensures found { IfOk result (λ found. is_some found ≡ finds self.now step.now) }
         ensures plan { IfOk result
             (λ found. IfSome found (λ answer. Plans self.now step.now (found_plan answer))) }
-        ensures sure { takes_memory step.now ≡ false → IsOk result }
+        ensures sure { finds self.now step.now ≡ false → IsOk result }
+    {
+        if !self.finds(step) {
+            return Ok(None);
+        }
+        let answer = match step {
+            Step::Range(request) => self.find_range(alloc, request)?,
+            Step::Txn(request) => self.find_txn(alloc, request)?,
+            _ => unreachable!("no other step is found"),
+        };
+        Ok(Some(answer))
+    }
+
+    /// Whether a step is answered so. What refuses a transaction early is asked last: most take a branch that writes.
+    fn finds(&self, step: &Step) -> bool
+        ensures { result ≡ finds self.now step.now }
     {
         match step {
-            Step::Range(request) => self.find_range(alloc, request),
-            Step::Txn(request) => {
-                if !reads_alone(request) || self.early_refusal(step).is_some() {
-                    return Ok(None);
-                }
-                self.find_txn(alloc, request)
+            Step::Range(request) => {
+                !request.key.as_slice().is_empty() && self.store.finds(request)
             }
-            _ => Ok(None),
+            Step::Txn(request) => {
+                txn_plan::finds(&self.store, request) && self.early_refusal(step).is_none()
+            }
+            _ => false,
         }
     }
 
-    fn find_range(&self, alloc: Global, request: &RangeReq) -> Mem<Option<FoundAnswer<'_>>>
-        ensures found { IfOk result
-            (λ found. is_some found ≡ (not (length request.now.key == 0) && is_found self.now.store request.now)) }
-        ensures plan { IfOk result
-            (λ found. IfSome found (λ answer. Plans self.now (Range request.now) (found_plan answer))) }
+    fn find_range(&self, alloc: Global, request: &RangeReq) -> Mem<FoundAnswer<'_>>
+        requires { finds self.now (Range request.now) ≡ true }
+        ensures { IfOk result (λ answer. Plans self.now (Range request.now) (found_plan answer)) }
     {
-        if request.key.as_slice().is_empty() || !self.store.finds(request) {
-            return Ok(None);
-        }
         let range = self.store.find_rows(alloc, request)?;
         let header = self.header();
-        Ok(Some(ReplyInPlace::Range { header, range }))
+        Ok(ReplyInPlace::Range { header, range })
     }
 
-    /// The same for a transaction that nothing refuses early.
-    fn find_txn(&self, alloc: Global, request: &TxnReq) -> Mem<Option<FoundAnswer<'_>>>
-        requires { early_refusal (tenant self.now) (Txn request.now) ≡ None }
-        ensures found { IfOk result (λ found. is_some found ≡ is_found_txn self.now.store request.now) }
-        ensures plan { IfOk result
-            (λ found. IfSome found (λ answer. Plans self.now (Txn request.now) (found_plan answer))) }
+    fn find_txn(&self, alloc: Global, request: &TxnReq) -> Mem<FoundAnswer<'_>>
+        requires { finds self.now (Txn request.now) ≡ true }
+        ensures { IfOk result (λ answer. Plans self.now (Txn request.now) (found_plan answer)) }
     {
-        let Some(found) = txn_plan::find(alloc, &self.store, request)? else {
-            return Ok(None);
-        };
+        let found = txn_plan::find(alloc, &self.store, request)?;
         let FoundTxn {
             succeeded,
             responses,
         } = found;
-        Ok(Some(ReplyInPlace::Txn {
+        Ok(ReplyInPlace::Txn {
             header: self.header(),
             succeeded,
             responses,
-        }))
+        })
     }
 }

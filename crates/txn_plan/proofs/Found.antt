@@ -60,7 +60,8 @@ replies_alone store (Nested ∷ ops) h = absurd (true≢false (sym h))
 -- ---- a transaction whose rows are found
 
 module _ (store : StoreState) (t : TxnReq) where
-  all_found : is_found_txn store t ≡ true → list_all (is_found_op store) (branch (reads store) t) ≡ true
+  -- each of its operations is a range whose rows are found
+  pub all_found : is_found_txn store t ≡ true → list_all (is_found_op store) (branch (reads store) t) ≡ true
   all_found h = (and_parts (not (length (branch (reads store) t) == 0)) (list_all (is_found_op store) (branch (reads store) t)) h).1
 
   -- nothing refuses it, whatever leases there are

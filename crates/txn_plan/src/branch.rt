@@ -28,7 +28,7 @@ pub(crate) fn branch(request: &TxnReq, succeeded: bool) -> &[Op]
 
 /// Whether a branch of a transaction has operations, none of which writes. What is not one takes no branch whose rows are
 /// found.
-pub fn reads_alone(request: &TxnReq) -> bool
+pub(crate) fn reads_alone(request: &TxnReq) -> bool
     ensures { (store : StoreState) → is_found_txn store request.now ≡ true → result ≡ true }
 {
     is_of_reads(request.success.as_slice()) || is_of_reads(request.failure.as_slice())

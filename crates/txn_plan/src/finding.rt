@@ -1,5 +1,5 @@
 //! Transactions that read alone, whose rows are found, and not made.
-ghost use Rattle.std.specs.Prelude.{◌≡◌, ◌≤◌, true, length, map, vec_capacity, IfOk, IfSome, is_some};
+ghost use Rattle.std.specs.Prelude.{◌≡◌, ◌≤◌, true, length, map, vec_capacity, IfOk};
 ghost use Rattle.std.specs.List.{list_all};
 ghost use Rattle.etcd_types.specs.Rows.{op_reply_of};
 ghost use Rattle.etcd_model.specs.Operations.{op_reply};
@@ -7,7 +7,7 @@ ghost use Rattle.revision_store.specs.Stored.{reads};
 ghost use Rattle.txn_plan.specs.Finding.{found_plan, is_found_op, is_found_txn};
 ghost use Rattle.txn_plan.specs.Planned.{IsTxn};
 
-use crate::branch::{all_hold, branch};
+use crate::branch::{all_hold, branch, reads_alone};
 use etcd_types::{List, Mem, Op, TxnReq};
 use revision_store::{FoundRange, Store};
 use std::alloc::Global;
@@ -21,23 +21,30 @@ pub struct FoundTxn<'a> {
     pub responses: List<FoundRange<'a>>,
 }
 
-/// Finds what a transaction is answered where the branch that is taken has ranges alone, each of which gives rows in the
-/// order of their keys at a revision that can be read. Of any other the answer is `None`, which takes no memory.
-pub fn find<'a>(alloc: Global, store: &'a Store, request: &TxnReq) -> Mem<Option<FoundTxn<'a>>>
-    ensures found { IfOk result (λ found. is_some found ≡ is_found_txn store.now request.now) }
-    ensures txn { IfOk result
-        (λ found. IfSome found (λ txn. IsTxn store.now request.now (found_plan store.now txn))) }
+/// Whether the branch that a transaction takes has ranges alone, each of which gives rows in the order of their keys at a
+/// revision that can be read.
+pub fn finds(store: &Store, request: &TxnReq) -> bool
+    ensures { result ≡ is_found_txn store.now request.now }
+{
+    if !reads_alone(request) {
+        return false;
+    }
+    let ops = branch(request, all_hold(store, request.compare.as_slice()));
+    !ops.is_empty() && all_found(store, ops)
+}
+
+/// Finds what such a transaction is answered. It fails only for want of memory.
+pub fn find<'a>(alloc: Global, store: &'a Store, request: &TxnReq) -> Mem<FoundTxn<'a>>
+    requires { is_found_txn store.now request.now ≡ true }
+    ensures { IfOk result (λ txn. IsTxn store.now request.now (found_plan store.now txn)) }
 {
     let succeeded = all_hold(store, request.compare.as_slice());
     let ops = branch(request, succeeded);
-    if ops.is_empty() || !all_found(store, ops) {
-        return Ok(None);
-    }
     let responses = List::from_vec(find_ranges(alloc, store, ops)?);
-    Ok(Some(FoundTxn {
+    Ok(FoundTxn {
         succeeded,
         responses,
-    }))
+    })
 }
 
 /// Whether some operations are ranges alone, whose rows can be found.

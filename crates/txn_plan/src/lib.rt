@@ -8,8 +8,7 @@ mod folding;
 mod refusal;
 mod transaction;
 
-pub use branch::reads_alone;
-pub use finding::{FoundTxn, find};
+pub use finding::{FoundTxn, find, finds};
 pub use refusal::lease_refusal;
 pub use request_checks::check_txn as check;
 pub use revision_store::holds;

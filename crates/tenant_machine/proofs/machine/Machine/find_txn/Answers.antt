@@ -1,27 +1,32 @@
-use Rattle.std.proofs.Common.{◌≡◌, ◌∙◌, IfSome, is_some, map, sym, ap, subst}
-use Rattle.std.specs.Prelude.{Option}
+use Rattle.std.proofs.Common.{◌≡◌, ◌∙◌, ap, map, subst, sym}
+use Rattle.std.specs.Prelude.{is_none}
+use Rattle.std.proofs.lemmas.Bool.{and_parts}
 use Rattle.etcd_types.specs.declared.reply.Reply.TheVariants.{Txn as TxnReply}
 use Rattle.etcd_types.specs.declared.step.Step.TheVariants.{Txn}
 use Rattle.etcd_types.specs.Rows.{op_reply_of}
 use Rattle.revision_store.specs.Stored.{StoreState}
 use Rattle.txn_plan.specs.Finding.{found_plan as found_txn, is_found_txn}
 use Rattle.txn_plan.specs.Planned.{IsTxn}
-use Rattle.txn_plan.specs.declared.finding.FoundTxn.{FoundTxn}
+use Rattle.tenant_machine.specs.Deciding.{early_refusal}
 use Rattle.tenant_machine.specs.Plans.{Plans}
-use Rattle.tenant_machine.specs.Tenants.{MachineState}
+use Rattle.tenant_machine.specs.Tenants.{MachineState, tenant}
 use Rattle.tenant_machine.specs.declared.planned.Effect.TheVariants.{Nothing}
-use Rattle.tenant_machine.proofs.FindingRows.{txn_plans}
+use Rattle.tenant_machine.proofs.FindingRows.{not_early, txn_plans}
 use Rattle.tenant_machine.proofs.machine.Machine.find_txn.Goals as goal
 
-pub returns-clause-plan : goal.returns-clause-plan
-returns-clause-plan c =
+pub find-requires : goal.find-requires
+find-requires c =
     let m = c.args.self.now in
     let t = c.args.request.now in
-    let s0 = c.self.inside.store in
-    let found = c.in-Some.found in
-    let same : s0 ≡ m.store = ap (λ (s : MachineState). s.store) c.self.view_is in
-    let told = subst (λ (o : Option FoundTxn). IfSome o (λ txn. IsTxn s0 t (found_txn s0 txn))) c.in-Some.is c.in_ok-found.ensures.txn in
-    let is = subst (λ (s : StoreState). IsTxn s t (found_txn s found)) same told in
-    let there = subst (λ (o : Option FoundTxn). is_some o ≡ is_found_txn s0 t) c.in-Some.is c.in_ok-found.ensures.found in
+    ap (λ (s : MachineState). is_found_txn s.store t) c.self.view_is ∙ (and_parts (is_found_txn m.store t) (is_none (early_refusal (tenant m) (Txn t))) c.requires).0
+
+pub returns : goal.returns
+returns c =
+    let m = c.args.self.now in
+    let t = c.args.request.now in
+    let found = c.in_ok-found.found in
+    let same : c.self.inside.store ≡ m.store = ap (λ (s : MachineState). s.store) c.self.view_is in
+    let parts = and_parts (is_found_txn m.store t) (is_none (early_refusal (tenant m) (Txn t))) c.requires in
+    let is = subst (λ (s : StoreState). IsTxn s t (found_txn s found)) same c.in_ok-found.ensures in
     subst (λ header. Plans m (Txn t) (record { effect = Nothing; reply = TxnReply header found.succeeded (map (op_reply_of (λ rows. rows)) found.responses) })) (sym c.header.ensures)
-    (txn_plans m t found c.requires (sym (there ∙ ap (λ (s : StoreState). is_found_txn s t) same)) is)
+    (txn_plans m t found (not_early (early_refusal (tenant m) (Txn t)) parts.1) parts.0 is)
