@@ -37,15 +37,24 @@ ANSWERS = {
 }
 
 
+def beside(connection):
+    """What the first and the third tenant are answered of a key of theirs, with their revisions."""
+    return [connection.call(name, "kv/range", body_of({"key": text(b"own")}).decode()).body for name in ("one", "three")]
+
+
 def check(name, path):
     way, body = ANSWERS[name]
     asked = body_of(body).decode()
     tenants = [tenant_of("one"), tenant_of("two", CELLS), tenant_of("three")]
     with Held() as held, Server(path, configuration(tenants, segments=2 * CELLS // 64), held.variables) as server:
         with server.connect() as connection:
+            for other in ("one", "three"):
+                connection.call(other, "kv/put", body_of({"key": text(b"own"), "value": text(other.encode())}).decode())
+            before = beside(connection)
             filled(connection)
             connection.call("two", way, asked)
             answer, most, left = held.of(lambda: connection.call("two", way, asked))
+            want(beside(connection) == before, "the tenants beside it are answered otherwise")
     length = len(answer.body)
     print(f"{name}: {most:,} bytes for {length:,} of text, and {left:,} left", flush=True)
     want(length > ROWS * len(VALUE), f"it is answered {answer.body[:200]!r}")
