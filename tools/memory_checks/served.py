@@ -39,7 +39,9 @@ ANSWERS = {
 
 def beside(connection):
     """What the first and the third tenant are answered of a key of theirs, with their revisions."""
-    return [connection.call(name, "kv/range", body_of({"key": text(b"own")}).decode()).body for name in ("one", "three")]
+    told = [connection.call(name, "kv/range", body_of({"key": text(b"own")}).decode()).body for name in ("one", "three")]
+    want(all(b'"kvs"' in body for body in told), f"the tenants beside it have no row: {told}")
+    return told
 
 
 def check(name, path):
