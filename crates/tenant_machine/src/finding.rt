@@ -1,6 +1,10 @@
 //! Answers whose rows are found, and not made.
 ghost use Rattle.std.specs.Prelude.{◌≡◌, false, true, IfOk, IfSome, IsOk, is_some};
+ghost use Rattle.std.specs.List.{list_all};
 ghost use Rattle.etcd_types.specs.declared.step.Step.TheVariants.{Range, Txn};
+ghost use Rattle.etcd_types.specs.declared.txn.TxnReq.{TxnReq};
+ghost use Rattle.txn_plan.specs.Finding.{is_found_op};
+ghost use Rattle.txn_plan.specs.Planned.{IsTaken};
 ghost use Rattle.tenant_machine.specs.Finding.{finds, found_plan};
 ghost use Rattle.tenant_machine.specs.Plans.{Plans};
 
@@ -8,7 +12,7 @@ use crate::machine::Machine;
 use etcd_types::{Mem, RangeReq, ReplyInPlace, Step, TxnReq};
 use revision_store::FoundRows;
 use std::alloc::Global;
-use txn_plan::FoundTxn;
+use txn_plan::{Branch, FoundTxn};
 
 /// An answer whose rows lie in their cells.
 pub type FoundAnswer<'a> = ReplyInPlace<FoundRows<'a>>;
@@ -23,30 +27,23 @@ impl Machine {
             (λ found. IfSome found (λ answer. Plans self.now step.now (found_plan answer))) }
         ensures sure { finds self.now step.now ≡ false → IsOk result }
     {
-        if !self.finds(step) {
-            return Ok(None);
+        match step {
+            Step::Range(request) if self.finds_range(request) => {
+                Ok(Some(self.find_range(alloc, request)?))
+            }
+            Step::Txn(request) => match self.finds_txn(step, request) {
+                Some(branch) => Ok(Some(self.find_txn(alloc, branch)?)),
+                None => Ok(None),
+            },
+            _ => Ok(None),
         }
-        let answer = match step {
-            Step::Range(request) => self.find_range(alloc, request)?,
-            Step::Txn(request) => self.find_txn(alloc, request)?,
-            _ => unreachable!("no other step is found"),
-        };
-        Ok(Some(answer))
     }
 
-    /// Whether a step is answered so. What refuses a transaction early is asked last: most take a branch that writes.
-    fn finds(&self, step: &Step) -> bool
-        ensures { result ≡ finds self.now step.now }
+    /// Whether a range is answered so.
+    fn finds_range(&self, request: &RangeReq) -> bool
+        ensures { result ≡ finds self.now (Range request.now) }
     {
-        match step {
-            Step::Range(request) => {
-                !request.key.as_slice().is_empty() && self.store.finds(request)
-            }
-            Step::Txn(request) => {
-                txn_plan::finds(&self.store, request) && self.early_refusal(step).is_none()
-            }
-            _ => false,
-        }
+        !request.key.as_slice().is_empty() && self.store.finds(request)
     }
 
     fn find_range(&self, alloc: Global, request: &RangeReq) -> Mem<FoundAnswer<'_>>
@@ -58,11 +55,26 @@ impl Machine {
         Ok(ReplyInPlace::Range { header, range })
     }
 
-    fn find_txn(&self, alloc: Global, request: &TxnReq) -> Mem<FoundAnswer<'_>>
-        requires { finds self.now (Txn request.now) ≡ true }
-        ensures { IfOk result (λ answer. Plans self.now (Txn request.now) (found_plan answer)) }
+    /// The branch that a transaction takes, if it is answered so. What refuses it early is asked last: most take a branch that
+    /// writes.
+    fn finds_txn<'a>(&self, step: &Step, request: &'a TxnReq) -> Option<Branch<'a>>
+        requires { step.now ≡ Txn request.now }
+        ensures found { is_some result ≡ finds self.now step.now }
+        ensures taken { IfSome result (λ branch. IsTaken self.now.store request.now branch) }
     {
-        let found = txn_plan::find(alloc, &self.store, request)?;
+        let branch = txn_plan::finds(&self.store, request)?;
+        if self.early_refusal(step).is_some() {
+            return None;
+        }
+        Some(branch)
+    }
+
+    fn find_txn(&self, alloc: Global, branch: Branch<'_>) -> Mem<FoundAnswer<'_>>
+        requires { list_all (is_found_op self.now.store) branch.ops.now ≡ true }
+        ensures { (t : TxnReq) → IsTaken self.now.store t branch.entry → finds self.now (Txn t) ≡ true
+            → IfOk result (λ answer. Plans self.now (Txn t) (found_plan answer)) }
+    {
+        let found = txn_plan::find(alloc, &self.store, branch)?;
         let FoundTxn {
             succeeded,
             responses,

@@ -18,7 +18,8 @@ use Rattle.revision_store.specs.InPlace.{is_found}
 use Rattle.revision_store.proofs.FoundRanges.{found_readable}
 use Rattle.revision_store.specs.Stored.{StoreState, look, reads}
 use Rattle.txn_plan.specs.Finding.{found_plan, is_found_op, is_found_txn}
-use Rattle.txn_plan.specs.Planned.{IsTxn, changed, txn_refusal}
+use Rattle.txn_plan.specs.Planned.{IsTaken, IsTxn, changed, txn_refusal}
+use Rattle.txn_plan.specs.declared.branch.Branch.{Branch}
 use Rattle.txn_plan.specs.declared.finding.FoundTxn.{FoundTxn}
 
 -- ---- operations whose rows are found
@@ -68,20 +69,20 @@ module _ (store : StoreState) (t : TxnReq) where
   pub found_refused_not : (leases : List Lease) → is_found_txn store t ≡ true → txn_refusal leases store t ≡ None
   found_refused_not leases h = refused_not leases store (branch (reads store) t) (all_found h)
 
-  -- what is found is a plan of it
-  pub found_is_txn : (found : FoundTxn) → is_found_txn store t ≡ true → found.succeeded ≡ all_hold (reads store) t.compare
-      → map (op_reply_of (λ rows. rows)) found.responses ≡ map (op_reply (reads store) store.kept.current) (branch (reads store) t) → IsTxn store t (found_plan store found)
-  found_is_txn found h hold told =
+  -- what is found for operations of the branch that is taken is a plan of it
+  pub found_is_txn : (found : FoundTxn) (taken : Branch) → IsTaken store t taken → list_all (is_found_op store) taken.ops.now ≡ true → found.succeeded ≡ taken.succeeded
+      → map (op_reply_of (λ rows. rows)) found.responses ≡ map (op_reply (reads store) store.kept.current) taken.ops.now → IsTxn store t (found_plan store found)
+  found_is_txn found taken is found_all hold told =
       let ops = branch (reads store) t in
-      let alone = all_found h in
+      let alone : list_all (is_found_op store) ops ≡ true = ap (list_all (is_found_op store)) (sym is.ops) ∙ found_all in
       let none : changed store t ≡ [] = nothing_pending (look store) [] ops (writes_none store ops alone) in
       record {
         plan = record { follow = tt; once = λ key. omega arith };
         changes = sym none;
-        succeeded = hold;
+        succeeded = hold ∙ is.succeeded;
         adds = sym (adds_none store ops alone);
         revision = ap (λ (cs : List Change). pos (look store cs).current) (sym none);
-        responses = told ∙ sym (replies_alone store ops alone);
+        responses = told ∙ ap (map (op_reply (reads store) store.kept.current)) is.ops ∙ sym (replies_alone store ops alone);
       }
 
   -- and it is one that has a branch of ranges alone

@@ -15,6 +15,7 @@ use Rattle.etcd_model.specs.Operations.{branch, has_lease, ops_refusal, pending_
 use Rattle.etcd_model.specs.Reads.{Reads, revision_read, unreadable}
 use Rattle.revision_store.specs.Pending.{changes_key, puts_inside}
 use Rattle.revision_store.specs.Stored.{StoreState, IsPlanFor, changes_of, look, reads}
+use Rattle.txn_plan.specs.declared.branch.Branch.{Branch}
 use Rattle.txn_plan.specs.declared.transaction.PlannedTxn.{PlannedTxn}
 
 -- why a put that names this lease is refused for it: 0 names none, and any other has to be there
@@ -32,6 +33,11 @@ abbrev pub IsApart : Op → List Change → Type 0
 IsApart (Put p) pending = changes_key p.key pending ≡ false
 IsApart (Delete d) pending = puts_inside d pending ≡ false
 IsApart op pending = Unit {0}
+
+-- a branch is the one that a transaction takes
+pub record IsTaken (store : StoreState) (t : TxnReq) (taken : Branch) : Type 0 where
+  pub succeeded : taken.succeeded ≡ all_hold (reads store) t.compare
+  pub ops : taken.ops.now ≡ branch (reads store) t
 
 -- why the branch that is taken is refused
 abbrev pub txn_refusal : List Lease → StoreState → TxnReq → Option Refusal

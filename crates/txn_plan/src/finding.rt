@@ -1,13 +1,14 @@
 //! Transactions that read alone, whose rows are found, and not made.
-ghost use Rattle.std.specs.Prelude.{◌≡◌, ◌≤◌, true, length, map, vec_capacity, IfOk};
+ghost use Rattle.std.specs.Prelude.{◌≡◌, ◌≤◌, true, length, map, vec_capacity, is_some, IfOk, IfSome};
 ghost use Rattle.std.specs.List.{list_all};
 ghost use Rattle.etcd_types.specs.Rows.{op_reply_of};
+ghost use Rattle.etcd_types.specs.declared.txn.TxnReq.{TxnReq};
 ghost use Rattle.etcd_model.specs.Operations.{op_reply};
 ghost use Rattle.revision_store.specs.Stored.{reads};
 ghost use Rattle.txn_plan.specs.Finding.{found_plan, is_found_op, is_found_txn};
-ghost use Rattle.txn_plan.specs.Planned.{IsTxn};
+ghost use Rattle.txn_plan.specs.Planned.{IsTaken, IsTxn};
 
-use crate::branch::{all_hold, branch, reads_alone};
+use crate::branch::{Branch, reads_alone, taken};
 use etcd_types::{List, Mem, Op, TxnReq};
 use revision_store::{FoundRange, Store};
 use std::alloc::Global;
@@ -21,28 +22,31 @@ pub struct FoundTxn<'a> {
     pub responses: List<FoundRange<'a>>,
 }
 
-/// Whether the branch that a transaction takes has ranges alone, each of which gives rows in the order of their keys at a
+/// The branch that a transaction takes, if it has ranges alone, each of which gives rows in the order of their keys at a
 /// revision that can be read.
-pub fn finds(store: &Store, request: &TxnReq) -> bool
-    ensures { result ≡ is_found_txn store.now request.now }
+pub fn finds<'a>(store: &Store, request: &'a TxnReq) -> Option<Branch<'a>>
+    ensures found { is_some result ≡ is_found_txn store.now request.now }
+    ensures taken { IfSome result (λ branch. IsTaken store.now request.now branch) }
 {
     if !reads_alone(request) {
-        return false;
+        return None;
     }
-    let ops = branch(request, all_hold(store, request.compare.as_slice()));
-    !ops.is_empty() && all_found(store, ops)
+    let branch = taken(store, request);
+    if branch.ops.is_empty() || !all_found(store, branch.ops) {
+        return None;
+    }
+    Some(branch)
 }
 
-/// Finds what such a transaction is answered. It fails only for want of memory.
-pub fn find<'a>(alloc: Global, store: &'a Store, request: &TxnReq) -> Mem<FoundTxn<'a>>
-    requires { is_found_txn store.now request.now ≡ true }
-    ensures { IfOk result (λ txn. IsTxn store.now request.now (found_plan store.now txn)) }
+/// Finds what a transaction is answered that takes such a branch. It fails only for want of memory.
+pub fn find<'a>(alloc: Global, store: &'a Store, branch: Branch<'_>) -> Mem<FoundTxn<'a>>
+    requires { list_all (is_found_op store.now) branch.ops.now ≡ true }
+    ensures { (t : TxnReq) → IsTaken store.now t branch.entry
+        → IfOk result (λ txn. IsTxn store.now t (found_plan store.now txn)) }
 {
-    let succeeded = all_hold(store, request.compare.as_slice());
-    let ops = branch(request, succeeded);
-    let responses = List::from_vec(find_ranges(alloc, store, ops)?);
+    let responses = List::from_vec(find_ranges(alloc, store, branch.ops)?);
     Ok(FoundTxn {
-        succeeded,
+        succeeded: branch.succeeded,
         responses,
     })
 }

@@ -8,6 +8,7 @@ mod folding;
 mod refusal;
 mod transaction;
 
+pub use branch::Branch;
 pub use finding::{FoundTxn, find, finds};
 pub use refusal::lease_refusal;
 pub use request_checks::check_txn as check;

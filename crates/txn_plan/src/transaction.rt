@@ -5,7 +5,7 @@ ghost use Rattle.etcd_model.specs.Fields.{txn_fields};
 ghost use Rattle.etcd_types.specs.Steps.{writes_any};
 ghost use Rattle.txn_plan.specs.Planned.{IsTxn, txn_refusal};
 
-use crate::branch::{all_hold, branch};
+use crate::branch::{Branch, taken};
 use crate::folding::{Folded, fold};
 use crate::refusal::ops_refusal;
 use etcd_types::{List, Mem, Op, OpReply, Refusal, TxnReq};
@@ -46,8 +46,7 @@ pub fn plan(
     ensures sure { is_some (txn_refusal leases.now.leases store.now request.now) ≡ true → IsOk result }
     ensures planned { IfOk result (λ answer. IfOk answer (λ planned. IsTxn store.now request.now planned)) }
 {
-    let succeeded = all_hold(store, request.compare.as_slice());
-    let ops = branch(request, succeeded);
+    let Branch { succeeded, ops } = taken(store, request);
     if let Some(refusal) = ops_refusal(store, leases, ops) {
         return Ok(Err(refusal));
     }
