@@ -30,11 +30,11 @@ const SECONDS_AT_THE_END: u64 = 1;
 /// Where the operator's connections come in.
 pub struct OperatorSocket {
     event_loop: EventLoop,
-    door: Door,
+    guarded: GuardedListener,
 }
 
 /// Where he is listened to, and what he has to bring.
-struct Door {
+struct GuardedListener {
     /// The thread that serves the operator makes it one of its event loop.
     listener: net::TcpListener,
     token: Option<Vec<u8>>,
@@ -45,14 +45,14 @@ impl Drop for OperatorSocket {
     fn drop(self) {
         let OperatorSocket {
             event_loop: _,
-            door: _,
+            guarded: _,
         } = self;
     }
 }
 
-impl Drop for Door {
+impl Drop for GuardedListener {
     fn drop(self) {
-        let Door {
+        let GuardedListener {
             listener: _,
             token: _,
             patience: _,
@@ -60,17 +60,17 @@ impl Drop for Door {
     }
 }
 
-impl Door {
+impl GuardedListener {
     /// Listens where the configuration says.
     fn of<R: Net>(
         rt: &R,
         config: &OperatorConfig,
         token: Option<Vec<u8>>,
         patience: Patience,
-    ) -> io::Result<Door> {
+    ) -> io::Result<GuardedListener> {
         let listener = net::TcpListener::from(mio::net::TcpListener::bind(rt, config.listen)?);
         give_up(&listener, patience)?;
-        Ok(Door {
+        Ok(GuardedListener {
             listener,
             token,
             patience,
@@ -78,7 +78,7 @@ impl Door {
     }
 
     fn into_parts(self) -> (net::TcpListener, Option<Vec<u8>>, Patience) {
-        let Door {
+        let GuardedListener {
             listener,
             token,
             patience,
@@ -101,21 +101,24 @@ impl OperatorSocket {
             Some(token) => Some(Vec::from_slice(rt.alloc(), token.as_slice())?),
             None => None,
         };
-        let door = Door::of(rt, config, token, patience)?;
+        let guarded = GuardedListener::of(rt, config, token, patience)?;
         Ok(OperatorSocket {
             event_loop: EventLoop::new(rt)?,
-            door,
+            guarded,
         })
     }
 
     /// The address that the operator connects to.
     pub fn address(&self) -> io::Result<SocketAddr> {
-        self.door.listener.local_addr()
+        self.guarded.listener.local_addr()
     }
 
-    fn into_parts(self) -> (EventLoop, Door) {
-        let OperatorSocket { event_loop, door } = self;
-        (event_loop, door)
+    fn into_parts(self) -> (EventLoop, GuardedListener) {
+        let OperatorSocket {
+            event_loop,
+            guarded,
+        } = self;
+        (event_loop, guarded)
     }
 }
 
@@ -286,25 +289,25 @@ where
     R: Wait + Clock + RandomSource + AllocGlobal + Files + Eprint + Copy + Drop,
     D: TenantDirectory,
 {
-    let (mut event_loop, door) = socket.into_parts();
+    let (mut event_loop, guarded) = socket.into_parts();
     event_loop.limit_the_end(Duration::from_secs(SECONDS_AT_THE_END));
-    serve_at(rt, alloc, &mut event_loop, &mut operator, door, ended)
+    serve_from(rt, alloc, &mut event_loop, &mut operator, guarded, ended)
 }
 
-/// The same at a door, on an event loop.
-fn serve_at<R, D>(
+/// The same from a listener, on an event loop.
+fn serve_from<R, D>(
     rt: R,
     alloc: Global,
     event_loop: &mut EventLoop,
     operator: &mut Operator<'_, R, D>,
-    door: Door,
+    guarded: GuardedListener,
     ended: UnboundedReceiver<()>,
 ) -> io::Result<()>
 where
     R: Wait + Clock + RandomSource + AllocGlobal + Files + Eprint + Copy + Drop,
     D: TenantDirectory,
 {
-    let (listener, token, patience) = door.into_parts();
+    let (listener, token, patience) = guarded.into_parts();
     let (entrance, requests) = OperatorEntrance::open(alloc, token)?;
     let receiving = Receiving::new(rt, alloc, &*event_loop, patience, entrance)?;
     let arriving = Arriving {
