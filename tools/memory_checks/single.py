@@ -158,6 +158,7 @@ def short_calls():
     yield Single("a tick", "tick one 1\n", "204", 0)
     yield Single("a status", call("maintenance/status", {}), '200 {"dbSize"', FRONT)
     yield Single("the alarms", call("maintenance/alarm", {}), '200 {"header"', FRONT)
+    yield Single("a defragmentation", call("maintenance/defragment", {}), '200 {"header"', FRONT)
     yield Single("the end of a lease", call("lease/revoke", {"ID": "5"}), '200 {"header"', FRONT)
     yield Single("a compaction", call("kv/compaction", {"revision": str(KEYS // MAX_OPS)}), '200 {"header"', FRONT)
 

@@ -32,7 +32,7 @@ impl TenantBounds {
 
     /// How many connections a tenant has.
     pub fn open(&self, tenant: u64) -> usize {
-        self.counts.of_owner(tenant)
+        self.counts.of_owner(tenant).unwrap_or(0)
     }
 
     /// How many connections are open in all.

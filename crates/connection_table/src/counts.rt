@@ -76,20 +76,11 @@ impl Counts {
         self.lost.load(Ordering::Relaxed)
     }
 
-    pub(crate) fn of_owner(&self, owner: u64) -> usize {
-        match lock(&self.owners) {
-            Some(owners) => owners.get(&owner).map_or(0, |owned| owned.open),
-            None => 0,
-        }
-    }
-
-    /// How many connections go before others': as many as the owner has. Those of a tenant that is there no more go first:
-    /// nothing bounds them.
-    pub(crate) fn beside(&self, owner: u64) -> usize {
-        match lock(&self.owners) {
-            Some(owners) => owners.get(&owner).map_or(usize::MAX, |owned| owned.open),
-            None => usize::MAX,
-        }
+    /// How many connections an owner has; none of a tenant that is there no more.
+    pub(crate) fn of_owner(&self, owner: u64) -> Option<usize> {
+        let owners = lock(&self.owners)?;
+        let owned = owners.get(&owner)?;
+        Some(owned.open)
     }
 
     /// Takes the memory that one more tenant needs.

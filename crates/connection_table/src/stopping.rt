@@ -8,6 +8,7 @@ use std::sync::atomic::{AtomicBool, Ordering};
 /// Whether connections are accepted, and tells whoever accepts them that no more are to come.
 pub struct Stopping {
     has_begun: AtomicBool,
+    has_ended: AtomicBool,
     is_told: AtomicBool,
     /// It is kept open, so that its descriptor names no other socket.
     listener: Arc<TcpListener>,
@@ -17,6 +18,7 @@ impl Drop for Stopping {
     fn drop(self) {
         let Stopping {
             has_begun: _,
+            has_ended: _,
             is_told: _,
             listener: _,
         } = self;
@@ -28,6 +30,7 @@ impl Stopping {
     pub fn new(listener: Arc<TcpListener>) -> Stopping {
         Stopping {
             has_begun: AtomicBool::new(false),
+            has_ended: AtomicBool::new(false),
             is_told: AtomicBool::new(false),
             listener,
         }
@@ -41,6 +44,16 @@ impl Stopping {
     /// Connections are accepted, or were.
     pub fn has_begun(&self) -> bool {
         self.has_begun.load(Ordering::SeqCst)
+    }
+
+    /// The last connection was accepted: as many have come as were asked for.
+    pub fn end(&self) {
+        self.has_ended.store(true, Ordering::SeqCst);
+    }
+
+    /// No more connections are accepted: the last one was, or the server was told to end.
+    pub fn has_ended(&self) -> bool {
+        self.has_ended.load(Ordering::SeqCst) || self.is_told()
     }
 
     /// The server was told to end.

@@ -149,7 +149,8 @@ impl<R: Clock + Drop> ConnectionTable<R> {
         let since = entry.idle_since()?;
         Some(Idle {
             entry,
-            beside: self.counts.beside(entry.owner()),
+            // Nothing bounds those of a tenant that is there no more, so they go first.
+            beside: self.counts.of_owner(entry.owner()).unwrap_or(usize::MAX),
             since,
         })
     }

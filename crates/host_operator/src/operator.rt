@@ -192,7 +192,7 @@ where
     fn ready(&self) -> Result<OperatorAnswer, OperatorRefusal>
         ensures { IfOk result (λ answer. answer.status ≡ 200) }
     {
-        if self.stopping.is_told() {
+        if self.stopping.has_ended() {
             return Err(OperatorRefusal::Stopping);
         }
         if !self.stopping.has_begun() {

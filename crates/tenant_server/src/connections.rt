@@ -130,6 +130,7 @@ pub(crate) fn accept_all<R: Wait + Clock + Drop>(
     let mut at = 0usize;
     for _ in rt.forever() {
         if connections == Some(accepted) || stopping.is_told() {
+            stopping.end();
             return Ok(accepted);
         }
         let Ok((socket, _)) = listener.accept() else {
