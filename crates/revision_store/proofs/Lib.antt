@@ -9,6 +9,7 @@ pub mod Recorded
 pub mod Placed
 pub mod Counted
 pub mod Logged
+pub mod DeletesLeft
 pub mod FewRows
 pub mod FoundRanges
 pub mod ReadingCells

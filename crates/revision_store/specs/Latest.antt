@@ -27,6 +27,14 @@ row_left_at cells interval r xs c = option_and_then (row_left_by interval r xs) 
 abbrev pub rows_left_at : Cells → (List ℕ → Bool) → ℕ → List Recorded → List ℕ → List KeyValue
 rows_left_at cells interval r xs cs = filter_map (row_left_at cells interval r xs) cs
 
+-- a delete left no row
+abbrev pub LeavesNone : (List ℕ → Bool) → ℕ → List Recorded → Recorded → Type 0
+LeavesNone interval r xs x = x.row ≡ None → row_left_by interval r xs x ≡ None
+
+-- if the change under a cell is one
+abbrev pub LeavesNoneAt : Cells → (List ℕ → Bool) → ℕ → List Recorded → ℕ → Type 0
+LeavesNoneAt cells interval r xs c = IfSome (change_at cells c) (LeavesNone interval r xs)
+
 -- the order is that of the last changes, the last one first
 abbrev pub descends_by_change : SortOrder → SortTarget → Bool
 descends_by_change Descend Mod = true

@@ -6,7 +6,7 @@ ghost use Rattle.etcd_model.specs.Interval.{is_in};
 ghost use Rattle.etcd_model.specs.Ranges.{range_reply};
 ghost use Rattle.range_rows.specs.Reading.{read};
 ghost use Rattle.range_rows.specs.Taking.{HaveOwnKeys, first_of, most_held};
-ghost use Rattle.revision_store.specs.Latest.{gives_last, row_left_at, rows_left_at};
+ghost use Rattle.revision_store.specs.Latest.{LeavesNoneAt, gives_last, row_left_at, rows_left_at};
 ghost use Rattle.revision_store.specs.Stored.{cells, row_at};
 
 use crate::keys::lies_in;
@@ -131,6 +131,9 @@ impl Store {
         limit: usize,
     ) -> Mem<Vec<KeyValue>>
         requires there { AllByRecursion (λ c. IsSome (cells self.now c)) changes }
+        requires gone { AllByRecursion
+            (LeavesNoneAt (cells self.now) (is_in request.now.key request.now.range_end)
+            self.now.kept.current self.now.kept.changes) changes }
         requires own { HaveOwnKeys
             (rows_left_at (cells self.now) (is_in request.now.key request.now.range_end)
             self.now.kept.current self.now.kept.changes changes) }
@@ -154,8 +157,11 @@ impl Store {
     }
 
     /// The cell of the row that a change left to its key, if the key lies in the interval of a range and shows that row.
+    /// A delete left none, and to look its key up would take as long as to read some rows.
     fn row_left(&self, alloc: Global, request: &RangeReq, cell: CellNo) -> Mem<Option<CellNo>>
-        requires { IsSome (cells self.now cell) }
+        requires there { IsSome (cells self.now cell) }
+        requires gone { LeavesNoneAt (cells self.now) (is_in request.now.key request.now.range_end)
+            self.now.kept.current self.now.kept.changes cell }
         ensures row { IfOk result
             (λ found. option_and_then (row_at (cells self.now)) found
             ≡ row_left_at (cells self.now) (is_in request.now.key request.now.range_end)
@@ -163,6 +169,9 @@ impl Store {
         ensures there { IfOk result (λ found. IfSome found (λ c. IsSome (row_at (cells self.now) c))) }
     {
         let records = self.records();
+        if !records.is_put(cell) {
+            return Ok(None);
+        }
         if !lies_in(
             &records,
             cell,

@@ -9,7 +9,7 @@ use Rattle.range_rows.specs.Reading.{read}
 use Rattle.range_rows.specs.Taking.{NoneTies, first_of, most_held}
 use Rattle.range_rows.proofs.MixingRows.{own_apart, own_read}
 use Rattle.range_rows.proofs.TakingRows.{none_ties_before}
-use Rattle.revision_store.specs.Latest.{row_left_at, rows_left_at}
+use Rattle.revision_store.specs.Latest.{LeavesNoneAt, row_left_at, rows_left_at}
 use Rattle.revision_store.specs.Stored.{StoreState, cells, row_at}
 use Rattle.revision_store.proofs.LatestCells.{next_apart, next_first}
 use Rattle.revision_store.proofs.store.Store.last_rows.Goals as goal
@@ -22,6 +22,7 @@ loop-cell-init c =
     let none = c.in_ok-rows.ensures.items in
     record {
       there = c.requires.there;
+      gone = c.requires.gone;
       apart = subst (λ (rows : List KeyValue). NoneTies q (rows ++ map (read q) left)) (sym none) (own_apart q (map (read q) left) (own_read q left c.requires.own));
       first = ap (λ (rows : List KeyValue). first_of q c.args.limit (rows ++ map (read q) left)) none;
       few = omega (arith, ap length none);
@@ -47,8 +48,10 @@ loop-cell-preserved-in-Some-2 c =
     let apart = subst (λ (cs : List ℕ). NoneTies q (held ++ map (read q) (filter_map look cs))) here c.loop-cell.invariant.apart in
     let first = subst (λ (cs : List ℕ). first_of q c.args.limit (held ++ map (read q) (filter_map look cs)) ≡ first_of q c.args.limit all) here c.loop-cell.invariant.first in
     let there = subst (AllByRecursion (λ k. IsSome (cells s k))) here c.loop-cell.invariant.there in
+    let gone = subst (AllByRecursion (LeavesNoneAt (cells s) (is_in q.key q.range_end) s.kept.current s.kept.changes)) here c.loop-cell.invariant.gone in
     record {
       there = there.1;
+      gone = gone.1;
       apart = subst (λ (rows : List KeyValue). NoneTies q (rows ++ map (read q) (filter_map look rest))) (sym c.push_reserved.ensures.items) (next_apart look q c.args.limit held kept c.in-Some.cell rest row c.keep_few.ensures.enough is_read apart);
       first = subst (λ (rows : List KeyValue). first_of q c.args.limit (rows ++ map (read q) (filter_map look rest)) ≡ first_of q c.args.limit all) (sym c.push_reserved.ensures.items)
           (next_first look q c.args.limit held kept all c.in-Some.cell rest row c.keep_few.ensures.enough is_read first);

@@ -10,12 +10,21 @@ use Rattle.range_rows.specs.Reading.{read}
 use Rattle.range_rows.specs.Taking.{HaveOwnKeys, first_of}
 use Rattle.revision_store.specs.Latest.{OwnRevision, row_left_by}
 use Rattle.revision_store.specs.Stored.{StoreState, cells}
+use Rattle.revision_store.proofs.DeletesLeft.{deletes_left}
 use Rattle.revision_store.proofs.LatestGiven.{all_there, is_for_last, late_answer, made_at}
 use Rattle.revision_store.proofs.LatestRows.{found_in_order, own_found}
 use Rattle.revision_store.proofs.store.Store.reply_since.Goals as goal
 
 pub last_rows-requires-clause-there : goal.last_rows-requires-clause-there
 last_rows-requires-clause-there c = all_there (cells c.args.self.now) c.since-changes.result _ c.since-changes.ensures
+
+pub last_rows-requires-clause-gone : goal.last_rows-requires-clause-gone
+last_rows-requires-clause-gone c =
+    let s = c.args.self.now in
+    let q = c.args.request.now in
+    let xs = s.kept.changes in
+    let mods : AllByRecursion OwnRevision xs = subst (λ (t : StoreState). AllByRecursion OwnRevision t.kept.changes) c.self.view_is c.use_own_revisions.ensures in
+    deletes_left (is_in q.key q.range_end) s.kept.current xs c.use_invariant.ensures.kept.rises c.use_invariant.ensures.apart mods (cells s) c.args.from c.since-changes.result c.since-changes.ensures
 
 pub last_rows-requires-clause-own : goal.last_rows-requires-clause-own
 last_rows-requires-clause-own c =
