@@ -9,7 +9,7 @@ ghost use Rattle.gateway_http.specs.Requests.{IsRouteOf};
 ghost use Rattle.gateway_http.specs.Responses.{Sends};
 
 use crate::reading::{BodyTerms, Reading, WholeBody, bound_of, loss_of};
-use crate::response::{ResponseBody, respond};
+use crate::response::{ResponseBody, respond, room_for_fields};
 use crate::routing::route;
 use connection_table::{Requests, UnderWay};
 use etcd_types::Refusal;
@@ -17,9 +17,10 @@ use event_loop::{BodyTimer, Stall};
 use fair_turns::BodyShare;
 use futures::task::{Context, Poll};
 use futures::{Future, ready};
+use http::request::Parts;
 use hyper::body::Incoming;
 use hyper::service::Service;
-use hyper::{Request, Response};
+use hyper::{HeaderMap, Request, Response};
 use pending_calls::{Begun, CallServer, PendingCall, Route, Told, Unanswered};
 use std::alloc::{AllocError, Global};
 use std::mem;
@@ -64,6 +65,8 @@ pub struct Exchange<I, R: Wait + Clock + Drop, S: CallServer<R>> {
     /// None where there was no memory to share it.
     server: Option<Arc<S>>,
     standing: Standing<R>,
+    /// The room of the request's fields, for those of its response.
+    fields: HeaderMap,
     stage: Stage<I, R>,
 }
 
@@ -74,6 +77,7 @@ impl<I: Drop, R: Wait + Clock + Drop, S: CallServer<R>> Drop for Exchange<I, R, 
             alloc: _,
             server: _,
             standing: _,
+            fields: _,
             stage: _,
         } = self;
     }
@@ -127,19 +131,20 @@ where
             share,
             stall: Stall::new(self.rt, self.body_timer()),
         };
-        let reading = Reading::new(
-            self.alloc,
-            Unanswered::new(),
-            route,
-            req.into_body(),
-            terms,
-            lost,
-        );
+        let (head, body) = req.into_parts();
+        let Parts {
+            method: _,
+            uri: _,
+            version: _,
+            headers,
+        } = head;
+        let reading = Reading::new(self.alloc, Unanswered::new(), route, body, terms, lost);
         Exchange {
             rt: self.rt,
             alloc: self.alloc,
             server: Arc::try_clone(&self.server).ok(),
             standing,
+            fields: room_for_fields(self.alloc, headers),
             stage: Stage::Reading(reading),
         }
     }
@@ -251,9 +256,9 @@ impl<I: Drop, R: Wait + Clock + Copy + Drop, S: CallServer<R>> Exchange<I, R, S>
         ensures { IfOk result (λ response. Sends response told.answer) }
     {
         respond(
-            self.alloc,
             told,
             mem::replace(&mut self.standing, Standing::Free),
+            mem::replace(&mut self.fields, HeaderMap::new(self.alloc)),
         )
     }
 

@@ -15,13 +15,17 @@ use crate::piece::{Piece, Unsent};
 use fair_turns::{TakenText, Text, WatchTexts};
 use futures::ready;
 use futures::task::{Context, Poll};
+use http::response::Parts;
 use http_body::{Body, Frame, SizeHint};
 use hyper::header::{self, HeaderMap, HeaderName, HeaderValue};
-use hyper::{Response, StatusCode};
+use hyper::{Response, StatusCode, Version};
 use pending_calls::Told;
 use std::alloc::{AllocError, Global};
 use std::rt::Clock;
 use std::sync::Wait;
+
+/// For so many fields of a request room is kept, while the request is under way.
+const MOST_FIELDS: usize = 24;
 
 /// The body of a response: a text, and behind that of a watch the texts that follow.
 pub struct ResponseBody<R: Wait + Clock + Drop> {
@@ -48,9 +52,9 @@ impl<R: Wait + Clock + Drop> Drop for ResponseBody<R> {
 /// The response to what a request is told, with its kind of text; behind that of a connection too many the connection ends. A text
 /// that can't be shared ends it too: its call stays made.
 pub(crate) fn respond<R: Wait + Clock + Drop>(
-    alloc: Global,
     told: Told<R>,
     standing: Standing<R>,
+    fields: HeaderMap,
 ) -> Result<Response<ResponseBody<R>>, hyper::Error>
     ensures { IfOk result (λ response. Sends response told.answer) }
 {
@@ -61,15 +65,31 @@ pub(crate) fn respond<R: Wait + Clock + Drop>(
     };
     let (text, following) = answer.into_texts();
     let ends = matches!(standing, Standing::OneTooMany);
-    let mut response = Response::new(alloc, ResponseBody::of(text, following, standing)?);
-    *response.status_mut() = status;
+    let body = ResponseBody::of(text, following, standing)?;
+    let mut headers = fields;
+    headers.clear();
     let kind = HeaderValue::from_static("application/json");
-    set(response.headers_mut(), header::CONTENT_TYPE, kind)?;
+    set(&mut headers, header::CONTENT_TYPE, kind)?;
     if ends {
         let close = HeaderValue::from_static("close");
-        set(response.headers_mut(), header::CONNECTION, close)?;
+        set(&mut headers, header::CONNECTION, close)?;
     }
-    Ok(response)
+    let head = Parts {
+        status,
+        version: Version::HTTP_11,
+        headers,
+    };
+    Ok(Response::from_parts(head, body))
+}
+
+/// The room of a request's fields, which are let go. That of many fields is let go too: a request may wait for long.
+pub(crate) fn room_for_fields(alloc: Global, fields: HeaderMap) -> HeaderMap {
+    if fields.capacity() > MOST_FIELDS {
+        return HeaderMap::new(alloc);
+    }
+    let mut fields = fields;
+    fields.clear();
+    fields
 }
 
 fn set(headers: &mut HeaderMap, name: HeaderName, value: HeaderValue) -> Result<(), AllocError>
