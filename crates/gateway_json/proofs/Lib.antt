@@ -2,6 +2,7 @@ pub mod BodyLemmas
 pub mod ListLemmas
 pub mod NumberLemmas
 pub mod OtherLemmas
+pub mod PairLemmas
 pub mod PathLemmas
 pub mod StepLemmas
 pub mod TableLemmas

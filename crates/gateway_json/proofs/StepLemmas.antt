@@ -22,7 +22,7 @@ pub goes_on : {T : Type 0} (r : Result T Refusal) (e : Refusal) → IsErrAnd r (
 goes_on (Ok x) e is = absurd is
 goes_on (Err x) e is = ap Err is
 
-answer_same : (r wanted : Result Step Refusal) → r ≡ wanted → IsAnswer r wanted
+pub answer_same : (r wanted : Result Step Refusal) → r ≡ wanted → IsAnswer r wanted
 answer_same (Ok x) wanted is = sym is
 answer_same (Err e) wanted is = λ _. sym is
 

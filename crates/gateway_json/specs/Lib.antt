@@ -1,4 +1,5 @@
 pub mod Others
+pub mod Pairs
 pub mod Paths
 pub mod Taking
 pub mod Unread

@@ -47,7 +47,7 @@ fn read_members(alloc: Global, call: Call, value: &Value) -> Result<Step, Refusa
 }
 
 /// A step, unless its fields give a refusal.
-fn check_fields(step: Step) -> Result<Step, Refusal>
+pub(crate) fn check_fields(step: Step) -> Result<Step, Refusal>
     ensures { result ≡ check_fields step }
 {
     match fields(&step) {

@@ -11,7 +11,9 @@ mod maintenance;
 mod member;
 mod names;
 mod others;
+mod pair;
 mod paths;
+mod step_reader;
 mod txn;
 mod watch;
 
@@ -19,3 +21,4 @@ pub use base64_text::bytes_of_text;
 pub use call::{read_call, read_posted, read_step};
 pub use member::read_unsigned;
 pub use paths::{Target, call_of, target_of};
+pub use step_reader::StepReader;

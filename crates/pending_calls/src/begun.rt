@@ -39,8 +39,7 @@ impl<R: Wait + Clock + Drop> Begun<R> {
         if asked.request().len() > SHORT {
             return wait(rt, alloc, jobs, asked, None);
         }
-        server.begin_read();
-        match asked.request().read(alloc) {
+        match server.read(alloc, asked.request()) {
             Ok(step) if step.is_brief() => match server.serve(BriefRequest { asked, step }) {
                 Ok(told) => Begun::Answered(told),
                 Err(left) => wait_for_turn(rt, alloc, jobs, left),

@@ -1,9 +1,14 @@
 //! How the calls of a connection are served: brief ones at once where that can be, all others by workers.
+ghost use Rattle.std.specs.Prelude.{IfErr, IfOk};
 ghost use Rattle.pending_calls.specs.Outcomes.{IsServed};
+ghost use Rattle.pending_calls.specs.Requests.{IsStepOf, IsUnread};
 
 use crate::brief_request::BriefRequest;
 use crate::jobs::Jobs;
+use crate::request::Request;
 use crate::told::Told;
+use etcd_types::{Refusal, Step};
+use std::alloc::Global;
 use std::sync::Wait;
 
 /// What serves the calls of a thread's connections, however it comes by its tenants: so whoever holds a connection proves nothing
@@ -21,8 +26,11 @@ pub trait CallServer<R: Wait + Drop>: Drop {
     /// None was read yet since then. Who sends many calls in a row gives way to the others behind each.
     fn may_serve(&self) -> bool;
 
-    /// A short body is to be read to its step, which may take as long as to serve it, also where it is refused.
-    fn begin_read(&self);
+    /// The step that the short body of a request is read as, or why there is none. It is the one body that is read until the next
+    /// poll, also where it is refused: to read it may take as long as to serve it.
+    fn read(&self, alloc: Global, request: &Request) -> Result<Step, Refusal>
+        ensures step { IfOk result (λ step. IsStepOf request.now step) }
+        ensures refused { IfErr result (λ r. IsUnread request.now r) };
 
     /// Serves a brief call at once, or hands it back as it is: a worker serves it then.
     fn serve(&self, brief: BriefRequest) -> Result<Told<R>, BriefRequest>
@@ -43,7 +51,9 @@ impl<R: Wait + Drop> CallServer<R> for Jobs<R> {
         true
     }
 
-    fn begin_read(&self) {}
+    fn read(&self, alloc: Global, request: &Request) -> Result<Step, Refusal> {
+        request.read(alloc)
+    }
 
     fn serve(&self, brief: BriefRequest) -> Result<Told<R>, BriefRequest> {
         Err(brief)

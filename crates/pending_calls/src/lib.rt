@@ -24,6 +24,7 @@ pub use begun::Begun;
 pub use brief_request::BriefRequest;
 pub use call_server::CallServer;
 pub use entrances::{Entrance, Entrances, NamedInParts};
+pub use gateway_json::StepReader;
 pub use job_queue::{Job, JobQueue};
 pub use jobs::Jobs;
 pub use request::{NamedTenant, Request, RequestBody, Route};

@@ -4,7 +4,7 @@ ghost use Rattle.pending_calls.specs.Requests.{AsksTheSame, IsStepOf, IsUnread};
 
 use etcd_types::{Call, Refusal, Step};
 use fair_turns::{Share, TreeWeight};
-use gateway_json::read_step;
+use gateway_json::{StepReader, read_step};
 use std::alloc::Global;
 use std::sync::Arc;
 
@@ -89,6 +89,14 @@ impl Request {
         ensures refused { IfErr result (λ r. IsUnread self.now r) }
     {
         read_step(alloc, self.route.call, self.bytes())
+    }
+
+    /// The same, by what reads one body after another.
+    pub fn read_by(&self, alloc: Global, reader: &mut StepReader) -> Result<Step, Refusal>
+        ensures step { IfOk result (λ step. IsStepOf self.now step) }
+        ensures refused { IfErr result (λ r. IsUnread self.now r) }
+    {
+        reader.read(alloc, self.route.call, self.bytes())
     }
 
     /// The tenant that it names.

@@ -10,8 +10,9 @@ use crate::caller::Caller;
 use crate::clients::Clients;
 use crate::serving::ServingThread;
 use crate::tenants::ServedTenant;
+use etcd_types::{Refusal, Step};
 use fair_turns::{Scheduler, Stopwatch};
-use pending_calls::{BriefRequest, CallServer, Jobs, Told};
+use pending_calls::{BriefRequest, CallServer, Jobs, Request, StepReader, Told};
 use std::alloc::Global;
 use std::rt::Clock;
 use std::sync::atomic::{AtomicBool, Ordering};
@@ -34,6 +35,8 @@ pub struct InlineCalls<R: Wait + Drop, C: TenantCalls> {
     /// Where calls wait that are not served here.
     jobs: Jobs<R>,
     thread: Mutex<ServingThread<R, C>>,
+    /// What reads the short bodies of its connections, one after another.
+    reader: Mutex<StepReader>,
     /// A short body was read in the poll at hand.
     has_read: AtomicBool,
 }
@@ -46,6 +49,7 @@ impl<R: Wait + Drop, C: TenantCalls> Drop for InlineCalls<R, C> {
             shard: _,
             jobs: _,
             thread: _,
+            reader: _,
             has_read: _,
         } = self;
     }
@@ -59,6 +63,7 @@ impl<R: Wait + Clock + Copy + Drop, C: TenantCalls> InlineCalls<R, C> {
         number: usize,
         jobs: Jobs<R>,
         thread: ServingThread<R, C>,
+        reader: StepReader,
     ) -> InlineCalls<R, C> {
         InlineCalls {
             rt,
@@ -66,6 +71,7 @@ impl<R: Wait + Clock + Copy + Drop, C: TenantCalls> InlineCalls<R, C> {
             shard: number,
             jobs,
             thread: Mutex::new(thread),
+            reader: Mutex::new(reader),
             has_read: AtomicBool::new(false),
         }
     }
@@ -78,6 +84,7 @@ impl<R: Wait + Clock + Copy + Drop, C: TenantCalls> InlineCalls<R, C> {
             shard: _,
             jobs: _,
             thread,
+            reader: _,
             has_read: _,
         } = self;
         thread.into_inner().into_calls()
@@ -101,8 +108,10 @@ impl<R: Wait + Clock + Copy + Drop, C: TenantCalls> CallServer<R> for InlineCall
         !self.has_read.load(Ordering::Relaxed)
     }
 
-    fn begin_read(&self) {
+    fn read(&self, alloc: Global, request: &Request) -> Result<Step, Refusal> {
         self.has_read.store(true, Ordering::Relaxed);
+        let mut reader = self.reader.lock(&self.rt);
+        request.read_by(alloc, &mut *reader)
     }
 
     fn serve(&self, brief: BriefRequest) -> Result<Told<R>, BriefRequest> {

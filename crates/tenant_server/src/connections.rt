@@ -10,7 +10,7 @@ use event_loop::{ConnectionTask, EventLoop, MakesTasks, TaskGroup};
 use futures::task::{Context, Poll};
 use futures::{Future, ready};
 use hyper::rt::TokioTimer;
-use pending_calls::{CallServer, Jobs};
+use pending_calls::{CallServer, Jobs, StepReader};
 use std::alloc::{AllocGlobal, Global};
 use std::hash::RandomState;
 use std::os::fd::AsRawFd;
@@ -302,7 +302,10 @@ where
     R: Wait + Clock + RandomSource + AllocGlobal + Copy + Drop,
     C: TenantCalls,
 {
-    let calls = InlineCalls::new(rt, alloc, own.number, jobs, thread);
+    let Ok(reader) = StepReader::new(alloc) else {
+        return (Some(thread.into_calls()), Err(ServeFault::Memory));
+    };
+    let calls = InlineCalls::new(rt, alloc, own.number, jobs, thread, reader);
     let calls = match Arc::new(alloc, calls) {
         Ok(calls) => calls,
         Err(failed) => return (Some(failed.value.into_calls()), Err(ServeFault::Memory)),
