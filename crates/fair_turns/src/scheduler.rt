@@ -20,10 +20,13 @@ use std::time::Duration;
 use std::{hint, thread};
 
 /// How often an event loop looks whether another one has ended its turn: for as long as it takes to wake a worker.
-const LOOKS: u32 = 512;
+const LOOKS: u32 = 2048;
 
 /// How often it looks whether any other turn has ended: for as long as a brief call takes.
-const BRIEF_LOOKS: u32 = 64;
+const BRIEF_LOOKS: u32 = 128;
+
+/// How often a thread looks, before it rests, whether an event loop is still in the turn that it was given.
+const LOOKS_A_REST: u32 = 512;
 
 /// What may be due on a tenant, in the order of the round.
 #[derive(Clone, Copy)]
@@ -288,7 +291,7 @@ impl Scheduler {
     /// A thread begins a turn that came out of a channel. It waits until no event loop is in it.
     pub fn take_up<R: Wait + Clock>(rt: &R, turns: &TenantTurns) {
         for _ in rt.forever() {
-            for _ in 0..LOOKS {
+            for _ in 0..LOOKS_A_REST {
                 let now = turns.marks.load(Ordering::SeqCst);
                 if now & IN_LOOP == 0 && Scheduler::moves(&turns.marks, now, now & !OFFERED) {
                     return;
