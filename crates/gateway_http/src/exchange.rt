@@ -138,7 +138,8 @@ where
             version: _,
             headers,
         } = head;
-        let reading = Reading::new(self.alloc, Unanswered::new(), route, body, terms, lost);
+        let unanswered = Unanswered::new();
+        let reading = Reading::new(self.alloc, unanswered, route, body, terms, lost);
         Exchange {
             rt: self.rt,
             alloc: self.alloc,
