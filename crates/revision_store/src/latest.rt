@@ -23,6 +23,18 @@ use std::alloc::Global;
 /// read about four rows, so where too few are found in the end, little time is lost.
 const ROWS_FOR_A_CHANGE: usize = 16;
 
+/// Where so many changes left no row of the interval, those before them are not looked at: often they are deletes too,
+/// and each takes a while to be told as one.
+const TELLING: usize = 100;
+
+/// What a look at some of the last changes gives.
+struct Look {
+    /// The reply, where they left as many rows as are given.
+    reply: Option<OpReply>,
+    /// They left a row of the interval, or are too many to look at.
+    found: bool,
+}
+
 /// A range gives rows in the order of their last changes, the last one first, and has no filter.
 pub(crate) fn gives_last(request: &RangeReq) -> bool
     ensures { result ≡ gives_last request.now }
@@ -38,7 +50,7 @@ pub(crate) fn gives_last(request: &RangeReq) -> bool
 impl Store {
     /// What such a range of the newest rows is answered at a revision, where its interval has so many rows: if few of
     /// the last changes left as many of them as are given. More and more are looked at, as long as to read all rows
-    /// would take longer.
+    /// would take longer and some left a row.
     pub(crate) fn last_reply(
         &self,
         alloc: Global,
@@ -61,8 +73,9 @@ impl Store {
         let mut looked = limit.saturating_mul(2).saturating_add(1);
         while looked <= count / ROWS_FOR_A_CHANGE {
             let from = self.revision_before(looked);
-            if let Some(reply) = self.reply_since(alloc, request, from, count, revision)? {
-                return Ok(Some(reply));
+            let Look { reply, found } = self.look_since(alloc, request, from, count, revision)?;
+            if reply.is_some() || (looked >= TELLING && !found) {
+                return Ok(reply);
             }
             looked = looked.saturating_mul(8);
         }
@@ -70,21 +83,21 @@ impl Store {
     }
 
     /// The same, of the changes from a revision on.
-    fn reply_since(
+    fn look_since(
         &self,
         alloc: Global,
         request: &RangeReq,
         from: u64,
         count: usize,
         revision: u64,
-    ) -> Mem<Option<OpReply>>
+    ) -> Mem<Look>
         requires last { gives_last request.now ≡ true }
         requires count { count
             ≡ length (rows (is_in request.now.key request.now.range_end) self.now.kept.current
             self.now.kept.changes) }
         requires revision { revision < 2 ^ 63 }
         ensures { IfOk result
-            (λ found. IfSome found (λ reply. reply
+            (λ look. IfSome look.reply (λ reply. reply
             ≡ range_reply revision request.now
             (rows (is_in request.now.key request.now.range_end) self.now.kept.current
             self.now.kept.changes))) }
@@ -93,16 +106,25 @@ impl Store {
         self.log.use_own_revisions();
         let changes = self.since(from);
         if changes.len() > count / ROWS_FOR_A_CHANGE {
-            return Ok(None);
+            return Ok(Look {
+                reply: None,
+                found: true,
+            });
         }
         let limit = limit_of(request, count);
         let rows = self.last_rows(alloc, request, changes, limit)?;
         if rows.len() < limit {
-            return Ok(None);
+            return Ok(Look {
+                reply: None,
+                found: !rows.is_empty(),
+            });
         }
         let more = is_cut(request, count);
         let kvs = shown(alloc, request, rows);
-        Ok(Some(reply_of(revision, count as u64, kvs, more)))
+        Ok(Look {
+            reply: Some(reply_of(revision, count as u64, kvs, more)),
+            found: true,
+        })
     }
 
     /// A revision from which on there are so many changes, or all. Each step goes twice as far back.

@@ -13,7 +13,7 @@ use Rattle.revision_store.specs.Stored.{StoreState, cells}
 use Rattle.revision_store.proofs.DeletesLeft.{deletes_left}
 use Rattle.revision_store.proofs.LatestGiven.{all_there, is_for_last, late_answer, made_at}
 use Rattle.revision_store.proofs.LatestRows.{found_in_order, own_found}
-use Rattle.revision_store.proofs.store.Store.reply_since.Goals as goal
+use Rattle.revision_store.proofs.store.Store.look_since.Goals as goal
 
 pub last_rows-requires-clause-there : goal.last_rows-requires-clause-there
 last_rows-requires-clause-there c = all_there (cells c.args.self.now) c.since-changes.result _ c.since-changes.ensures
