@@ -8,10 +8,11 @@ ghost use Rattle.key_index.specs.Index.{NoneOfKey, is_put_of, key_count, no_head
 ghost use Rattle.key_index.specs.Moving.{IsMoved};
 
 use crate::compaction::{cut_head, cut_heads};
+use crate::last_place::LastPlace;
 use crate::records::{Records, RecordsMut};
-use crate::search::{Sought, last_up_to, search};
+use crate::search::{Sought, last_up_to, search, search_near};
 use crate::span::span;
-use chunk_list::{ChunkList, Walk};
+use chunk_list::{ChunkList, Place, Walk};
 use etcd_types::{CellNo, Mem};
 use std::alloc::{AllocError, Global};
 use std::marker::Model;
@@ -23,6 +24,8 @@ pub struct KeyIndex {
     live: ChunkList<CellNo>,
     /// Its room is what the index has: `grow_rooms` makes room among the live ones first.
     dead: ChunkList<CellNo>,
+    /// In one of them.
+    last: LastPlace,
 }
 
 impl Model for KeyIndex {
@@ -49,6 +52,7 @@ impl KeyIndex {
         Ok(KeyIndex {
             live: ChunkList::new(alloc, capacity)?,
             dead: ChunkList::new(alloc, capacity)?,
+            last: LastPlace::new(),
         })
     }
 
@@ -71,7 +75,7 @@ impl KeyIndex {
         requires { IsIndexOf (R.cells records.now) self.now.live self.now.dead }
         ensures { AreHeadsIn (R.cells records.now) self.now.live key.now range_end.now result }
     {
-        heads_in(&self.live, records, key, range_end)
+        heads_in(&self.live, &self.last, records, key, range_end)
     }
 
     /// The same of the keys that are deleted.
@@ -84,7 +88,7 @@ impl KeyIndex {
         requires { IsIndexOf (R.cells records.now) self.now.live self.now.dead }
         ensures { AreHeadsIn (R.cells records.now) self.now.dead key.now range_end.now result }
     {
-        heads_in(&self.dead, records, key, range_end)
+        heads_in(&self.dead, &self.last, records, key, range_end)
     }
 
     /// The last change of the key at a revision at most this one.
@@ -131,10 +135,11 @@ impl KeyIndex {
         ensures free { R.free records.new ≡ R.free records.old }
         ensures rest { R.same_rest records.old records.new }
     {
+        let near = self.last.get();
         let older = if records.is_put(cell) {
-            move_head(&mut self.live, &mut self.dead, records, cell)
+            move_head(&mut self.live, &mut self.dead, records, cell, near)
         } else {
-            move_head(&mut self.dead, &mut self.live, records, cell)
+            move_head(&mut self.dead, &mut self.live, records, cell, near)
         };
         records.set_older(cell, older);
     }
@@ -184,9 +189,10 @@ impl KeyIndex {
     }
 }
 
-/// The newest records of the keys of an interval among those of a list.
+/// The newest records of the keys of an interval among those of a list. Where that begins is kept.
 fn heads_in<'a, R: Records>(
     heads: &'a ChunkList<CellNo>,
+    last: &LastPlace,
     records: &R,
     key: &[u8],
     range_end: &[u8],
@@ -195,16 +201,18 @@ fn heads_in<'a, R: Records>(
     ensures { AreHeadsIn (R.cells records.now) heads.now.items key.now range_end.now result }
 {
     let (from, count) = span(heads, records, key, range_end);
+    last.keep(from);
     heads.walk(from, count)
 }
 
 /// Makes a record the newest of its key, in the list of those that are of its kind: the one before leaves its
-/// place there, or the list of the others. Answers that one.
+/// place there, or the list of the others. Answers that one. Where the key was looked up last, it is looked for first.
 fn move_head<R: Records>(
     these: &mut ChunkList<CellNo>,
     others: &mut ChunkList<CellNo>,
     records: &R,
     cell: CellNo,
+    near: Place,
 ) -> Option<CellNo>
     requires room { length these.old.items < these.old.room }
     requires placed { IsPlaced (R.cells records.now) cell }
@@ -218,7 +226,7 @@ fn move_head<R: Records>(
     ensures others_room { others.new.room ≡ others.old.room }
 {
     let sought = Sought::KeyOf(cell);
-    match search(these, records, &sought) {
+    match search_near(these, records, &sought, near) {
         Ok(place) => {
             let head = these.get(place);
             these.set(place, cell);
@@ -226,7 +234,7 @@ fn move_head<R: Records>(
         }
         Err(place) => {
             these.insert(place, cell);
-            match search(others, records, &sought) {
+            match search_near(others, records, &sought, near) {
                 Ok(place) => Some(others.remove(place)),
                 Err(_) => None,
             }

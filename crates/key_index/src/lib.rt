@@ -31,6 +31,7 @@
 
 mod compaction;
 mod index;
+mod last_place;
 mod records;
 mod search;
 mod span;

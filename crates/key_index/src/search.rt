@@ -75,6 +75,28 @@ pub(crate) fn search<R: Records>(
     }
 }
 
+/// The same, which needs no search where the key stands at a place that is likely.
+pub(crate) fn search_near<R: Records>(
+    heads: &ChunkList<CellNo>,
+    records: &R,
+    sought: &Sought<'_>,
+    near: Place,
+) -> Result<Place, Place>
+    requires spread { IsSpread (R.cells records.now) heads.now.items }
+    requires sought { IsThere (R.cells records.now) sought.now }
+    ensures { MatchResult result
+        (IsFoundAt (R.cells records.now) heads.now (sought_key (R.cells records.now) sought.now))
+        (IsMissingAt (R.cells records.now) heads.now (sought_key (R.cells records.now) sought.now)) }
+{
+    if !heads.has_item(near) {
+        return search(heads, records, sought);
+    }
+    match stands(heads.get(near), records, sought) {
+        Ordering::Equal => Ok(near),
+        _ => search(heads, records, sought),
+    }
+}
+
 /// The last change at a revision at most this one, of the key whose newest record is under a cell.
 pub fn last_up_to<R: Records>(head: CellNo, records: &R, revision: u64) -> Option<CellNo>
     requires chained { IsChained (R.cells records.now) }
