@@ -186,6 +186,31 @@ impl<T: Copy> ChunkList<T> {
         Place { chunk, offset }
     }
 
+    /// The same, where that is likely the last item's place: it looks there first.
+    pub fn search_last<S: Test<T>>(&self, test: &S) -> Place
+        requires { All (S.can test.now) self.now.items }
+        ensures place { IsPlace self.now.sizes result }
+        ensures turn { (k : ℕ) → TurnsAt (S.test test.now) self.now.items k → IsPlaceAt self.now result k }
+    {
+        let Place { chunk, offset: end } = self.end();
+        if end < 2 {
+            return self.search(test);
+        }
+        let before = Place {
+            chunk,
+            offset: end - 2,
+        };
+        let last = Place {
+            chunk,
+            offset: end - 1,
+        };
+        if test.holds(self.get(before)) && !test.holds(self.get(last)) {
+            last
+        } else {
+            self.search(test)
+        }
+    }
+
     /// Whether an item stands at a place.
     pub fn has_item(&self, place: Place) -> bool
         ensures item { IsTrue result ↔ HasItem self.now.sizes place }

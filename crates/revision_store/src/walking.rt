@@ -172,7 +172,7 @@ fn walk_from<'a, R: Records>(
     ensures from { map (change_at (R.cells records.now)) result
         ≡ map Some (since revision (changes_in (R.cells records.now) order.now.items)) }
 {
-    let from = order.search(&IsBelow { records, revision });
+    let from = order.search_last(&IsBelow { records, revision });
     let count = order.count_between(from, order.end());
     order.walk(from, count)
 }

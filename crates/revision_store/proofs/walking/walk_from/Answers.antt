@@ -22,7 +22,7 @@ walk-requires g c =
     let items = c.args.order.now.items in
     let n = prefix_len (is_below cells c.args.revision) items in
     let turns = turn (is_below cells c.args.revision) items (turning cells c.args.revision items c.requires.rises c.requires.there) in
-    let at = c.search-from.ensures.turn n turns in
+    let at = c.search_last-from.ensures.turn n turns in
     record {
       place_is = at.place_is;
       item_is = λ some. at.item_is (omega (arith, some, c.count_between-count.ensures, c.end.ensures.position_is, at.position_is));
@@ -32,7 +32,7 @@ walk-requires g c =
 pub returns-clause-few : goal.returns-clause-few
 returns-clause-few g c =
     let items = c.args.order.now.items in
-    let at = position_of c.args.order.now.sizes c.search-from.result in
+    let at = position_of c.args.order.now.sizes c.search_last-from.result in
     let rest = rest_of items at _ c.count_between-count.result c.walk.result c.walk.ensures c.count_between-count.ensures c.end.ensures.position_is in
     omega (arith, ap length rest, length-drop at items)
 
@@ -40,9 +40,9 @@ pub returns-clause-from : goal.returns-clause-from
 returns-clause-from g c =
     let cells = g.R.Records.cells c.args.records.now in
     let items = c.args.order.now.items in
-    let at = position_of c.args.order.now.sizes c.search-from.result in
+    let at = position_of c.args.order.now.sizes c.search_last-from.result in
     let rest = rest_of items at _ c.count_between-count.result c.walk.result c.walk.ensures c.count_between-count.ensures c.end.ensures.position_is in
     let n = prefix_len (is_below cells c.args.revision) items in
     let turns = turn (is_below cells c.args.revision) items (turning cells c.args.revision items c.requires.rises c.requires.there) in
-    let here : TurnsAt (is_below cells c.args.revision) items at = subst (TurnsAt (is_below cells c.args.revision) items) (sym (c.search-from.ensures.turn n turns).position_is) turns in
+    let here : TurnsAt (is_below cells c.args.revision) items at = subst (TurnsAt (is_below cells c.args.revision) items) (sym (c.search_last-from.ensures.turn n turns).position_is) turns in
     ap (map (change_at cells)) rest ∙ shown_from cells items at c.requires.there ∙ ap (map Some) (found_at cells c.args.revision items at here)
