@@ -1,11 +1,12 @@
 -- Watches in their slots.
-use Rattle.std.proofs.Common.{◌≡◌, ℕ, zero, suc, ◌+◌, ◌<◌, ◌≤◌, List, [], ◌∷◌, length, get_or, map, Bool, true, false, cond, refl, sym, ap, ◌∙◌, subst, arith}
+use Rattle.std.proofs.Common.{◌≡◌, ℕ, zero, suc, ◌+◌, ◌<◌, ◌≤◌, List, [], ◌∷◌, length, get_or, map, Bool, true, false, cond, refl, sym, ap, ◌∙◌, subst, arith, replicate}
 use Rattle.std.specs.Prelude.{Option, Some, None, is_none, nat_le, nat_lt, not, option_and_then, option_map, position, slice_get, slice_set}
 use Rattle.std.specs.List.{position_or_len}
 use Rattle.std.proofs.lemmas.Bool.Decides.{nat_tests}
 use Rattle.std.proofs.lemmas.Option.{get_or_from_slice_get, slice_get-get_or, slice_get_within}
-use Rattle.std.proofs.lemmas.List.{map-set, set-get_or, length-map}
+use Rattle.std.proofs.lemmas.List.{map-set, set-get_or, length-map, length-replicate}
 use Rattle.std.proofs.lemmas.List.Elements.{All-map, All-set, All-weaker}
+use Rattle.etcd_types.specs.Limits.{watch_slots}
 use Rattle.etcd_model.specs.declared.state.Watch.{Watch}
 use Rattle.etcd_model.specs.Store.{Store}
 use Rattle.revision_store.specs.Stored.{StoreState}
@@ -106,3 +107,15 @@ open_slot (o ∷ slots) (suc i) w is = open_slot slots i w is
 pub agrees_in : (store : StoreState) (slots : List (Option WatchState)) (i : ℕ) (w : WatchState) → AllAgree slots store → slice_get slots i ≡ Some (Some w) → Agrees w store
 agrees_in store slots i w all at =
     subst (OneAgrees store) (get_or_from_slice_get slots i (Some w) (Some w) at) (all i (Some w) (slice_get_within slots i (Some w) at))
+
+free_at : (n k : ℕ) (d : Option WatchState) → k < n → get_or (replicate n None) k d ≡ None
+free_at zero k d lt = absurd (omega (arith, lt))
+free_at (suc n) zero d lt = refl
+free_at (suc n) (suc k) d lt = free_at n k d (omega (arith, lt))
+
+-- where no slot has a watch, all agree with any store
+pub free_agree : (n : ℕ) (slots : List (Option WatchState)) → slots ≡ replicate n None → (store : StoreState) → AllAgree slots store
+free_agree n slots free store k d lt =
+    let short : k < n = omega (arith, lt, ap length free, length-replicate {A = Option WatchState} n None) in
+    let none : get_or slots k d ≡ None = ap (λ (xs : List (Option WatchState)). get_or xs k d) free ∙ free_at n k d short in
+    subst (OneAgrees store) (sym none) tt

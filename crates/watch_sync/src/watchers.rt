@@ -24,16 +24,21 @@ use std::marker::Model;
 /// Slots, each free or with a watch.
 pub struct Watchers {
     pub(crate) slots: Vec<Option<OpenWatch>>,
+    /// `false` as long as there was no watch: what a tenant without watches writes passes all slots by.
+    watched: bool,
 }
 
 impl Drop for Watchers {
     fn drop(self) {
-        let Watchers { slots: _ } = self;
+        let Watchers {
+            slots: _,
+            watched: _,
+        } = self;
     }
 }
 
 impl Model for Watchers {
-    ghost use Rattle.std.specs.Prelude.{List, Option, length, ◌≡◌};
+    ghost use Rattle.std.specs.Prelude.{List, Option, None, false, length, replicate, ◌≡◌};
     ghost use Rattle.etcd_types.specs.Limits.{watch_slots};
     ghost use Rattle.watch_sync.specs.Agreeing.{WatchState};
     ghost use Rattle.watch_sync.specs.Codes.{watchers_code};
@@ -44,7 +49,8 @@ impl Model for Watchers {
 
     ghost view = { λ a. a.slots.items };
 
-    ghost invariant = { λ a. length a.slots.items ≡ watch_slots };
+    ghost invariant = { λ a. (length a.slots.items ≡ watch_slots)
+        × (a.watched ≡ false → a.slots.items ≡ replicate watch_slots None) };
 }
 
 /// The first slot that is free.
@@ -64,7 +70,10 @@ impl Watchers {
         'freeing: for _slot in 0..WATCH_SLOTS {
             slots.push_reserved(None);
         }
-        Ok(Watchers { slots })
+        Ok(Watchers {
+            slots,
+            watched: false,
+        })
     }
 
     /// Which takes may not be quiet at a moment, and which watches are far behind.
@@ -112,6 +121,7 @@ impl Watchers {
     {
         let NewWatch { slot, watch } = new;
         self.slots[slot as usize] = Some(watch);
+        self.watched = true;
         slot
     }
 
@@ -122,6 +132,7 @@ impl Watchers {
     {
         let slot = slot as usize;
         if slot < self.slots.len() {
+            self.watched = true;
             self.slots[slot] = None;
         }
     }
@@ -133,7 +144,9 @@ impl Watchers {
         ensures agree { (old : StoreState) (writes : List Write) → Commits old store.now writes
             → AllAgree self.old old → AllAgree self.new store.now }
     {
-        note_all(&mut self.slots, store);
+        if self.watched {
+            note_all(&mut self.slots, store);
+        }
     }
 
     /// Goes on with the rings that are behind, over so many kept changes at most, and answers how many are left of
@@ -146,6 +159,7 @@ impl Watchers {
         ensures budget { passed_all store.now.kept self.old self.new + result ≡ budget }
         ensures stops { All (MayStopIn store.now.kept result) self.new }
     {
+        self.watched = true;
         catch_up_all(&mut self.slots, store, budget as usize)
     }
 
@@ -155,7 +169,9 @@ impl Watchers {
         ensures agree { (old : StoreState) (revision : ℕ) → Compacts old store.now revision
             → AllAgree self.old old → AllAgree self.new store.now }
     {
-        cut_all(&mut self.slots, store);
+        if self.watched {
+            cut_all(&mut self.slots, store);
+        }
     }
 
     /// Makes what a take planned. It takes no memory and cannot fail.
@@ -171,6 +187,7 @@ impl Watchers {
             Taken::Told { slot, next, last } => {
                 let slot = slot as usize;
                 if slot < self.slots.len() {
+                    self.watched = true;
                     told(&mut self.slots[slot], store, next, last);
                 }
             }

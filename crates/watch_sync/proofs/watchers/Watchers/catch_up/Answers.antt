@@ -1,4 +1,4 @@
-use Rattle.std.proofs.Common.{◌≡◌, ◌+◌, ◌∙◌, length, ap, arith, subst, sym}
+use Rattle.std.proofs.Common.{◌≡◌, ◌+◌, ◌∙◌, length, ap, arith, rules, subst, sym}
 use Rattle.std.proofs.lemmas.List.{with_items_is}
 use Rattle.std.specs.List.{All}
 use Rattle.watch_sync.specs.Catching.{MayStopIn, passed_all}
@@ -9,7 +9,7 @@ pub invariant_of-self : goal.invariant_of-self
 invariant_of-self c =
     let same = c.deref_mut.ensures.value in
     let long : length c.catch_up_all.new.slots ≡ c.self.inside.slots.len = omega (arith, ap length same) in
-    ap length (with_items_is c.self.inside.slots c.catch_up_all.new.slots long) ∙ omega (arith, ap length same, c.self.invariant)
+    (ap length (with_items_is c.self.inside.slots c.catch_up_all.new.slots long) ∙ omega (arith, ap length same, c.self.invariant.0), λ free. search rules)
 
 pub returns-clause-watches : goal.returns-clause-watches
 returns-clause-watches c =

@@ -31,7 +31,7 @@ returns-in_err-watch-clause-full c =
 pub overflow_cast-result : goal.overflow_cast-result
 overflow_cast-result c =
     let within = position-Some is_none c.deref.result.now c.in-Some.slot None (sym c.free_slot.ensures ∙ c.in-Some.is) in
-    let lt : c.in-Some.slot < 256 = omega (arith, within.0, ap length c.deref.ensures.value, c.self.invariant) in
+    let lt : c.in-Some.slot < 256 = omega (arith, within.0, ap length c.deref.ensures.value, c.self.invariant.0) in
     search rules
 
 pub returns-clause-slot : goal.returns-clause-slot
