@@ -237,6 +237,7 @@ impl Region {
     /// Gives the record's key.
     ///
     /// Where the sink finds no memory, it was given some bytes from the key's first on.
+    #[inline(always)]
     pub fn read_key<S: Sink>(&self, cell: CellNo, sink: &mut S) -> Mem<()>
         requires { IsHead self.now cell }
         ensures ok { OnOk result
@@ -251,6 +252,7 @@ impl Region {
     /// Gives the record's value.
     ///
     /// Where the sink finds no memory, it was given some bytes from the value's first on.
+    #[inline(always)]
     pub fn read_value<S: Sink>(&self, cell: CellNo, sink: &mut S) -> Mem<()>
         requires { IsHead self.now cell }
         ensures ok { OnOk result

@@ -119,6 +119,7 @@ impl Log {
     }
 
     /// The row under a cell.
+    #[inline(always)]
     pub(crate) fn row(&self, alloc: Global, cell: CellNo) -> Mem<KeyValue>
         requires { IsSome (row_at (cells_of self.now.records) cell) }
         ensures { IfOk result (λ row. row_at (cells_of self.now.records) cell ≡ Some row) }
@@ -141,6 +142,7 @@ impl Log {
     }
 
     /// The row under a cell without its value, which is not read.
+    #[inline(always)]
     pub(crate) fn row_without_value(&self, alloc: Global, cell: CellNo) -> Mem<KeyValue>
         requires { IsSome (row_at (cells_of self.now.records) cell) }
         ensures { IfOk result

@@ -47,6 +47,7 @@ pub(crate) fn first_rows(
 }
 
 /// The row under a cell, with its value where the range needs that.
+#[inline(always)]
 pub(crate) fn row_read(alloc: Global, log: &Log, request: &RangeReq, cell: CellNo) -> Mem<KeyValue>
     requires { IsSome (row_at (cells_of log.now.records) cell) }
     ensures { IfOk result
